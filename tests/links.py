@@ -2,17 +2,17 @@
 """Holds the proved boothd to what docs/PROTOCOL.md says of streams, over real links on loopback.
 
 Run it as `python3 tests/links.py [BOOTHD [CONNECTIONS]]`, BOOTHD being what `make build` leaves where it is left out.
-The flood of connections ends after 15 seconds, or after so many, however long that takes. It takes less than 45
-seconds, prints a line for each check with what it measured, ends all that it started, and has the status 1 where a
-check failed. Where boothd is not built it checks nothing, with status 0.
+The flood of connections ends after 15 seconds, or after so many, however long that takes. It takes a minute, prints a
+line for each check with what it measured, ends all that it started, and has the status 1 where a check failed. Where
+boothd is not built it checks nothing, with status 0.
 """
 
 import itertools
 import os
 import socket
+import statistics
 import subprocess
 import sys
-import tempfile
 import threading
 import time
 
@@ -21,14 +21,22 @@ sys.path[:0] = [HERE, f"{HERE}/../tools"]
 
 import frames
 import lists
-from members import Cluster, Member, Times, now, wait_for
+from crowds import Crowd
+from devices import Wrong, require
+from link_leases import CHECKS as LEASES
+from members import Member, now, wait_for
+from scratch import scratch
 from serving import NotServing, built_program, end_by_signals, own_addresses
-from tcp_links import SECONDS_TO_ANSWER, Busy, Closed, Link, links, open_files
+from tcp_links import SECONDS_TO_ANSWER, Closed, Link, links, open_files
 
 LINKS = 16
 SECONDS_OF_FLOOD = 15
-# as docs/PROTOCOL.md says: how long a link may be idle whose place another peer waits for
+# as docs/PROTOCOL.md says: how long a link keeps its place that was answered, where another peer waits for one
 SECONDS_IDLE = 2
+# who wants places and asks for nothing, how many of them, and how many asks have to be answered beside them, how soon
+CROWDS = (("slow", 16), ("slow", 1_000), ("heads", 16), ("heads", 1_000), ("garbage", 16), ("garbage", 200))
+CROWDS += (("silent", 300), ("brief", 100))
+ASKS, SECONDS_IN_A_CROWD, SECONDS_BETWEEN_ASKS = 50, 1.0, 0.02
 # how late a thing may be on a machine that does much else
 SLACK = 10
 # what a reader takes, who is slow
@@ -43,17 +51,8 @@ LONG_TICKETS, LONG_OWNER, LONG_PARTS = 4_096, "2001:db8:1111:2222:3333:4444:5555
 TOLD_AT_ONCE, SECONDS_HELD = 128, 2**31
 # how much the daemon's memory may grow for one who asks and does not read: what is queued, and a bit
 BYTES_MORE = 3 << 20
-KEY = b"a-key-of-the-cluster"
-TIMES = Times(expire=7, timeout=1, retries=3, renewal=5)
-
-
-class Wrong(Exception):
-    """The daemon did not what it has to."""
-
-
-def require(holds, why):
-    if not holds:
-        raise Wrong(why)
+# how long the daemon waits for a datagram, and how many requests come in such waits
+SECONDS_OF_WAIT, REQUESTS_APART = 0.1, 20
 
 
 class LongList:
@@ -262,6 +261,48 @@ def who_is_idle_makes_room(scene):
     return f"after {took:.1f} s"
 
 
+def asked_in_a_crowd(scene):
+    """How long a new peer waits for its answer, in seconds. It connects anew where it was closed, as a client does."""
+    time.sleep(SECONDS_BETWEEN_ASKS)
+    begun, why = time.monotonic(), None
+    while (left := begun + SECONDS_IN_A_CROWD - time.monotonic()) > 0:
+        try:
+            with Link(scene.address) as link:
+                link.socket.settimeout(left)
+                link.ask()
+            return time.monotonic() - begun
+        except (Closed, ConnectionError) as closed:
+            why = closed
+    raise Wrong(f"it is closed again and again: {why}")
+
+
+def crowds_keep_nobody_out(scene):
+    """a new peer's request is answered within a second, 50 of 50 times, beside each crowd that wants places alone"""
+    told = []
+    for kind, count in CROWDS:
+        took = []
+        with Crowd(kind, scene.address, count):
+            for number in range(ASKS):
+                try:
+                    took.append(asked_in_a_crowd(scene))
+                except (Closed, OSError) as why:
+                    raise Wrong(f"{count} {kind}: ask {number + 1}: {type(why).__name__}: {why}") from why
+        require(max(took) <= SECONDS_IN_A_CROWD, f"{count} {kind}: it is answered after {max(took):.1f} s")
+        told.append(f"{count} {kind} {max(took) * 1000:.0f}")
+    return f"at the latest after so many ms: {', '.join(told)}"
+
+
+def who_was_answered_keeps_its_place(scene):
+    """a link that was answered shortly before keeps its place beside a crowd"""
+    with Crowd("heads", scene.address, 200), Link(scene.address) as link:
+        begun, count = time.monotonic(), 0
+        while time.monotonic() < begun + 2 * SECONDS_IDLE:
+            link.ask()
+            count += 1
+            time.sleep(SECONDS_IDLE / 3)
+    return f"through {count} asks"
+
+
 def connections_leave_nothing(scene):
     """connections one after another leave the daemon's open files and its memory as before"""
     begun, count = time.monotonic(), 0
@@ -282,6 +323,54 @@ def connections_leave_nothing(scene):
     return f"{count} connections in {time.monotonic() - begun:.1f} s"
 
 
+def a_request_ends_the_wait(scene):
+    """a request over a link ends the wait for datagrams: it is answered long before that would end by itself"""
+    took = []
+    with Link(scene.address) as link:
+        for _ in range(REQUESTS_APART):
+            # (by then the daemon waits)
+            time.sleep(0.03)
+            begun = time.monotonic()
+            link.ask()
+            took.append(time.monotonic() - begun)
+    median = statistics.median(took)
+    require(median < SECONDS_OF_WAIT / 4, f"the median of {len(took)} is {median * 1000:.0f} ms")
+    return f"the median of {len(took)} is {median * 1000:.1f} ms"
+
+
+def the_port_is_bound_once_and_again(scene):
+    """a daemon does not start where the TCP port is another's, and starts at once where a link of the former one was open"""
+    address = next(each for each in itertools.islice(own_addresses(), 60, None) if each != scene.address)
+    folder = os.path.join(scene.folder, "again")
+    conf = os.path.join(scene.folder, "again.conf")
+    with open(conf, "w", encoding="ascii") as file:
+        file.write(f'site = "{address}"\nticket = "again"\n')
+    member = Member("site", address, folder)
+    with socket.socket(socket.AF_INET) as other:
+        other.bind((address, frames.PORT))
+        other.listen()
+        try:
+            member.start(scene.program, conf)
+        except NotServing as why:
+            require("cannot open" in str(why), f"it says {why}")
+        else:
+            member.kill()
+            raise Wrong("it starts")
+    member.start(scene.program, conf)
+    try:
+        with Link(address) as link:
+            link.ask()
+            member.kill()
+            begun = time.monotonic()
+            member.start(scene.program, conf)
+            took = time.monotonic() - begun
+        with Link(address) as link:
+            link.ask()
+    finally:
+        member.kill()
+    return f"again after {took * 1000:.0f} ms"
+
+
 def the_example_prints(scene):
     """the client in examples/ prints the list"""
     words = [sys.executable, f"{HERE}/../examples/list_over_tcp.py", scene.address]
@@ -293,41 +382,10 @@ def the_example_prints(scene):
     return f"{len(list(held))} tickets"
 
 
-def the_lease_runs_beside_links(scene):
-    """a holder keeps its lease, and another takes over, beside sixteen links that ask without a pause"""
-    with tempfile.TemporaryDirectory(prefix="booth-links-") as folder:
-        addresses = list(own_addresses())[10:13]
-        with Cluster(scene.member.server.words[0], folder, addresses, TIMES, KEY) as cluster:
-            cluster.remember()
-            cluster.start()
-            one, two, _ = cluster.members
-            require(one.about("CGnt") in ("ok", "Asyn"), "a grant is not taken")
-            require(wait_for(lambda: holds(one), SLACK), "the granted ticket is not held")
-            with Busy(one.address, KEY) as busy:
-                term, ends, end = one.record().term, set(), time.monotonic() + TIMES.renewal + 2
-                while time.monotonic() < end:
-                    require(holds(one), "the lease has lapsed")
-                    ends.add(one.record().until)
-                    time.sleep(0.05)
-            require(one.record().term == term and len(ends) > 1, f"no renewal: {ends}")
-            with Busy(two.address, KEY) as more:
-                one.kill()
-                patience = TIMES.expire + TIMES.guard() + SLACK
-                require(wait_for(lambda: holds(two), patience), "nobody takes over")
-            require(not busy.wrong and not more.wrong, f"a busy link: {(busy.wrong + more.wrong)[:3]}")
-            require(not cluster.watch.wrong, f"two held: {cluster.watch.wrong[:3]}")
-    return f"{len(ends) - 1} renewals, and {busy.answered + more.answered} lists"
-
-
 def resident(process):
     """How many bytes a process has in memory."""
     with open(f"/proc/{process}/statm", encoding="ascii") as file:
         return int(file.read().split()[1]) * os.sysconf("SC_PAGE_SIZE")
-
-
-def holds(member):
-    record = member.record()
-    return record is not None and record.holds(now())
 
 
 CHECKS = [
@@ -336,12 +394,16 @@ CHECKS = [
     who_reads_nothing_waits,
     the_port_of_daemons_is_refused,
     who_is_idle_makes_room,
+    a_request_ends_the_wait,
+    the_port_is_bound_once_and_again,
+    crowds_keep_nobody_out,
+    who_was_answered_keeps_its_place,
     the_example_prints,
 ]
 
 
 def passes(check, scene):
-    """Whether the check passes. Prints its line."""
+    """Whether the check of this scene, or of this program, passes. Prints its line."""
     begun = time.monotonic()
     try:
         told = check(scene)
@@ -356,16 +418,19 @@ def passes(check, scene):
 def run(program, connections):
     """Runs the checks. Says how many failed."""
     begun, passed = time.monotonic(), []
-    with tempfile.TemporaryDirectory(prefix="booth-links-") as folder:
+    with scratch("booth-links-") as folder:
         address, *others = list(own_addresses())[:3]
         scene = Scene(program, folder, address, others, connections)
         try:
             passed += [passes(check, scene) for check in CHECKS]
-            lease = threading.Thread(target=lambda: passed.append(passes(the_lease_runs_beside_links, scene)))
-            lease.start()
+            run_lease = lambda check: passed.append(passes(check, program))
+            leases = [threading.Thread(target=run_lease, args=(check,)) for check in LEASES]
+            for lease in leases:
+                lease.start()
             meanwhile = (a_slow_reader_gets_all, long_lists, connections_leave_nothing)
             passed += [passes(check, scene) for check in meanwhile]
-            lease.join()
+            for lease in leases:
+                lease.join()
         finally:
             scene.member.kill()
     failed = len(passed) - sum(passed)

@@ -86,7 +86,7 @@ class Link:
         return self.reply(letters, number)
 
     def reply(self, letters, number):
-        """The next frame, which has to answer this request."""
+        """The next frame, which must answer this request."""
         frame = self.frame()
         head = frames.Head.read(frame)
         if (head.cmd, head.request) != (frames.code(frames.ANSWER_TO[letters]), number):
@@ -94,7 +94,7 @@ class Link:
         return frame
 
     def ends(self, seconds):
-        """Whether the daemon closes the link within this time. What comes before is passed over."""
+        """Whether the daemon closes the link within this time. What comes before is ignored."""
         end = time.monotonic() + seconds
         while time.monotonic() < end:
             self.socket.settimeout(max(0.001, end - time.monotonic()))

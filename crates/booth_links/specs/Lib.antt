@@ -1,3 +1,4 @@
 pub mod Queue
 pub mod Turn
 pub mod Seats
+pub mod Transport

@@ -1,14 +1,19 @@
-//! Links over TCP: the real `Links` of booth_stream, beside the real host.
+//! Links over TCP: the real `Links` of booth_stream, beside the real host, and the host of a client, which opens one.
 #![tactic(auto)]
 
 mod addresses;
+mod client_host;
+mod client_link;
+mod entrance;
 mod line;
+mod pending;
 mod queue;
 mod real_links;
 mod reports;
 mod seats;
+mod transport;
 mod turn;
 
-pub use queue::QUEUE_BYTES;
+pub use client_host::ClientHost;
 pub use real_links::RealLinks;
-pub use seats::{IDLE_MS, WANTED_MS};
+pub use transport::Transport;

@@ -6,7 +6,7 @@ use std::alloc::{AllocError, Global};
 use std::marker::Model;
 
 /// The most bytes that a link keeps for its peer.
-pub const QUEUE_BYTES: usize = 1_048_576;
+const QUEUE_BYTES: usize = 1_048_576;
 
 /// Up to a mebibyte. Contracts see it as a list.
 #[derive(Drop)]

@@ -1,43 +1,25 @@
 //! Links over a TCP listener. They tell nothing of their calls, and no call waits.
-ghost use Rattle.std.specs.Prelude.{◌≡◌, ◌≤◌, [], ◌∷◌, IfOk, None, is_some, length, negsuc, true};
+ghost use Rattle.std.specs.Prelude.{◌≡◌, ◌≤◌, ◌/◌, [], ◌∷◌, IfOk, None, is_some, length, min, negsuc, take, true};
 ghost use Rattle.booth_host.specs.Causes.{HasCause, IsCounted, raised};
 ghost use Rattle.booth_links.specs.Turn.{TakesTurn};
 ghost use Rattle.booth_stream.specs.Calls.{CallsGrewBy};
 ghost use Rattle.booth_stream.specs.declared.link_call.LinkCall.{LinkCall};
 
-use crate::addresses::{listen, peer_at};
+use crate::entrance::{Entrance, LISTENER, unopened};
 use crate::line::{Heard, Line};
+use crate::pending::PendingPeer;
 use crate::reports::{Report, Reports};
-use crate::seats::{IDLE_MS, Seats, WANTED_MS};
+use crate::seats::{ANSWERED_MS, IDLE_MS, Seats};
 use crate::turn::{Turn, turn_after};
 use booth_host::{Failed, Place};
 use booth_stream::{LINKS, LinkEvent, Links, PIECE_BYTES, Piece};
-use mio::net::{TcpListener, TcpStream};
 use mio::{Interest, Poll, Token};
 use std::alloc::{AllocError, Global};
 use std::cell::Cell;
 use std::io;
-use std::io::ErrorKind;
-use std::net::SocketAddr;
 use std::os::fd::{AsRawFd, RawFd};
 use std::rc::Rc;
 use std::time::Instant;
-
-/// The token of the listener. The lines have those of their seats.
-const DOOR: usize = LINKS;
-
-/// How long no peer is taken after one could not be, in milliseconds.
-const REST_MS: u64 = 1_000;
-
-/// What is done about peers that knock.
-#[derive(Clone, Copy)]
-enum Door {
-    Open,
-    /// A peer waits, and no seat is free.
-    Full,
-    /// A peer could not be taken. It is tried again at this moment.
-    Rests(u64),
-}
 
 /// Links over TCP.
 #[derive(Drop)]
@@ -45,10 +27,7 @@ pub struct RealLinks {
     rt: HostRuntime,
     poll: Option<Poll>,
     reports: Reports,
-    listener: Option<TcpListener>,
-    door: Door,
-    /// The port of the place, which is that of all daemons.
-    port: u16,
+    entrance: Entrance,
     lines: Vec<Line>,
     seats: Seats,
     buffer: Vec<u8>,
@@ -56,15 +35,10 @@ pub struct RealLinks {
     start: Option<Instant>,
     /// The milliseconds from then to the last reading.
     moment: u64,
-    /// Whether a link may have to leave, or a peer is asked for again after a rest.
+    /// Whether a link may have to leave, connections are accepted again after a rest, or peers are pending.
     is_timed: bool,
     turn: Turn,
     faults: u64,
-}
-
-// What is asked of links that no place was opened for.
-fn unopened() -> io::Error {
-    io::Error::from(ErrorKind::NotConnected)
 }
 
 // The number of the link at a seat, which is one of sixteen.
@@ -87,16 +61,14 @@ fn new_lines(alloc: Global) -> Result<Vec<Line>, AllocError> {
 impl RealLinks {
     /// Links before any place is opened. No peer reaches them.
     pub fn new(rt: HostRuntime, alloc: Global) -> Result<RealLinks, AllocError>
-        ensures unopened { IfOk result (λ links. links.listener ≡ None) }
+        ensures unopened { IfOk result (λ links. links.entrance.listener ≡ None) }
         ensures turn { IfOk result (λ links. links.turn ≡ Turn.Links) }
         ensures faultless { IfOk result (λ links. links.faults ≡ 0) }
     {
         Ok(RealLinks {
             poll: Poll::new(&rt).ok(),
             reports: Reports::new(alloc)?,
-            listener: None,
-            door: Door::Open,
-            port: 0,
+            entrance: Entrance::new(alloc)?,
             lines: new_lines(alloc)?,
             seats: Seats::new(alloc)?,
             buffer: vec![in alloc; 0; PIECE_BYTES]?,
@@ -129,6 +101,23 @@ impl RealLinks {
         ensures turn { self.new.turn ≡ self.old.turn }
     {
         self.reports.share(alloc)
+    }
+
+    /// Has links and pending peers open no more than `files` files, half of them each, and returns how many links are
+    /// served. It is called before a place is opened.
+    pub fn serve_within(&mut self, files: usize) -> usize
+        ensures count { result ≡ min (files / 2) 16 }
+        ensures seats { self.new.seats ≡ take result self.old.seats }
+        ensures pending { self.new.entrance.pending.places.items
+            ≡ take (files / 2) self.old.entrance.pending.places.items }
+        ensures faults { self.new.faults ≡ self.old.faults }
+        ensures turn { self.new.turn ≡ self.old.turn }
+    {
+        let half = files / 2;
+        let seats = half.min(LINKS);
+        self.entrance.limit(half);
+        self.seats.limit(seats);
+        seats
     }
 
     // Counts a failure, once.
@@ -165,66 +154,49 @@ impl RealLinks {
         }
     }
 
-    // Has the system report the next peer that knocks, or one that waits.
-    fn open_door(&mut self) -> io::Result<()>
-        ensures { self.new.faults ≡ self.old.faults }
-    {
-        self.door = Door::Open;
-        match (&self.poll, &mut self.listener) {
-            (Some(poll), Some(listener)) => {
-                poll.registry()
-                    .reregister(listener, Token(DOOR), Interest::READABLE)
-            }
-            _ => Err(unopened()),
-        }
-    }
-
-    // Begins to listen at this place. What listened before is let go first; its links go on.
+    // Begins to listen at this place. Links go on.
     fn listen_at(&mut self, place: &Place) -> io::Result<()>
         ensures { self.new.faults ≡ self.old.faults }
     {
-        self.listener = None;
-        self.door = Door::Open;
-        let Some(poll) = &self.poll else {
-            return Err(unopened());
-        };
-        let mut listener = listen(&self.rt, place)?;
-        poll.registry()
-            .register(&mut listener, Token(DOOR), Interest::READABLE)?;
-        self.listener = Some(listener);
-        self.port = place.port;
-        Ok(())
+        match &self.poll {
+            Some(poll) => self.entrance.listen_at(&self.rt, place, poll.registry()),
+            None => Err(unopened()),
+        }
     }
 
-    // Ends the link of this seat, and lets in who waits for it.
-    fn leave(&mut self, seat: usize) -> io::Result<()>
-        ensures { self.new.faults ≡ self.old.faults }
+    // Ends the link of this seat.
+    fn leave(&mut self, seat: usize)
+        ensures faults { self.new.faults ≡ self.old.faults }
+        ensures turn { self.new.turn ≡ self.old.turn }
     {
         if let Some(line) = self.lines.get_mut(seat) {
             line.end();
         }
         self.seats.set(seat, None);
-        match self.door {
-            Door::Full => self.open_door(),
-            Door::Open | Door::Rests(_) => Ok(()),
+    }
+
+    // The seat for one more peer: a free one, or that of the link that has been idle for longest.
+    fn seat_for_peer(&self) -> Option<usize> {
+        match self.seats.free() {
+            Some(seat) => Some(seat),
+            None => self.seats.over(self.moment, 0),
         }
     }
 
-    // The link that has been idle for too long: a short time where a peer waits.
-    fn over(&self) -> Option<usize> {
-        let limit = match self.door {
-            Door::Full => WANTED_MS,
-            Door::Open | Door::Rests(_) => IDLE_MS,
-        };
-        self.seats.over(self.moment, limit)
+    // Has the link of this seat not be idle: it was answered, or took what it was answered.
+    fn stay(&mut self, seat: usize)
+        ensures { self.new.faults ≡ self.old.faults }
+    {
+        let idle_from = self.moment.saturating_add(ANSWERED_MS);
+        self.seats.set(seat, Some(idle_from));
     }
 
     // Ends the link of this seat, and says so.
-    fn end(&mut self, seat: usize) -> io::Result<LinkEvent>
+    fn end(&mut self, seat: usize) -> LinkEvent
         ensures { self.new.faults ≡ self.old.faults }
     {
-        self.leave(seat)?;
-        Ok(LinkEvent::Ended(number_of(seat)))
+        self.leave(seat);
+        LinkEvent::Ended(number_of(seat))
     }
 
     // Asks the system for all that is ready, where something may be.
@@ -252,69 +224,52 @@ impl RealLinks {
         }
     }
 
-    // Begins a link at this seat. Who comes from the port of the daemons is not let in: what is sent to a daemon there
-    // would go into the link.
-    fn begin(&mut self, seat: usize, stream: TcpStream, from: SocketAddr) -> io::Result<LinkEvent>
+    // Begins a link at this seat, in the place of the one that was there.
+    fn begin(&mut self, seat: usize, waiting: PendingPeer) -> io::Result<LinkEvent>
         ensures { self.new.faults ≡ self.old.faults }
     {
-        let peer = peer_at(from);
-        if peer.port == self.port {
-            return Ok(LinkEvent::Quiet);
-        }
         let Some(poll) = &self.poll else {
             return Err(unopened());
         };
-        let mut stream = stream;
-        stream.set_nodelay(true)?;
+        let (mut stream, peer) = waiting.into_parts();
         poll.registry()
-            .register(&mut stream, Token(seat), Interest::READABLE)?;
+            .reregister(&mut stream, Token(seat), Interest::READABLE)?;
         if let Some(line) = self.lines.get_mut(seat) {
             line.begin(stream);
         }
         self.seats.set(seat, Some(self.moment));
-        self.is_timed = true;
         Ok(LinkEvent::Opened {
             link: number_of(seat),
             peer,
         })
     }
 
-    // No peer was taken. Where the system has no room for one, it is asked again after a rest.
-    fn miss(&mut self, error: io::Error) -> io::Result<LinkEvent>
+    // Begins the link of a pending peer that has sent a whole frame, if there is one and a seat for it.
+    fn seat_pending(&mut self) -> io::Result<Option<LinkEvent>>
         ensures { self.new.faults ≡ self.old.faults }
     {
-        match error.kind() {
-            ErrorKind::WouldBlock => Ok(LinkEvent::Quiet),
-            ErrorKind::Interrupted | ErrorKind::ConnectionAborted => {
-                self.open_door()?;
-                Ok(LinkEvent::Quiet)
-            }
-            _ => {
-                self.door = Door::Rests(self.moment.saturating_add(REST_MS));
-                self.is_timed = true;
-                Err(error)
-            }
+        if !self.entrance.has_ready() {
+            return Ok(None);
+        }
+        let Some(seat) = self.seat_for_peer() else {
+            return Ok(None);
+        };
+        match self.entrance.take_ready() {
+            Some(waiting) => Ok(Some(self.begin(seat, waiting)?)),
+            None => Ok(None),
         }
     }
 
-    // Takes the next peer that knocks, where a seat is free.
+    // Accepts the connections that wait.
     fn accept(&mut self) -> io::Result<LinkEvent>
         ensures { self.new.faults ≡ self.old.faults }
     {
-        let Some(seat) = self.seats.free() else {
-            self.door = Door::Full;
-            return Ok(LinkEvent::Quiet);
-        };
-        let Some(listener) = &self.listener else {
-            return Err(unopened());
-        };
-        match listener.accept() {
-            Ok((stream, from)) => {
-                self.open_door()?;
-                self.begin(seat, stream, from)
-            }
-            Err(error) => self.miss(error),
+        self.is_timed = true;
+        match &self.poll {
+            Some(poll) => self.entrance.accept(self.moment, poll.registry())?,
+            None => return Err(unopened()),
         }
+        Ok(LinkEvent::Quiet)
     }
 
     // What the line of this seat has. One that the system does not watch any longer is over.
@@ -328,22 +283,21 @@ impl RealLinks {
         let heard = line.hear(&mut self.buffer);
         let is_watched = line.is_read_out(heard, self.buffer.len()) && !report.is_last;
         if !is_watched && self.watch(seat).is_err() {
-            return self.end(seat);
+            return Ok(self.end(seat));
         }
         match heard {
             Heard::Bytes(count) => {
                 // (a read brings no more than the buffer has)
                 let count = count.min(self.buffer.len());
                 into.set(&self.buffer[..count]);
-                self.seats.set(seat, Some(self.moment));
                 Ok(LinkEvent::Bytes(number_of(seat)))
             }
             Heard::Took => {
-                self.seats.set(seat, Some(self.moment));
+                self.stay(seat);
                 Ok(LinkEvent::Quiet)
             }
             Heard::Nothing => Ok(LinkEvent::Quiet),
-            Heard::End => self.end(seat),
+            Heard::End => Ok(self.end(seat)),
         }
     }
 
@@ -352,32 +306,32 @@ impl RealLinks {
         ensures { self.new.faults ≡ self.old.faults }
     {
         if self.seats.has_links() {
-            return self.over();
+            return self.seats.over(self.moment, IDLE_MS);
         }
-        self.is_timed = matches!(self.door, Door::Rests(_));
+        self.is_timed = self.entrance.is_timed();
         None
     }
 
-    // Asks again for a peer that could not be taken, once the rest is over.
+    // Accepts again once the rest after a connection that could not be accepted is over.
     fn end_rest(&mut self) -> io::Result<()>
         ensures { self.new.faults ≡ self.old.faults }
     {
-        let Door::Rests(until) = self.door else {
-            return Ok(());
-        };
-        if until <= self.moment {
-            self.open_door()
-        } else {
-            Ok(())
+        match &self.poll {
+            Some(poll) => self.entrance.end_rest(self.moment, poll.registry()),
+            None => Err(unopened()),
         }
     }
 
-    // The next thing that was reported: a peer that knocks, or what a link has.
+    // The next thing that was reported: new connections, what a pending peer has sent, or what a link has.
     fn next_report(&mut self, into: &mut Piece) -> io::Result<LinkEvent>
         ensures { self.new.faults ≡ self.old.faults }
     {
         match self.reports.take() {
-            Some(report) if report.place == DOOR => self.accept(),
+            Some(report) if report.place == LISTENER => self.accept(),
+            Some(report) if report.place > LISTENER => {
+                self.entrance.hear(report.place, report.is_last);
+                Ok(self.seat_pending()?.unwrap_or(LinkEvent::Quiet))
+            }
             Some(report) => self.hear(report, into),
             None => Ok(LinkEvent::Quiet),
         }
@@ -397,8 +351,12 @@ impl RealLinks {
             return self.next_report(into);
         }
         self.read_clock();
+        self.entrance.clear_over(self.moment);
         if let Some(seat) = self.leaving() {
-            return self.end(seat);
+            return Ok(self.end(seat));
+        }
+        if let Some(event) = self.seat_pending()? {
+            return Ok(event);
         }
         self.end_rest()?;
         self.fetch()?;
@@ -420,7 +378,7 @@ impl RealLinks {
             return 0;
         }
         if taken > 0 {
-            self.seats.set(seat, Some(self.moment));
+            self.stay(seat);
         }
         taken
     }
@@ -467,7 +425,6 @@ impl Links for RealLinks {
     }
 
     fn close(&mut self, link: u32) {
-        let answer = self.leave(link as usize);
-        let _ = self.checked(answer);
+        self.leave(link as usize);
     }
 }

@@ -3,7 +3,7 @@ ghost use Rattle.std.specs.Prelude.{◌≡◌, ◌+◌, ◌-◌, ◌^◌, [], If
 ghost use Rattle.mio.specs.Event.{event_token, is_read_closed};
 ghost use Rattle.mio.specs.Events.{items};
 
-use booth_stream::LINKS;
+use crate::pending::{FIRST, PENDING};
 use mio::event::Event;
 use mio::{Events, Poll};
 use std::alloc::{AllocError, Global};
@@ -12,8 +12,8 @@ use std::io;
 use std::rc::Rc;
 use std::time::Duration;
 
-/// All lines and the listener.
-const SOURCES: usize = LINKS + 1;
+/// All lines, the listener and the pending peers.
+const SOURCES: usize = FIRST + PENDING;
 
 /// Something to look at.
 #[derive(Clone, Copy)]

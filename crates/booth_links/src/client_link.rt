@@ -1,0 +1,167 @@
+//! The link over TCP of a client to one member.
+
+use booth_base::Peer;
+use booth_host::Datagram;
+use booth_stream::{Cutter, Got, PIECE_BYTES};
+use mio::net::TcpStream;
+use mio::{Events, Interest, Poll, Token};
+use std::alloc::Global;
+use std::io;
+use std::io::{ErrorKind, Read, Write};
+use std::net::SocketAddr;
+use std::time::Duration;
+
+/// How long a link may take to open, in milliseconds.
+const CONNECT_MS: u64 = 1_000;
+
+/// How many pieces one call reads: those of the longest frame, and one more.
+const READS: u32 = 6;
+
+/// A link that is open, and what came over it.
+#[derive(Drop)]
+pub(crate) struct ClientLink {
+    peer: Peer,
+    stream: TcpStream,
+    poll: Poll,
+    events: Events,
+    cutter: Cutter,
+    piece: Vec<u8>,
+    /// Where the bytes of the piece begin that the cutter has not taken, and where they end.
+    seen: usize,
+    count: usize,
+}
+
+/// What a link brought.
+#[derive(Clone, Copy, PartialEq, Eq)]
+pub(crate) enum Received {
+    Frame,
+    Nothing,
+    /// The link is over.
+    End,
+}
+
+// Waits until the stream is connected.
+fn wait_for(stream: &TcpStream, poll: &mut Poll, events: &mut Events) -> io::Result<()> {
+    poll.poll(events, Some(Duration::from_millis(CONNECT_MS)))?;
+    if let Some(error) = stream.take_error()? {
+        return Err(error);
+    }
+    match stream.peer_addr() {
+        Ok(_) => Ok(()),
+        Err(error) if error.kind() == ErrorKind::NotConnected => {
+            Err(io::Error::from(ErrorKind::TimedOut))
+        }
+        Err(error) => Err(error),
+    }
+}
+
+// A stream to this member, watched for bytes.
+fn connect(
+    rt: &HostRuntime,
+    peer: &Peer,
+    poll: &mut Poll,
+    events: &mut Events,
+) -> io::Result<TcpStream> {
+    let mut stream = TcpStream::connect(rt, SocketAddr::new(peer.address.to_ip(), peer.port))?;
+    poll.registry()
+        .register(&mut stream, Token(0), Interest::WRITABLE)?;
+    wait_for(&stream, poll, events)?;
+    stream.set_nodelay(true)?;
+    poll.registry()
+        .reregister(&mut stream, Token(0), Interest::READABLE)?;
+    Ok(stream)
+}
+
+impl ClientLink {
+    /// Connects to this member, within a second.
+    ///
+    /// # Errors
+    ///
+    /// The member refuses the link or does not answer, or the process has no memory or descriptor left.
+    pub(crate) fn open(rt: &HostRuntime, alloc: Global, peer: &Peer) -> io::Result<ClientLink> {
+        let mut poll = Poll::new(rt)?;
+        let mut events = Events::with_capacity(alloc, 1)?;
+        let cutter = Cutter::new(alloc)?;
+        let piece = vec![in alloc; 0; PIECE_BYTES]?;
+        let stream = connect(rt, peer, &mut poll, &mut events)?;
+        Ok(ClientLink {
+            peer: *peer,
+            stream,
+            poll,
+            events,
+            cutter,
+            piece,
+            seen: 0,
+            count: 0,
+        })
+    }
+
+    /// The member at its other end.
+    pub(crate) fn peer(&self) -> &Peer {
+        &self.peer
+    }
+
+    /// Sends these bytes, whole.
+    ///
+    /// # Errors
+    ///
+    /// The link is over, or takes no more.
+    pub(crate) fn write(&mut self, bytes: &[u8]) -> io::Result<()> {
+        self.stream.write_all(bytes)
+    }
+
+    // Takes the next frame of what came, if it is whole.
+    fn feed(&mut self, into: &mut Datagram) -> Received {
+        let count = self.count.min(self.piece.len());
+        let seen = self.seen.min(count);
+        let fed = self.cutter.feed(&self.piece[seen..count], into);
+        self.seen = seen.saturating_add(fed.taken);
+        match fed.got {
+            Got::Frame => Received::Frame,
+            Got::Nothing => Received::Nothing,
+            Got::Broken => Received::End,
+        }
+    }
+
+    // Reads the next piece.
+    fn read(&mut self) -> io::Result<usize> {
+        self.seen = 0;
+        self.count = 0;
+        let count = self.stream.read(&mut self.piece)?;
+        self.count = count;
+        Ok(count)
+    }
+
+    // The next frame that came, if it is whole.
+    fn next(&mut self, into: &mut Datagram) -> Received {
+        for _ in 0..READS {
+            match self.feed(into) {
+                Received::Nothing => {}
+                received => return received,
+            }
+            match self.read() {
+                Ok(0) => return Received::End,
+                Ok(_) => {}
+                Err(error) => return match error.kind() {
+                    ErrorKind::WouldBlock | ErrorKind::Interrupted => Received::Nothing,
+                    _ => Received::End,
+                },
+            }
+        }
+        Received::Nothing
+    }
+
+    /// Waits for at most so many milliseconds, and puts the next frame into `into` if it is whole.
+    pub(crate) fn receive(&mut self, wait_ms: u64, into: &mut Datagram) -> Received {
+        match self.next(into) {
+            Received::Nothing => {
+                let wait = Some(Duration::from_millis(wait_ms));
+                match self.poll.poll(&mut self.events, wait) {
+                    Ok(()) => self.next(into),
+                    Err(_) => Received::End,
+                }
+            }
+            received => received,
+        }
+    }
+}

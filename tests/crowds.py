@@ -1,0 +1,203 @@
+#!/usr/bin/env python3
+"""A crowd of peers over TCP that want nothing but the places of a daemon, for tests/links.py.
+
+It is run as `python3 tests/crowds.py KIND ADDRESS COUNT` by the class `Crowd`, and goes on until it is ended. Each peer
+connects again as soon as the daemon has closed its connection. KIND is one of
+
+    slow     COUNT connections, each of which sends a byte a second of a frame that is never whole
+    heads    the same, but for the first 64 bytes of the frame, which are sent at once
+    garbage  COUNT connections, each of which sends a byte of garbage every 50 ms
+    silent   COUNT connections at most, opened as fast as that goes: the oldest is closed for a new one
+    brief    connections that are closed as soon as they are there; COUNT is not used
+
+It prints a line once the first COUNT connections were opened.
+"""
+
+import contextlib
+import os
+import random
+import resource
+import selectors
+import socket
+import struct
+import subprocess
+import sys
+import time
+from typing import Callable, Dict, Iterator, List, Optional
+
+HERE = os.path.dirname(os.path.abspath(__file__))
+TOP = os.path.dirname(HERE)
+sys.path[:0] = [HERE, f"{TOP}/tools"]
+
+import frames
+
+SECONDS_BETWEEN_BYTES, SECONDS_BETWEEN_GARBAGE = 1.0, 0.05
+SECONDS_TO_GATHER, SAID_AT_ONCE = 20, 64
+SEED = 9929
+# a connection that is closed with this leaves nothing behind: the system would keep its port for a minute
+AT_ONCE = struct.pack("ii", 1, 0)
+
+
+def frame_without_end() -> bytes:
+    """Returns a frame's head of the greatest length, and what follows it."""
+    head = bytearray(frames.request_now("CLst", 1, b"", None)[: frames.HEAD_BYTES])
+    head[24:28] = frames.FRAME_BYTES.to_bytes(4, "big")
+    return bytes(head).ljust(frames.FRAME_BYTES, b"\0")
+
+
+class Opener:
+    """Opens connections to one address, and closes them so that their ports are free at once."""
+
+    def __init__(self, address: str) -> None:
+        self.address = address
+        self.opened = 0
+
+    def connect(self) -> Optional[socket.socket]:
+        """Returns a connection, or None if the daemon takes none."""
+        peer = socket.socket(socket.AF_INET, socket.SOCK_STREAM)
+        peer.settimeout(1)
+        peer.setsockopt(socket.SOL_SOCKET, socket.SO_LINGER, AT_ONCE)
+        try:
+            peer.connect((self.address, frames.PORT))
+        except OSError:
+            peer.close()
+            return None
+        peer.setblocking(False)
+        self.opened += 1
+        return peer
+
+
+class Senders:
+    """Connections that send a byte now and then, each opened anew when it was closed."""
+
+    def __init__(self, opener: Opener, count: int, pause: float, content: Callable[[], bytes], first: int = 1) -> None:
+        self.opener, self.count, self.pause, self.content, self.first = opener, count, pause, content, first
+        self.ready = selectors.DefaultSelector()
+        self.rest: Dict[socket.socket, bytes] = {}
+        # a place for each byte's moment, so that the connections do not send all at once
+        self.wheel: List[List[socket.socket]] = [[] for _ in range(20)]
+
+    def begin(self) -> None:
+        """Opens one more connection and sends its first bytes."""
+        peer = self.opener.connect()
+        if peer is None:
+            return
+        self.ready.register(peer, selectors.EVENT_READ)
+        self.rest[peer] = self.content()
+        self.send(peer, self.first)
+        self.wheel[self.opener.opened % len(self.wheel)].append(peer)
+
+    def send(self, peer: socket.socket, count: int = 1) -> None:
+        """Sends the next bytes of a connection."""
+        rest = self.rest[peer]
+        with contextlib.suppress(OSError):
+            peer.send(rest[:count])
+        self.rest[peer] = rest[count:]
+
+    def end(self, peer: socket.socket) -> None:
+        """Forgets a connection."""
+        self.ready.unregister(peer)
+        del self.rest[peer]
+        peer.close()
+
+    def hear(self, seconds: float) -> None:
+        """Opens those anew that are closed within this time."""
+        for key, _ in self.ready.select(seconds):
+            gone = True
+            with contextlib.suppress(BlockingIOError, OSError):
+                gone = not key.fileobj.recv(65_536)
+            if gone:
+                self.end(key.fileobj)
+        while len(self.rest) < self.count:
+            before = self.opener.opened
+            self.begin()
+            if self.opener.opened == before:
+                return
+
+    def turn(self, place: int) -> None:
+        """Sends a byte of each connection of this place of the wheel, and hears the others until the next one."""
+        self.wheel[place] = [peer for peer in self.wheel[place] if peer in self.rest]
+        for peer in self.wheel[place]:
+            self.send(peer)
+        until = time.monotonic() + self.pause / len(self.wheel)
+        while (left := until - time.monotonic()) > 0:
+            self.hear(left)
+
+    def run(self) -> Iterator[None]:
+        """Goes on for ever, and yields after each turn."""
+        while True:
+            for place in range(len(self.wheel)):
+                self.turn(place)
+                yield
+
+
+def silent(opener: Opener, count: int) -> Iterator[None]:
+    """Opens connections as fast as that goes, of which the last so many stay."""
+    kept: List[socket.socket] = []
+    while True:
+        peer = opener.connect()
+        if peer is not None:
+            kept.append(peer)
+        if len(kept) > count:
+            kept.pop(0).close()
+        yield
+
+
+def brief(opener: Opener) -> Iterator[None]:
+    """Opens connections as fast as that goes, and closes each."""
+    while True:
+        peer = opener.connect()
+        if peer is not None:
+            peer.close()
+        yield
+
+
+def turns_of(kind: str, opener: Opener, count: int) -> Iterator[None]:
+    """Returns the turns of a crowd of this kind."""
+    chance = random.Random(SEED)
+    if kind == "slow":
+        return Senders(opener, count, SECONDS_BETWEEN_BYTES, frame_without_end).run()
+    if kind == "heads":
+        return Senders(opener, count, SECONDS_BETWEEN_BYTES, frame_without_end, SAID_AT_ONCE).run()
+    if kind == "garbage":
+        return Senders(opener, count, SECONDS_BETWEEN_GARBAGE, lambda: bytes(chance.choices(range(256), k=64))).run()
+    return silent(opener, count) if kind == "silent" else brief(opener)
+
+
+class Crowd:
+    """A crowd in a process of its own, in a `with` block, from the moment on at which all are there."""
+
+    def __init__(self, kind: str, address: str, count: int) -> None:
+        self.words = [sys.executable, os.path.abspath(__file__), kind, address, str(count)]
+
+    def __enter__(self) -> "Crowd":
+        self.process = subprocess.Popen(self.words, stdout=subprocess.PIPE)
+        if not self.process.stdout.readline():
+            self.__exit__()
+            raise OSError("a crowd did not come together")
+        return self
+
+    def __exit__(self, *_: object) -> None:
+        self.process.kill()
+        self.process.wait()
+        self.process.stdout.close()
+
+
+def main(words: List[str]) -> int:
+    kind, address, count = words[0], words[1], int(words[2])
+    limit = resource.getrlimit(resource.RLIMIT_NOFILE)[1]
+    resource.setrlimit(resource.RLIMIT_NOFILE, (limit, limit))
+    opener, begun, is_there = Opener(address), time.monotonic(), False
+    for _ in turns_of(kind, opener, count):
+        if is_there:
+            continue
+        if opener.opened >= count:
+            is_there = True
+            print("there", flush=True)
+        elif time.monotonic() > begun + SECONDS_TO_GATHER:
+            return 1
+    return 0
+
+
+if __name__ == "__main__":
+    sys.exit(main(sys.argv[1:]))

@@ -1,0 +1,83 @@
+"""Leases that are renewed beside links over TCP and beside crowds, for tests/links.py.
+
+It is imported by that, and not run by itself. Each check has a cluster of its own, and returns what it measured.
+"""
+
+import contextlib
+import itertools
+import time
+
+from crowds import Crowd
+from devices import require
+from members import Cluster, Member, Times, now, wait_for
+from scratch import scratch
+from serving import own_addresses
+from tcp_links import Busy
+
+# who wants places and asks for nothing, and how many of them, all at once
+CROWDS = (("heads", 1_000), ("silent", 300), ("brief", 10))
+# how late a thing may be on a machine that does much else
+SLACK, SECONDS_BETWEEN_LOOKS = 10, 0.05
+KEY = b"a-key-of-the-cluster"
+TIMES = Times(expire=7, timeout=1, retries=3, renewal=5)
+
+
+def holds(member: Member) -> bool:
+    """Returns whether the member holds the ticket, by its record."""
+    record = member.record()
+    return record is not None and record.holds(now())
+
+
+def begin(cluster: Cluster) -> Member:
+    """Starts the cluster, and returns its first site, which holds the ticket."""
+    cluster.remember()
+    cluster.start()
+    one = cluster.members[0]
+    require(one.about("CGnt") in ("ok", "Asyn"), "a grant is not taken")
+    require(wait_for(lambda: holds(one), SLACK), "the granted ticket is not held")
+    return one
+
+
+def the_lease_runs_beside_links(program: str) -> str:
+    """a holder keeps its lease, and another takes over, beside sixteen links that ask without a pause"""
+    addresses = list(itertools.islice(own_addresses(), 10, 13))
+    with scratch("booth-links-") as folder, Cluster(program, folder, addresses, TIMES, KEY) as cluster:
+        one, two = begin(cluster), cluster.members[1]
+        with Busy(one.address, KEY) as busy:
+            term, ends, end = one.record().term, set(), time.monotonic() + TIMES.renewal + 2
+            while time.monotonic() < end:
+                require(holds(one), "the lease has lapsed")
+                ends.add(one.record().until)
+                time.sleep(SECONDS_BETWEEN_LOOKS)
+        require(one.record().term == term and len(ends) > 1, f"no renewal: {ends}")
+        with Busy(two.address, KEY) as more:
+            one.kill()
+            patience = TIMES.expire + TIMES.guard() + SLACK
+            require(wait_for(lambda: holds(two), patience), "nobody takes over")
+        require(not busy.wrong and not more.wrong, f"a busy link: {(busy.wrong + more.wrong)[:3]}")
+        require(not cluster.watch.wrong, f"two held: {cluster.watch.wrong[:3]}")
+    return f"{len(ends) - 1} renewals, and {busy.answered + more.answered} lists"
+
+
+def the_lease_runs_beside_crowds(program: str) -> str:
+    """a holder keeps its lease beside crowds that want places alone, and answers over UDP meanwhile"""
+    addresses = list(itertools.islice(own_addresses(), 40, 43))
+    with scratch("booth-links-") as folder, contextlib.ExitStack() as opened:
+        cluster = opened.enter_context(Cluster(program, folder, addresses, TIMES, KEY))
+        one = begin(cluster)
+        for kind, count in CROWDS:
+            opened.enter_context(Crowd(kind, one.address, count))
+        ends, took, end = set(), [], time.monotonic() + 2 * TIMES.renewal
+        while time.monotonic() < end:
+            require(holds(one), "the lease has lapsed")
+            ends.add(one.record().until)
+            begun = time.monotonic()
+            require(one.ask("CLst") is not None, "a list over UDP is not answered")
+            took.append(time.monotonic() - begun)
+            time.sleep(SECONDS_BETWEEN_LOOKS)
+        require(len(ends) > 1, f"no renewal: {ends}")
+        require(not cluster.watch.wrong, f"two held: {cluster.watch.wrong[:3]}")
+    return f"{len(ends) - 1} renewals, and {len(took)} lists over UDP, the slowest in {max(took) * 1000:.0f} ms"
+
+
+CHECKS = (the_lease_runs_beside_links, the_lease_runs_beside_crowds)
