@@ -38,8 +38,6 @@ int main(int argc, char **argv) {
     for (long i = atol(argv[2]); i > 0; i--) {
         off_t at = 128 + i % 2 * 128;
         entry[7] = (char)i;
-        if (fdatasync(file) != 0)
-            return 1;
         put(file, "\0", 1, at);
         put(file, entry, 72, at + 8);
         put(file, "\1", 1, at);

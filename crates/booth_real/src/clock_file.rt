@@ -1,6 +1,6 @@
 //! The file of a directory that its clock is kept in, and the id of the boot.
 
-use crate::files::{if_found, make_named, open_to_change};
+use crate::files::{if_found, make_named, open_to_look};
 use crate::record_disk::fill;
 use crate::records::{path_in, sync_directory};
 use booth_base::PathText;
@@ -48,7 +48,7 @@ fn clock_of(file: &File) -> io::Result<KeptClock> {
 /// The clock that this directory keeps, if it keeps one.
 pub(crate) fn read_clock(rt: &HostRuntime, directory: &PathText) -> io::Result<Option<KeptClock>> {
     let path = path_in(directory, CLOCK)?;
-    match if_found(open_to_change(rt, path.as_str()))? {
+    match if_found(open_to_look(rt, path.as_str()))? {
         Some(file) => Ok(Some(clock_of(&file)?)),
         None => Ok(None),
     }

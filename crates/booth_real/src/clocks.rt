@@ -33,10 +33,21 @@ enum Source {
     Unread,
 }
 
+/// How the clock of an open directory began.
+#[derive(Clone, Copy)]
+pub(crate) enum Opening {
+    /// It is kept.
+    Kept,
+    /// Its file system takes no writes.
+    ReadOnly,
+}
+
 /// What a host tells of time.
 #[derive(Drop)]
 pub(crate) struct Clocks {
     source: Source,
+    /// Whether the offset of the open directory's clock is on the disk.
+    is_kept: bool,
     /// The reading at which the clock was to be kept last.
     kept_at: u64,
     /// The time since the boot at which a step of the wall clock was looked for last.
@@ -158,6 +169,7 @@ impl Clocks {
     pub(crate) fn new() -> Clocks {
         Clocks {
             source: Source::Wall(None),
+            is_kept: false,
             kept_at: 0,
             looked_at: 0,
         }
@@ -270,15 +282,26 @@ impl Clocks {
 
     /// Tells time from now on by the clock of this directory, which is open and locked. It is kept at once: nothing is
     /// promised by a clock whose offset is not on the disk. Where it was kept in this boot, a keep that fails is passed
-    /// over.
-    pub(crate) fn begin(&mut self, rt: &HostRuntime, directory: &PathText) -> io::Result<()> {
+    /// over; and where the file system takes no writes, which keeps no promise either.
+    pub(crate) fn begin(&mut self, rt: &HostRuntime, directory: &PathText) -> io::Result<Opening> {
         let (clock, _) = self.clock_in(rt, directory)?;
         let written = write_clock(rt, directory, &clock.kept());
-        if written.is_err() && !is_kept(rt, directory, &clock.kept()) {
-            return written;
-        }
+        self.is_kept = written.is_ok() || is_kept(rt, directory, &clock.kept());
+        let begun = begun_by(written, self.is_kept)?;
         self.source = Source::Open(clock);
         self.kept_at = clock.kept().reached;
+        Ok(begun)
+    }
+
+    /// Has the clock of this open directory be kept, where it could not be when it began.
+    pub(crate) fn settle(&mut self, rt: &HostRuntime, directory: &PathText) -> io::Result<()> {
+        if self.is_kept {
+            return Ok(());
+        }
+        if let Source::Open(clock) = &self.source {
+            write_clock(rt, directory, &clock.kept())?;
+            self.is_kept = true;
+        }
         Ok(())
     }
 
@@ -303,7 +326,19 @@ impl Clocks {
             return None;
         }
         self.kept_at = kept.reached;
-        Some(write_clock(rt, directory, &kept))
+        let written = write_clock(rt, directory, &kept);
+        self.is_kept = self.is_kept || written.is_ok();
+        Some(written)
+    }
+}
+
+// How a clock begins whose first keep ended so, and which is on the disk or not.
+fn begun_by(written: io::Result<()>, is_kept: bool) -> io::Result<Opening> {
+    match written {
+        Ok(()) => Ok(Opening::Kept),
+        Err(error) if error.kind() == ErrorKind::ReadOnlyFilesystem => Ok(Opening::ReadOnly),
+        Err(_) if is_kept => Ok(Opening::Kept),
+        Err(error) => Err(error),
     }
 }
 

@@ -50,6 +50,16 @@ pub(crate) fn open_to_change(rt: &HostRuntime, path: &str) -> io::Result<File> {
     open_named(rt, path, File::options().read(true).write(true))
 }
 
+/// The same, to read alone where the file system takes no writes.
+pub(crate) fn open_to_look(rt: &HostRuntime, path: &str) -> io::Result<File> {
+    match open_to_change(rt, path) {
+        Err(error) if error.kind() == ErrorKind::ReadOnlyFilesystem => {
+            open_named(rt, path, File::options().read(true))
+        }
+        answer => answer,
+    }
+}
+
 /// What was found, or none where the system says that there is nothing.
 pub(crate) fn if_found<T: Drop>(answer: io::Result<T>) -> io::Result<Option<T>> {
     match answer {
@@ -124,8 +134,8 @@ fn add_all(file: &mut File, bytes: &mut Vec<u8>) -> io::Result<()> {
     Err(too_long())
 }
 
-/// All bytes of the file at this path.
-pub(crate) fn contents(rt: &HostRuntime, alloc: Global, path: &str) -> io::Result<Vec<u8>> {
+/// All bytes of the regular file at this path, which has at most 2^30. No line says why it cannot be read.
+pub fn contents(rt: &HostRuntime, alloc: Global, path: &str) -> io::Result<Vec<u8>> {
     let mut file = open_regular(rt, path)?;
     let mut bytes = Vec::new(alloc);
     add_all(&mut file, &mut bytes)?;

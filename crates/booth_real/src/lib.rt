@@ -4,6 +4,8 @@
 mod backlog;
 mod clock_file;
 mod clocks;
+mod deadline;
+mod descriptors;
 mod environment;
 mod files;
 mod jobs;
@@ -20,10 +22,13 @@ mod record_disk;
 mod records;
 mod socket;
 mod speaker;
+mod store;
 mod streams;
 mod telling;
 mod wake;
 
+pub use descriptors::files_for_links;
+pub use files::contents;
 pub use journal_file::JournalFile;
 pub use notifier::Notifier;
 pub use outlet::{Outlet, Unwritten, write_at_once};

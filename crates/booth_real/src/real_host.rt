@@ -8,13 +8,12 @@ ghost use Rattle.booth_host.specs.declared.entry.Entry.{Entry};
 ghost use Rattle.booth_real.specs.Hearing.{BringsTo, IsOpenAt, hearing, turned_to};
 ghost use Rattle.booth_real.specs.Taking.{IsGiven, IsHandler, IsSame, TakesIn, waiting};
 
-use crate::clocks::Clocks;
 use crate::files::contents;
 use crate::jobs::{Ended, Jobs, SIGNALLED};
 use crate::lock::take_lock;
 use crate::mail::{Mail, unopened};
-use crate::records::{Records, read_from, write_into};
 use crate::socket::Socket;
+use crate::store::Store;
 use crate::streams::{Standing, error_stream, hold_streams, write_to};
 use crate::telling::{Telling, socket_text};
 use booth_base::{ByteText, Name, PathText, Peer};
@@ -37,9 +36,8 @@ const SENDS: u32 = 32;
 pub struct RealHost {
     rt: HostRuntime,
     mail: Mail,
-    /// The directory of the kept records, once a place with one was opened.
-    records: Option<Records>,
-    clocks: Clocks,
+    /// The directory of the kept records, once a place with one was opened, and what time is told by.
+    store: Store,
     telling: Telling,
     /// How many sends were made since what came was taken.
     sends: u32,
@@ -75,8 +73,7 @@ impl RealHost {
         Ok(RealHost {
             rt,
             mail,
-            records: None,
-            clocks: Clocks::new(),
+            store: Store::new(),
             telling: Telling::new(rt, alloc),
             sends: 0,
             conf_path: None,
@@ -99,13 +96,22 @@ impl RealHost {
         self.mail.wake_on(fd, mark);
     }
 
+    /// Has a keep fail that takes longer than so many milliseconds, where there is a limit, in directories that are
+    /// opened from now on. A keep that is late makes no further step.
+    pub fn limit_writes(&mut self, limit: Option<u64>)
+        ensures faults { self.new.faults ≡ self.old.faults }
+        ensures mail { self.new.mail ≡ self.old.mail }
+    {
+        self.store.limit_writes(limit);
+    }
+
     /// Has `now` tell the clock that this directory of records keeps, also before it is opened. Where that cannot be
     /// had a line on standard error says why, and no place with a directory is opened. It is no fault.
     pub fn await_clock(&mut self, directory: &PathText)
         ensures faults { self.new.faults ≡ self.old.faults }
         ensures mail { self.new.mail ≡ self.old.mail }
     {
-        if let Err(error) = self.clocks.await_clock(&self.rt, directory) {
+        if let Err(error) = self.store.await_clock(&self.rt, directory) {
             self.telling.no_clock(&error);
         }
     }
@@ -116,7 +122,7 @@ impl RealHost {
         ensures faults { self.new.faults ≡ self.old.faults }
         ensures mail { self.new.mail ≡ self.old.mail }
     {
-        match self.clocks.share_clock(&self.rt, directory) {
+        match self.store.share_clock(&self.rt, directory) {
             Ok(()) => true,
             Err(error) => {
                 self.telling.no_clock(&error);
@@ -174,55 +180,24 @@ impl RealHost {
         ensures forgotten { waiting self.new.mail.backlog ≡ [] }
     {
         self.mail.close();
-        self.records = None;
         self.conf_path = None;
-        self.clocks.leave();
+        self.store.leave();
         let opened = Socket::open(&self.rt, place);
         let socket = self.telling.told(&socket_text(place), opened)?;
-        self.open_records(&place.records)?;
+        self.open_store(&place.records)?;
         self.mail.begin(socket);
         self.conf_path = Some(place.conf_path.copy());
         Ok(())
     }
 
     // Opens this directory and its clock; none where the path is empty.
-    fn open_records(&mut self, directory: &PathText) -> io::Result<()>
+    fn open_store(&mut self, directory: &PathText) -> io::Result<()>
         ensures faults { self.new.faults ≡ self.old.faults }
         ensures mail { self.new.mail ≡ self.old.mail }
     {
-        if directory.as_str().is_empty() {
-            return Ok(());
-        }
-        let opened = Records::open(&self.rt, directory);
-        let records = self.telling.told(directory.as_str().as_bytes(), opened)?;
-        self.records = Some(records);
-        self.begin_clock(directory)
-    }
-
-    // Tells time by the clock of this directory, which is locked.
-    fn begin_clock(&mut self, directory: &PathText) -> io::Result<()>
-        ensures faults { self.new.faults ≡ self.old.faults }
-        ensures mail { self.new.mail ≡ self.old.mail }
-    {
-        let begun = self.clocks.begin(&self.rt, directory);
-        if let Err(error) = &begun {
-            self.telling.no_clock(error);
-            self.records = None;
-        }
-        begun
-    }
-
-    // Keeps what the clock has reached, once a minute.
-    fn keep_clock(&mut self)
-        ensures faults { self.new.faults ≡ self.old.faults }
-        ensures mail { self.new.mail ≡ self.old.mail }
-    {
-        let Some(records) = &self.records else {
-            return;
-        };
-        if let Some(answer) = self.clocks.keep(&self.rt, records.directory()) {
-            self.telling.clock_keep(&answer);
-        }
+        let alloc = self.rt.alloc();
+        self.store
+            .open(&self.rt, alloc, directory, &mut self.telling)
     }
 
     fn start_job(&mut self, job: &Job) -> io::Result<()>
@@ -230,7 +205,10 @@ impl RealHost {
         ensures mail { self.new.mail ≡ self.old.mail }
     {
         match &self.conf_path {
-            Some(conf_path) => self.jobs.start(&self.rt, &self.clocks, job, conf_path),
+            Some(conf_path) => {
+                let clocks = self.store.clocks();
+                self.jobs.start(&self.rt, clocks, job, conf_path)
+            }
             None => Err(unopened()),
         }
     }
@@ -258,7 +236,7 @@ impl RealHost {
             job,
             ticket,
             status,
-        } = self.jobs.poll(&self.rt, &self.clocks)?;
+        } = self.jobs.poll(&self.rt, self.store.clocks())?;
         if let Err(error) = &status {
             self.telling.unstarted(&ticket, error);
         }
@@ -271,7 +249,7 @@ impl RealHost {
         ensures faults { self.new.faults ≡ self.old.faults }
         ensures mail { self.new.mail ≡ self.old.mail }
     {
-        if self.records.is_some() {
+        if self.store.has_records() {
             self.telling.unreceived(error);
         }
     }
@@ -281,7 +259,7 @@ impl RealHost {
         ensures faults { self.new.faults ≡ self.old.faults }
         ensures mail { self.new.mail ≡ self.old.mail }
     {
-        if self.records.is_some() {
+        if self.store.has_records() {
             self.telling.unsent(to, error);
         }
     }
@@ -294,7 +272,7 @@ impl RealHost {
         ensures socket { self.new.mail.socket ≡ self.old.mail.socket }
     {
         self.sends = 0;
-        if self.records.is_none() {
+        if !self.store.has_records() {
             return;
         }
         self.mail.take_in();
@@ -347,7 +325,7 @@ impl Host for RealHost {
         ensures brings { IfOk result (λ arrival. BringsTo (hearing self.old.mail.socket) arrival) }
         ensures socket { self.new.mail.socket ≡ self.old.mail.socket }
     {
-        self.keep_clock();
+        self.store.keep_clock(&self.rt, &mut self.telling);
         if let Some(arrival) = self.ended_job() {
             into.clear();
             return Ok(arrival);
@@ -369,7 +347,7 @@ impl Host for RealHost {
         ensures later { self.old.faults ≤ self.new.faults }
         ensures mail { self.new.mail ≡ self.old.mail }
     {
-        match self.clocks.now() {
+        match self.store.now() {
             Ok(told) => {
                 if let Some(step) = told.step {
                     self.telling.step(step);
@@ -378,7 +356,7 @@ impl Host for RealHost {
             }
             Err(_) => {
                 self.fail();
-                self.clocks.last()
+                self.store.clocks().last()
             }
         }
     }
@@ -408,14 +386,15 @@ impl Host for RealHost {
         ensures cause { HasCause self.old.faults self.new.faults result }
         ensures mail { self.new.mail ≡ self.old.mail }
     {
-        let answer = read_from(&mut self.records, &self.rt, ticket);
+        let answer = self.store.read(&self.rt, ticket, &mut self.telling);
         if let Err(error) = &answer {
             self.telling.unread(ticket, error);
         }
         self.checked(answer)
     }
 
-    /// Where it ends in another way than the ticket's keep before, a line on standard error says so.
+    /// Where it ends in another way than the ticket's keep before, a line on standard error says so. One that takes
+    /// longer than a keep may fails, and the record may be on the disk all the same.
     fn keep(&mut self, ticket: &Name, rec: &Record) -> Result<(), Failed>
         ensures past { GrewBy None None (Entry.Keep ticket.now rec.now result ∷ []) }
         ensures cause { HasCause self.old.faults self.new.faults result }
@@ -424,7 +403,7 @@ impl Host for RealHost {
         ensures socket { self.new.mail.socket ≡ self.old.mail.socket }
     {
         self.take_in();
-        let answer = write_into(&mut self.records, &self.rt, ticket, rec);
+        let answer = self.store.write(&self.rt, ticket, rec);
         self.take_in();
         self.telling.keep(ticket, &answer);
         self.checked(answer)

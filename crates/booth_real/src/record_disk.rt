@@ -2,6 +2,7 @@
 ghost use Rattle.std.specs.Prelude.{◌≡◌, [], false, refl};
 ghost use Rattle.booth_rec.specs.Disk.{HasCause};
 
+use crate::deadline::Deadline;
 use booth_rec::{Disk, DiskFault};
 use std::fs::File;
 use std::io;
@@ -9,12 +10,33 @@ use std::io::ErrorKind;
 use std::os::fd::AsRawFd;
 use std::os::unix::fs::FileExt;
 
+/// One byte more than the four slots of a record file have.
+const MOST_BYTES: usize = 337;
+
+/// Where a file that keeps no record has zeros, as far as its slots reach: the bytes of each slot before its number,
+/// and those behind its record. What stands between them may be of a write that was cut short.
+const UNWRITTEN: [(usize, usize); 5] = [(0, 8), (48, 72), (112, 136), (208, 264), (336, 337)];
+
+/// What is known of the bytes that a read of a record file gives.
+#[derive(Clone, Copy)]
+pub(crate) enum Known {
+    /// All of them are on the disk: this process had the last ones be there.
+    Synced,
+    /// Some may not be on the disk yet.
+    Unsynced,
+    /// The system may have bytes of the file that the medium has not.
+    Doubted,
+}
+
 /// A record file that is open.
 #[derive(Drop)]
 pub(crate) struct FileDisk {
     file: File,
-    /// Whether the system may have bytes of the file that the medium has not.
-    is_doubted: bool,
+    known: Known,
+    /// Until when calls are made, where that is limited.
+    deadline: Option<Deadline>,
+    /// Whether a call was refused since that time was over.
+    is_late: bool,
     /// Why the last call that failed did.
     error: Option<io::Error>,
     faults: u64,
@@ -40,6 +62,15 @@ pub(crate) fn fill(file: &File, at: u64, into: &mut [u8]) -> io::Result<usize> {
     Ok(len)
 }
 
+// Whether a byte of this range is not 0.
+fn has_bytes(bytes: &[u8], place: (usize, usize)) -> bool {
+    let (first, end) = place;
+    match bytes.get(first..end) {
+        Some(found) => found.iter().any(|byte| *byte != 0),
+        None => false,
+    }
+}
+
 // Has the system read the file from the medium again. After a sync that failed it may have other bytes of it, and a
 // later sync that succeeds says nothing of them.
 fn forget_bytes(file: &File) -> io::Result<()> {
@@ -50,11 +81,14 @@ fn forget_bytes(file: &File) -> io::Result<()> {
 }
 
 impl FileDisk {
-    /// The disk of an open file, which is doubted where a call on a record file may have failed before.
-    pub(crate) fn new(file: File, is_doubted: bool) -> FileDisk {
+    /// The disk of an open file, of which so much is known. It is doubted where a call on a record file may have failed
+    /// before. From the deadline on no call is made, and each fails.
+    pub(crate) fn new(file: File, known: Known, deadline: Option<Deadline>) -> FileDisk {
         FileDisk {
             file,
-            is_doubted,
+            known,
+            deadline,
+            is_late: false,
             error: None,
             faults: 0,
         }
@@ -66,6 +100,18 @@ impl FileDisk {
             Some(error) => error,
             None => io::Error::from(ErrorKind::Other),
         }
+    }
+
+    /// Whether a call failed since its time was over. Then the system was not asked, so its bytes are not doubted.
+    pub(crate) fn is_late(&self) -> bool {
+        self.is_late
+    }
+
+    /// Whether the file has bytes that no write of a record leaves in a file that keeps none.
+    pub(crate) fn is_strange(&self) -> io::Result<bool> {
+        let mut bytes = [0u8; MOST_BYTES];
+        let count = fill(&self.file, 0, &mut bytes)?;
+        Ok(count == bytes.len() || UNWRITTEN.iter().any(|place| has_bytes(&bytes, *place)))
     }
 
     // Counts what failed.
@@ -82,10 +128,52 @@ impl FileDisk {
         }
     }
 
-    fn settle(&self) -> io::Result<()> {
-        self.file.sync_data()?;
-        if self.is_doubted {
-            forget_bytes(&self.file)?;
+    // Fails where the time for calls is over.
+    fn require_time(&mut self) -> io::Result<()>
+        ensures { self.new.faults ≡ self.old.faults }
+    {
+        let Some(deadline) = self.deadline else {
+            return Ok(());
+        };
+        let answer = deadline.require();
+        self.is_late = answer.is_err();
+        answer
+    }
+
+    fn look(&mut self, at: u64, into: &mut [u8]) -> io::Result<usize>
+        ensures { self.new.faults ≡ self.old.faults }
+    {
+        self.require_time()?;
+        fill(&self.file, at, into)
+    }
+
+    fn put(&mut self, at: u64, bytes: &[u8]) -> io::Result<()>
+        ensures { self.new.faults ≡ self.old.faults }
+    {
+        self.require_time()?;
+        self.known = match self.known {
+            Known::Synced | Known::Unsynced => Known::Unsynced,
+            Known::Doubted => Known::Doubted,
+        };
+        self.file.write_all_at(bytes, at)
+    }
+
+    // Has all bytes be on the disk. The system is not asked where they are: a sync that has nothing to write takes as
+    // long as another.
+    fn settle(&mut self) -> io::Result<()>
+        ensures { self.new.faults ≡ self.old.faults }
+    {
+        self.require_time()?;
+        match self.known {
+            Known::Synced => {}
+            Known::Unsynced => {
+                self.file.sync_data()?;
+                self.known = Known::Synced;
+            }
+            Known::Doubted => {
+                self.file.sync_data()?;
+                forget_bytes(&self.file)?;
+            }
         }
         Ok(())
     }
@@ -111,12 +199,12 @@ impl Disk for FileDisk {
     ghost only_now = { λ _ _ left. left };
 
     fn read(&mut self, at: u64, into: &mut [u8]) -> Result<usize, DiskFault> {
-        let answer = fill(&self.file, at, into);
+        let answer = self.look(at, into);
         self.checked(answer)
     }
 
     fn write_at(&mut self, at: u64, bytes: &[u8]) -> Result<(), DiskFault> {
-        let answer = self.file.write_all_at(bytes, at);
+        let answer = self.put(at, bytes);
         self.checked(answer)
     }
 

@@ -3,18 +3,20 @@
 //! A file is opened for a call alone, and holds four slots (`booth_rec`). A file that is missing keeps no record.
 ghost use Rattle.std.specs.Prelude.{◌≤◌, length};
 
-use crate::files::{if_found, make_named, open_to_change};
+use crate::deadline::Deadline;
+use crate::files::{if_found, make_named, open_to_change, open_to_look};
 use crate::lock::{lock_directory, lock_file};
-use crate::mail::unopened;
-use crate::record_disk::FileDisk;
+use crate::record_disk::{FileDisk, Known};
 use arrayvec::ArrayString;
 use booth_base::{Name, PathText};
 use booth_rec::{OpenFault, PutFault, Record, Slots};
+use std::alloc::Global;
+use std::collections::HashSet;
 use std::fmt::Write;
 use std::fs::{DirBuilder, File};
 use std::io;
 use std::io::ErrorKind;
-use std::os::unix::fs::DirBuilderExt;
+use std::os::unix::fs::{DirBuilderExt, MetadataExt};
 use std::path::Path;
 
 /// The file whose lock the directory's one host holds.
@@ -49,10 +51,22 @@ pub(crate) struct Records {
     has_names: bool,
     /// Whether a call on a record file has failed: from then on the system's bytes of such files are doubted.
     has_failed: bool,
+    /// The numbers of the files whose bytes are all on the disk, as this process had them there last.
+    synced: HashSet<u64>,
+    /// How many milliseconds a write may take, where that is limited.
+    limit: Option<u64>,
     /// The file of the lock, which lasts while it is open.
     lock: File,
     /// The directory, whose own lock lasts while it is open: a file can be taken away or replaced.
     own_lock: File,
+}
+
+/// What a ticket's file keeps.
+#[derive(Clone, Copy)]
+pub(crate) struct Found {
+    pub(crate) record: Option<Record>,
+    /// Whether it keeps no record, and has bytes that no write leaves.
+    pub(crate) is_strange: bool,
 }
 
 /// The path of a file in a directory.
@@ -133,8 +147,13 @@ fn damaged(words: &str) -> io::Error {
 
 impl Records {
     /// The directory at this path, made where it is missing in the one above, with its locks. It fails where another
-    /// holds one of them.
-    pub(crate) fn open(rt: &HostRuntime, directory: &PathText) -> io::Result<Records> {
+    /// holds one of them. A write in it fails that takes longer than the limit, in milliseconds, where there is one.
+    pub(crate) fn open(
+        rt: &HostRuntime,
+        alloc: Global,
+        directory: &PathText,
+        limit: Option<u64>,
+    ) -> io::Result<Records> {
         let own_name = make(rt, directory.as_str())?;
         let lock = lock_file(rt, path_in(directory, LOCK)?.as_str())?;
         let own_lock = lock_directory(rt, path_in(directory, ITSELF)?.as_str())?;
@@ -143,6 +162,8 @@ impl Records {
             own_name,
             has_names: false,
             has_failed: false,
+            synced: HashSet::new(alloc),
+            limit,
             lock,
             own_lock,
         })
@@ -152,16 +173,38 @@ impl Records {
         &self.directory
     }
 
-    // The slots of an open file, which is doubted where the system may have bytes of it that the medium has not.
-    fn slots(&mut self, file: File, is_doubted: bool) -> io::Result<Slots<FileDisk>> {
-        match Slots::open(FileDisk::new(file, is_doubted)) {
+    // Why a call on this disk failed. From then on bytes are doubted, but where the system was not asked.
+    fn failure(&mut self, disk: &FileDisk) -> io::Error {
+        if !disk.is_late() {
+            self.has_failed = true;
+        }
+        disk.error()
+    }
+
+    // The slots of a file.
+    fn slots(&mut self, disk: FileDisk) -> io::Result<Slots<FileDisk>> {
+        match Slots::open(disk) {
             Ok(slots) => Ok(slots),
             Err(OpenFault::Torn(_)) => Err(damaged("an open slot holds no record")),
-            Err(OpenFault::Disk(disk)) => {
-                self.has_failed = true;
-                Err(disk.error())
-            }
+            Err(OpenFault::Disk(disk)) => Err(self.failure(&disk)),
         }
+    }
+
+    // What is known of the file of this number, which this host alone writes.
+    fn known_of(&self, number: u64) -> Known {
+        if self.has_failed {
+            Known::Doubted
+        } else if self.synced.contains(&number) {
+            Known::Synced
+        } else {
+            Known::Unsynced
+        }
+    }
+
+    // Notes that all bytes of the file of this number are on the disk. Where there is no memory for that, it is synced
+    // once more.
+    fn note_synced(&mut self, number: u64) {
+        let _ = self.synced.insert(number);
     }
 
     // Has the directory's own name be on the disk, also where an earlier process made the directory and ended.
@@ -193,14 +236,27 @@ impl Records {
         path_in(&self.directory, file_name(ticket)?.as_str())
     }
 
-    /// The record that a ticket's file keeps, if it keeps one. Its bytes are doubted: of what failed before this
-    /// process nothing is known.
-    pub(crate) fn read(&mut self, rt: &HostRuntime, ticket: &Name) -> io::Result<Option<Record>> {
+    /// What a ticket's file keeps; a file that is missing keeps nothing. Its bytes are doubted: of what failed before
+    /// this process nothing is known.
+    pub(crate) fn read(&mut self, rt: &HostRuntime, ticket: &Name) -> io::Result<Found> {
         let path = self.path_of(ticket)?;
-        match if_found(open_to_change(rt, path.as_str()))? {
-            Some(file) => Ok(self.slots(file, true)?.record()),
-            None => Ok(None),
+        match if_found(open_to_look(rt, path.as_str()))? {
+            Some(file) => self.look(file),
+            None => Ok(Found {
+                record: None,
+                is_strange: false,
+            }),
         }
+    }
+
+    // What an open file keeps.
+    fn look(&mut self, file: File) -> io::Result<Found> {
+        let number = file.metadata()?.ino();
+        let slots = self.slots(FileDisk::new(file, Known::Doubted, None))?;
+        self.note_synced(number);
+        let record = slots.record();
+        let is_strange = record.is_none() && slots.disk().is_strange()?;
+        Ok(Found { record, is_strange })
     }
 
     // Opens the file at this path, which is made where it is missing. The names are to be kept then.
@@ -214,54 +270,39 @@ impl Records {
         }
     }
 
-    // Puts this record into an open file.
-    fn put(&mut self, file: File, record: &Record) -> io::Result<()> {
-        let mut slots = self.slots(file, self.has_failed)?;
+    // Puts this record into an open file, until the deadline.
+    fn put(&mut self, file: File, record: &Record, deadline: Option<Deadline>) -> io::Result<()> {
+        let number = file.metadata()?.ino();
+        let known = self.known_of(number);
+        // (what is on the disk is known again once all went well)
+        self.synced.remove(&number);
+        let mut slots = self.slots(FileDisk::new(file, known, deadline))?;
         match slots.put(record) {
-            Ok(()) => Ok(()),
-            Err(PutFault::Spent) => Err(damaged("the last number is used")),
-            Err(PutFault::Disk | PutFault::Again) => {
-                self.has_failed = true;
-                Err(slots.disk().error())
+            Ok(()) => {
+                self.note_synced(number);
+                Ok(())
             }
+            Err(PutFault::Spent) => Err(damaged("the last number is used")),
+            Err(PutFault::Disk | PutFault::Again) => Err(self.failure(slots.disk())),
         }
     }
 
-    /// Keeps this record in a ticket's file: it, the file's name, and that of the directory are on the disk then.
+    /// Keeps this record in a ticket's file: it, the file's name, and that of the directory are on the disk then, and it
+    /// took no longer than a write may. A write that takes longer fails, and stops before its next step.
     pub(crate) fn write(
         &mut self,
         rt: &HostRuntime,
         ticket: &Name,
         record: &Record,
     ) -> io::Result<()> {
+        let deadline = Deadline::begin(self.limit);
         let path = self.path_of(ticket)?;
         let file = self.open_or_make(rt, path.as_str())?;
         self.keep_names(rt)?;
-        self.put(file, record)
-    }
-}
-
-/// The record that a ticket's file keeps in the directory that is open, where one is.
-pub(crate) fn read_from(
-    records: &mut Option<Records>,
-    rt: &HostRuntime,
-    ticket: &Name,
-) -> io::Result<Option<Record>> {
-    match records {
-        Some(records) => records.read(rt, ticket),
-        None => Err(unopened()),
-    }
-}
-
-/// Keeps this record in the directory that is open, where one is.
-pub(crate) fn write_into(
-    records: &mut Option<Records>,
-    rt: &HostRuntime,
-    ticket: &Name,
-    record: &Record,
-) -> io::Result<()> {
-    match records {
-        Some(records) => records.write(rt, ticket, record),
-        None => Err(unopened()),
+        self.put(file, record, deadline)?;
+        match deadline {
+            Some(deadline) => deadline.require(),
+            None => Ok(()),
+        }
     }
 }

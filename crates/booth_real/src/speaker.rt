@@ -5,10 +5,11 @@
 
 use crate::environment::variable;
 use crate::outlet::write_at_once;
-use crate::streams::write_to;
+use crate::streams::{HeldError, hold_error, write_to};
 use arrayvec::ArrayVec;
 use std::io::Write;
 use std::os::unix::fs::MetadataExt;
+use std::process::ChildStdin;
 use std::{fs, io};
 
 /// The variable that names the device and the number of the file that the journal reads, with a colon between.
@@ -44,6 +45,8 @@ pub struct Speaker {
     name: &'static str,
     /// Whether the journal reads standard error.
     is_journal: bool,
+    /// Standard error, held: a line needs no descriptor when there is none left.
+    held: Option<ChildStdin>,
 }
 
 impl Priority {
@@ -82,10 +85,12 @@ impl Speaker {
     /// Standard error for the lines of the program of this name.
     pub fn new(rt: HostRuntime, name: &'static str) -> Speaker {
         let is_journal = is_journal(&rt);
+        let held = hold_error(&rt);
         Speaker {
             rt,
             name,
             is_journal,
+            held,
         }
     }
 
@@ -118,10 +123,28 @@ impl Speaker {
         }
     }
 
+    // Gives standard error a whole line, which is lost if it cannot be written at once.
+    fn give(&self, line: &[u8]) {
+        if let Some(file) = &self.held {
+            let _ = write_at_once(&mut HeldError { file }, line);
+        }
+    }
+
+    // Gives standard error these bytes, and waits for whoever reads them.
+    fn give_all(&self, bytes: &[u8]) -> io::Result<()> {
+        match &self.held {
+            Some(file) => {
+                let mut file = file;
+                file.write_all(bytes)
+            }
+            None => write_to(&self.rt.stderr(), bytes),
+        }
+    }
+
     /// Says this text as a line. It is lost if it cannot be written at once.
     pub fn say(&self, priority: Priority, text: &[u8]) {
         let line = self.line_of(priority, text);
-        let _ = write_at_once(&mut self.rt.stderr(), &line);
+        self.give(&line);
     }
 
     /// Says a line that has the program's name in front and ends with a line feed. It is lost if it cannot be written
@@ -130,19 +153,19 @@ impl Speaker {
         if self.is_journal {
             self.say(priority, self.text_of(line));
         } else {
-            let _ = write_at_once(&mut self.rt.stderr(), line);
+            self.give(line);
         }
     }
 
     /// Writes the lines of a failure, which may have the program's name in front, and waits for whoever reads them.
     pub(crate) fn write(&self, text: &[u8]) -> io::Result<()> {
         if !self.is_journal {
-            return write_to(&self.rt.stderr(), text);
+            return self.give_all(text);
         }
         for line in text.split(|byte| *byte == b'\n') {
             if !line.is_empty() {
                 let line = self.line_of(Priority::Failure, self.text_of(line));
-                write_to(&self.rt.stderr(), &line)?;
+                self.give_all(&line)?;
             }
         }
         Ok(())

@@ -5,7 +5,7 @@ use libc::net::{POLLOUT, poll};
 use libc::types::pollfd;
 use std::fs::File;
 use std::io;
-use std::io::{Stderr, Write};
+use std::io::Write;
 use std::os::fd::{AsFd, AsRawFd};
 use std::process::ChildStdin;
 
@@ -59,26 +59,39 @@ pub(crate) fn write_to<S: AsFd>(stream: &S, bytes: &[u8]) -> io::Result<()> {
     ChildStdin::from(stream.as_fd().try_clone_to_owned()?).write_all(bytes)
 }
 
+/// Standard error by a descriptor of its own, so that lines to it need none later; none where there is none left.
+pub(crate) fn hold_error(rt: &HostRuntime) -> Option<ChildStdin> {
+    let stream = rt.stderr();
+    let held = stream.as_fd().try_clone_to_owned().ok()?;
+    Some(ChildStdin::from(held))
+}
+
 // Whether a write to a stream would not wait. One that is closed, or that nobody reads, fails at once.
-fn has_room(stream: &Stderr) -> bool {
-    let fd = stream.as_fd().as_raw_fd();
+fn has_room(stream: &ChildStdin) -> bool {
     let mut asked = [pollfd {
-        fd,
+        fd: stream.as_raw_fd(),
         events: POLLOUT,
         revents: 0,
     }];
     poll(&mut asked, 0) == 1
 }
 
-/// Standard error as a stream to which nobody waits to write. It tells nothing of what it took.
+/// Standard error that is held.
+#[derive(Clone, Copy)]
+pub(crate) struct HeldError<'a> {
+    pub(crate) file: &'a ChildStdin,
+}
+
+/// It is a stream to which nobody waits to write. It tells nothing of what it took.
 ///
 /// A write goes through the type of a pipe to another program, as that of `write_to`.
-impl Outlet for Stderr {
+impl Outlet for HeldError<'_> {
     fn has_room(&mut self) -> bool {
-        has_room(self)
+        has_room(self.file)
     }
 
     fn put(&mut self, bytes: &[u8]) -> io::Result<usize> {
-        ChildStdin::from(self.as_fd().try_clone_to_owned()?).write(bytes)
+        let mut file = self.file;
+        file.write(bytes)
     }
 }

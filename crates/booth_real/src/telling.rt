@@ -7,7 +7,7 @@ ghost use Rattle.std.specs.Prelude.{◌≡◌};
 use crate::clocks::since_boot;
 use crate::lines::{Line, line_of, put_number};
 use crate::speaker::{Priority, Speaker};
-use booth_base::{Name, Peer};
+use booth_base::{Name, PathText, Peer};
 use booth_clock::Step;
 use booth_host::Place;
 use std::alloc::Global;
@@ -225,6 +225,20 @@ impl Telling {
     /// Says that no clock of records can be had.
     pub(crate) fn no_clock(&mut self, error: &io::Error) {
         self.failed(&[b"cannot tell the time of the records"], error);
+    }
+
+    /// Says that no record can be kept in this directory.
+    pub(crate) fn read_only(&mut self, directory: &PathText) {
+        let words = b": its file system takes no writes, so this member votes for nobody";
+        let line = line_of(&[directory.as_str().as_bytes(), words]);
+        self.say(Priority::Failure, line);
+    }
+
+    /// Says that a file of this ticket is there which is none of a record.
+    pub(crate) fn strange(&mut self, ticket: &Name) {
+        let words = b" keeps no record, and has bytes that no write leaves";
+        let line = line_of(&[b"the file of ticket ", ticket.bytes(), words]);
+        self.say(Priority::Failure, line);
     }
 
     /// Says that the record of this ticket cannot be read.

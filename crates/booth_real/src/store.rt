@@ -1,0 +1,146 @@
+//! What a host keeps: the records of its directory, and the clock that stands beside them.
+
+use crate::clocks::{Clocks, Opening, Told};
+use crate::mail::unopened;
+use crate::records::Records;
+use crate::telling::Telling;
+use booth_base::{Name, PathText};
+use booth_rec::Record;
+use std::alloc::Global;
+use std::io;
+
+/// The records of a directory and its clock.
+#[derive(Drop)]
+pub(crate) struct Store {
+    /// The directory of the kept records, once a place with one was opened.
+    records: Option<Records>,
+    clocks: Clocks,
+    /// How many milliseconds a write of a record may take, where that is limited.
+    limit: Option<u64>,
+}
+
+impl Store {
+    /// No directory is open, and time is told by the wall clock.
+    pub(crate) fn new() -> Store {
+        Store {
+            records: None,
+            clocks: Clocks::new(),
+            limit: None,
+        }
+    }
+
+    /// Has each write of a record in directories that are opened from now on take no longer than so many milliseconds.
+    pub(crate) fn limit_writes(&mut self, limit: Option<u64>) {
+        self.limit = limit;
+    }
+
+    /// What time is told by.
+    pub(crate) fn clocks(&self) -> &Clocks {
+        &self.clocks
+    }
+
+    /// Whether a directory is open.
+    pub(crate) fn has_records(&self) -> bool {
+        self.records.is_some()
+    }
+
+    /// Has time be told by the clock of this directory, before it is opened.
+    pub(crate) fn await_clock(&mut self, rt: &HostRuntime, directory: &PathText) -> io::Result<()> {
+        self.clocks.await_clock(rt, directory)
+    }
+
+    /// Has time be told by the clock that a daemon keeps in this directory.
+    pub(crate) fn share_clock(&mut self, rt: &HostRuntime, directory: &PathText) -> io::Result<()> {
+        self.clocks.share_clock(rt, directory)
+    }
+
+    /// Reads the clock.
+    pub(crate) fn now(&mut self) -> io::Result<Told> {
+        self.clocks.now()
+    }
+
+    /// Lets go of the directory and its clock.
+    pub(crate) fn leave(&mut self) {
+        self.records = None;
+        self.clocks.leave();
+    }
+
+    /// Opens this directory and its clock; none where the path is empty.
+    pub(crate) fn open(
+        &mut self,
+        rt: &HostRuntime,
+        alloc: Global,
+        directory: &PathText,
+        telling: &mut Telling,
+    ) -> io::Result<()> {
+        if directory.as_str().is_empty() {
+            return Ok(());
+        }
+        let opened = Records::open(rt, alloc, directory, self.limit);
+        let records = telling.told(directory.as_str().as_bytes(), opened)?;
+        self.records = Some(records);
+        self.begin_clock(rt, directory, telling)
+    }
+
+    // Tells time by the clock of this directory, which is locked.
+    fn begin_clock(
+        &mut self,
+        rt: &HostRuntime,
+        directory: &PathText,
+        telling: &mut Telling,
+    ) -> io::Result<()> {
+        match self.clocks.begin(rt, directory) {
+            Ok(Opening::Kept) => Ok(()),
+            Ok(Opening::ReadOnly) => {
+                telling.read_only(directory);
+                Ok(())
+            }
+            Err(error) => {
+                telling.no_clock(&error);
+                self.records = None;
+                Err(error)
+            }
+        }
+    }
+
+    /// Keeps what the clock has reached, once a minute.
+    pub(crate) fn keep_clock(&mut self, rt: &HostRuntime, telling: &mut Telling) {
+        let Some(records) = &self.records else {
+            return;
+        };
+        if let Some(answer) = self.clocks.keep(rt, records.directory()) {
+            telling.clock_keep(&answer);
+        }
+    }
+
+    /// The record that a ticket's file keeps, if it keeps one.
+    pub(crate) fn read(
+        &mut self,
+        rt: &HostRuntime,
+        ticket: &Name,
+        telling: &mut Telling,
+    ) -> io::Result<Option<Record>> {
+        let Some(records) = &mut self.records else {
+            return Err(unopened());
+        };
+        let found = records.read(rt, ticket)?;
+        if found.is_strange {
+            telling.strange(ticket);
+        }
+        Ok(found.record)
+    }
+
+    /// Keeps this record in a ticket's file, and the clock first where it is not on the disk.
+    pub(crate) fn write(
+        &mut self,
+        rt: &HostRuntime,
+        ticket: &Name,
+        record: &Record,
+    ) -> io::Result<()> {
+        let Some(records) = &mut self.records else {
+            return Err(unopened());
+        };
+        self.clocks.settle(rt, records.directory())?;
+        records.write(rt, ticket, record)
+    }
+}

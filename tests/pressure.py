@@ -1,0 +1,452 @@
+#!/usr/bin/env python3
+"""Gives daemons a slow disk, few open files and a file system that takes no writes, and counts the syncs of a write.
+
+Run it as `python3 tests/pressure.py [--long] [BOOTHD [TRIALS]]`, by default what `make build` and the gate leave. It
+takes a minute and a half, with --long four minutes, prints a line for each check, ends all that it started, and has the
+status 1 if a check failed. What this machine does not let it do, or has no program for, is left out with a line.
+
+The disk is slow for a daemon alone, by functions that stand before the C library's fsync and fdatasync.
+"""
+
+import concurrent.futures
+import contextlib
+import itertools
+import os
+import random
+import resource
+import socket
+import subprocess
+import sys
+import time
+from typing import Callable, Dict, Iterator, List, NamedTuple, Optional
+
+HERE = os.path.dirname(os.path.abspath(__file__))
+TOP = os.path.dirname(HERE)
+sys.path[:0] = [HERE, f"{TOP}/tools"]
+
+import frames
+from devices import LeftOut, Wrong, built_library, require
+from members import TICKET, Cluster, Member, Times, now, path_in, wait_for
+from scratch import scratch
+from serving import NotServing, built_program, end_by_signals, own_addresses
+
+SECONDS_OF_A_RUN, SECONDS_BETWEEN_LOOKS, SLACK = 10, 0.1, 10
+SEED = 9929
+# how long the looks at a slow disk last, in lifetimes of a lease
+LIFETIMES = 3
+# how many files a daemon with a small limit may have open, and how many links it gets then
+FILES, LINKS_OPENED = 16, 10
+# how many writes are counted, and how many syncs each has
+WRITES, SYNCS_OF_A_WRITE = 10, 3
+
+# each sync waits for as many milliseconds as one file says first, and adds a byte to another
+SLOW = """
+#define _GNU_SOURCE
+#include <fcntl.h>
+#include <stdlib.h>
+#include <sys/syscall.h>
+#include <time.h>
+#include <unistd.h>
+
+static int slow(int file, long call)
+{
+    char text[32] = "";
+    const char *named = getenv("BOOTH_SLOW"), *noted = getenv("BOOTH_SYNCS");
+    int told = named ? open(named, O_RDONLY | O_CLOEXEC) : -1;
+    int notes = noted ? open(noted, O_WRONLY | O_APPEND | O_CREAT | O_CLOEXEC, 0600) : -1;
+    if (told >= 0) {
+        if (read(told, text, sizeof text - 1) > 0) {
+            struct timespec wait = {atol(text) / 1000, atol(text) % 1000 * 1000000};
+            nanosleep(&wait, 0);
+        }
+        close(told);
+    }
+    if (notes >= 0) {
+        if (write(notes, "s", 1) < 0)
+            _exit(1);
+        close(notes);
+    }
+    return (int)syscall(call, file);
+}
+
+int fsync(int file) { return slow(file, SYS_fsync); }
+int fdatasync(int file) { return slow(file, SYS_fdatasync); }
+"""
+
+
+class Programs(NamedTuple):
+    """The programs that are tested, or None for one that is not built, and whether the long rows are run."""
+
+    boothd: Optional[str]
+    trials: Optional[str]
+    is_long: bool
+
+
+class Row(NamedTuple):
+    """The times of a ticket in seconds, how long a sync takes at its holder, and whether the holder goes on."""
+
+    expire: int
+    renewal: int
+    sync: float
+    goes_on: bool
+
+
+ROWS = (Row(10, 5, 0.5, True), Row(10, 5, 0.7, False), Row(10, 5, 0.9, False), Row(20, 8, 1.6, False))
+LONG_ROWS = (Row(60, 30, 5.0, False),)
+
+
+def boothd_of(programs: Programs) -> str:
+    """Returns the daemon's program."""
+    if programs.boothd is None:
+        raise LeftOut("boothd is not built")
+    return programs.boothd
+
+
+class SlowDisk:
+    """A program whose syncs take as long as is said."""
+
+    def __init__(self, folder: str, program: str) -> None:
+        self.told, self.program = os.path.join(folder, "slow"), os.path.join(folder, "slow-program")
+        library = built_library(folder, "slow-syncs", SLOW)
+        self.sync_takes(0)
+        with open(self.program, "w", encoding="utf-8") as file:
+            file.write(f'#!/bin/sh\nLD_PRELOAD={library} BOOTH_SLOW={self.told} exec {program} "$@"\n')
+        os.chmod(self.program, 0o755)
+
+    def sync_takes(self, seconds: float) -> None:
+        """Has each sync from now on take so long."""
+        with open(self.told + ".new", "w", encoding="ascii") as file:
+            file.write(str(int(seconds * 1000)))
+        os.rename(self.told + ".new", self.told)
+
+
+def holds_by_its_list(member: Member) -> Optional[bool]:
+    """Returns whether a site lists itself as the holder for a second at least, or None if it does not answer."""
+    answer = member.ask("CLst")
+    if answer is None:
+        return None
+    for line in answer.body.decode().splitlines():
+        name, owner, *rest = line.split(" ")
+        if name == TICKET.decode():
+            return owner == member.address and int(rest[0]) >= now() + 1
+    return False
+
+
+class Looks:
+    """When a site gained the ticket and lost it, by its own list."""
+
+    def __init__(self, member: Member) -> None:
+        self.member, self.gains, self.holds, self.last = member, [], None, 0.0
+
+    def look(self) -> None:
+        """Looks once."""
+        holds = holds_by_its_list(self.member)
+        if holds is None:
+            return
+        self.last = time.monotonic()
+        if holds and self.holds is False:
+            self.gains.append(self.last)
+        self.holds = holds
+
+    def look_until(self, end: float) -> None:
+        """Looks again and again until this moment."""
+        while time.monotonic() < end:
+            self.look()
+            time.sleep(SECONDS_BETWEEN_LOOKS)
+
+    def shortest_change(self) -> float:
+        """Returns the shortest time between two gains, or infinity if there are not two."""
+        return min((later - earlier for earlier, later in zip(self.gains, self.gains[1:])), default=float("inf"))
+
+
+def begin_slowly(cluster: Cluster, slow: SlowDisk) -> None:
+    """Starts a cluster whose first site has the slow disk, and has it hold the ticket."""
+    cluster.remember()
+    one = cluster.members[0]
+    one.start(slow.program, cluster.conf)
+    cluster.start(1, 2)
+    granted = one.about("CGnt")
+    is_held = wait_for(lambda: cluster.shown_by_all() == one.address, SLACK)
+    require(is_held, f"a grant is told {granted}: {one.printed()}")
+
+
+def through_a_slow_disk(folder: str, boothd: str, row: Row, addresses: List[str]) -> str:
+    """Has the holder's disk be slow, and returns what became of the ticket."""
+    times, slow = Times(expire=row.expire, timeout=1, retries=3, renewal=row.renewal), SlowDisk(folder, boothd)
+    with Cluster(boothd, folder, addresses, times) as cluster:
+        begin_slowly(cluster, slow)
+        one, two, _ = cluster.members
+        sites = [Looks(one), Looks(two)]
+        slow.sync_takes(row.sync)
+        begun = time.monotonic()
+        with concurrent.futures.ThreadPoolExecutor() as looking:
+            runs = [looking.submit(site.look_until, begun + LIFETIMES * row.expire) for site in sites]
+            for run in runs:
+                run.result()
+        # (who waits for its disk answers late)
+        slow.sync_takes(0)
+        told = one.printed().decode()
+        require(not cluster.watch.wrong, f"two held: {cluster.watch.wrong[:3]}")
+    return judged(row, sites, begun, told)
+
+
+def judged(row: Row, sites: List[Looks], begun: float, told: str) -> str:
+    """Returns what became of the ticket, and refuses what must not."""
+    one, two = sites
+    gains = {site.member.address: [round(gain - begun, 1) for gain in site.gains] for site in sites}
+    for site in sites:
+        require(site.shortest_change() >= row.expire, f"{row}: it changes more often than that: {gains}")
+    if row.goes_on and not two.gains:
+        require(one.holds, f"{row}: nobody holds")
+        return f"{row.expire}/{row.renewal}, {row.sync} s: the holder goes on"
+    require(two.gains and two.holds, f"{row}: the other site does not hold: {gains}: {told}")
+    took = two.gains[0] - begun
+    require(took <= 2 * row.expire, f"{row}: the other site holds after {took:.1f} s")
+    require("and a write may take" in told, f"{row}: no line tells of it: {told}")
+    return f"{row.expire}/{row.renewal}, {row.sync} s: the other site holds after {took:.1f} s"
+
+
+def a_holder_with_a_slow_disk_passes_its_ticket_on(folder: str, programs: Programs) -> str:
+    """A renewal whose first write is late begins no round, so nobody's promise is made longer for a lease of no use."""
+    boothd, rows = boothd_of(programs), ROWS + (LONG_ROWS if programs.is_long else ())
+    addresses = itertools.islice(own_addresses(), 3 * len(rows))
+    groups = zip(*[addresses] * 3)
+    folders = [os.path.join(folder, str(place)) for place in range(len(rows))]
+    for each in folders:
+        os.mkdir(each)
+    with concurrent.futures.ThreadPoolExecutor(len(rows)) as running:
+        told = running.map(through_a_slow_disk, folders, itertools.repeat(boothd), rows, map(list, groups))
+        return "; ".join(told)
+
+
+@contextlib.contextmanager
+def write_limit(value: Optional[str]) -> Iterator[None]:
+    """Has daemons that are started in the block have this limit in their environment, or none."""
+    os.environ.update({"BOOTH_WRITE_LIMIT": value} if value is not None else {})
+    try:
+        yield
+    finally:
+        os.environ.pop("BOOTH_WRITE_LIMIT", None)
+
+
+def a_limit_in_the_environment_counts(folder: str, programs: Programs) -> str:
+    """It stands in the place of the one that the times give; 0 is none, and what is no number has a line."""
+    boothd, times = boothd_of(programs), Times(expire=8, timeout=1, retries=3, renewal=5)
+    addresses = itertools.islice(own_addresses(), 130, 142)
+    late, wrong = "ms, and a write may take %d ms", "BOOTH_WRITE_LIMIT is no number of milliseconds"
+    rows = ((None, 0.4, late % 1000), ("200", 0.1, late % 200), ("0", 0.4, None), ("x", 0, wrong))
+    for value, sync, words in rows:
+        room = os.path.join(folder, str(value))
+        os.mkdir(room)
+        slow = SlowDisk(room, boothd)
+        slow.sync_takes(sync)
+        cluster = Cluster(boothd, room, list(itertools.islice(addresses, 3)), times)
+        with write_limit(value), cluster:
+            cluster.remember()
+            cluster.members[0].start(slow.program, cluster.conf)
+            cluster.start(1, 2)
+            one = cluster.members[0]
+            one.about("CGnt")
+            if words is None:
+                is_so = wait_for(lambda: holds_by_its_list(one), SLACK) and not one.printed()
+            else:
+                is_so = wait_for(lambda: words in one.printed().decode(), SLACK)
+            require(is_so, f"{value}: {one.printed()}")
+    return f"{len(rows)} limits"
+
+
+def few_open_files_leave_the_lease_alone(folder: str, programs: Programs) -> str:
+    """Links over TCP take none of the open files that records, lines and the clock need."""
+    boothd, times = boothd_of(programs), Times(expire=8, timeout=1, retries=3, renewal=5)
+
+    def limit_files() -> None:
+        resource.setrlimit(resource.RLIMIT_NOFILE, (FILES, FILES))
+
+    addresses = list(itertools.islice(own_addresses(), 100, 103))
+    with Cluster(boothd, folder, addresses, times) as cluster, contextlib.ExitStack() as opened:
+        cluster.remember()
+        one = cluster.members[0]
+        one.prepare = limit_files
+        cluster.start()
+        one.about("CGnt")
+        require(wait_for(lambda: cluster.shown_by_all() == one.address, SLACK), f"a grant: {one.printed()}")
+        for _ in range(LINKS_OPENED):
+            opened.enter_context(socket.create_connection((one.address, frames.PORT)))
+        ends, end = set(), time.monotonic() + 2 * times.expire
+        while time.monotonic() < end:
+            require(one.record().holds(now()), f"the lease is lost: {one.printed()}")
+            ends.add(one.record().until)
+            time.sleep(SECONDS_BETWEEN_LOOKS)
+        told = one.printed().decode()
+    require("leaves room for 0 links over TCP, and not for 16" in told, f"no line tells of it: {told}")
+    return f"{len(ends) - 1} renewals with {FILES} open files and {LINKS_OPENED} links"
+
+
+def links_are_served_within_the_limit(folder: str, programs: Programs) -> str:
+    """With some more files some links are served, and each next peer gets the place of the one that is idle longest."""
+    boothd = boothd_of(programs)
+    address = next(itertools.islice(own_addresses(), 110, None))
+    conf = os.path.join(folder, "booth.conf")
+    with open(conf, "w", encoding="ascii") as file:
+        file.write(f'site = "{address}"\nsite = "192.0.2.1"\narbitrator = "192.0.2.2"\nticket = "{TICKET.decode()}"\n')
+    member = Member("site", address, os.path.join(folder, "member"))
+    member.prepare = lambda: resource.setrlimit(resource.RLIMIT_NOFILE, (FILES + 12, FILES + 12))
+    member.start(boothd, conf)
+    try:
+        with contextlib.ExitStack() as opened:
+            for number in range(LINKS_OPENED):
+                link = opened.enter_context(socket.create_connection((address, frames.PORT), SLACK))
+                link.sendall(frames.request_now("CLst", number + 1))
+                # (one that was answered keeps its place for two seconds)
+                require(link.recv(frames.HEAD_BYTES), f"link {number + 1} is closed: {member.printed()}")
+        told = member.printed().decode()
+    finally:
+        member.kill()
+    require("leaves room for 2 links over TCP, and not for 16" in told, f"no line tells of it: {told}")
+    return f"{LINKS_OPENED} peers over two links"
+
+
+@contextlib.contextmanager
+def mounted(place: str) -> Iterator[Callable[[str], None]]:
+    """A file system of its own at this place, and what mounts it anew with an option."""
+
+    def mount(*words: str) -> None:
+        try:
+            done = subprocess.run(["mount", *words, place], capture_output=True, text=True, check=False)
+        except OSError as why:
+            raise LeftOut(f"mount: {why}") from why
+        if done.returncode != 0:
+            raise LeftOut(f"this user may not mount a tmpfs: {done.stderr.strip()}")
+
+    os.makedirs(place, mode=0o700)
+    mount("-t", "tmpfs", "-o", "size=1m", "tmpfs")
+    try:
+        yield lambda option: mount("-o", f"remount,{option}")
+    finally:
+        subprocess.run(["umount", "-l", place], check=False)
+
+
+def content_of(path: str) -> bytes:
+    """Returns the bytes of a file."""
+    with open(path, "rb") as file:
+        return file.read()
+
+
+def is_granted(member: Member) -> bool:
+    """Returns whether a site gets the ticket that it is granted, within two seconds."""
+    member.about("CGnt")
+    return bool(wait_for(lambda: member.record().holds(now()), 2))
+
+
+def a_file_system_that_takes_no_writes_is_no_vote(folder: str, programs: Programs) -> str:
+    """A member starts on it, says so, answers, and votes for nobody; and votes again once it takes writes."""
+    boothd, times = boothd_of(programs), Times(expire=8, timeout=1, retries=3, renewal=5)
+    addresses = list(itertools.islice(own_addresses(), 120, 123))
+    with Cluster(boothd, folder, addresses, times) as cluster:
+        one, two, three = cluster.members
+        with mounted(one.records) as mount_anew:
+            cluster.remember()
+            cluster.start()
+            two.about("CGnt")
+            require(wait_for(lambda: cluster.shown_by_all() == two.address, SLACK), "it is not granted")
+            require(wait_for(lambda: one.record().term > 0, SLACK), "the member does not vote")
+            one.kill()
+            os.remove(os.path.join(one.records, "booth.clock"))
+            mount_anew("ro")
+            path = path_in(one.records, TICKET)
+            before = content_of(path)
+            one.start(boothd, cluster.conf)
+            told = one.printed().decode()
+            require("takes no writes, so this member votes for nobody" in told, f"no line tells of it: {told}")
+            three.kill()
+            lost = wait_for(lambda: not two.record().holds(now()), times.expire + times.guard() + SLACK)
+            require(lost and content_of(path) == before, f"it votes: {one.printed()}")
+            mount_anew("rw")
+            held = wait_for(lambda: is_granted(two), 3 * SLACK)
+            require(held and os.path.exists(os.path.join(one.records, "booth.clock")), f"no vote: {one.printed()}")
+            require(not cluster.watch.wrong, f"two held: {cluster.watch.wrong[:3]}")
+            one.kill()
+    return "it answers, and the other site loses its lease without it"
+
+
+def run_keeps(programs: Programs, directory: str, count: int, **environ: str) -> "subprocess.CompletedProcess[str]":
+    """Returns a run of `trials keeps`."""
+    if programs.trials is None:
+        raise LeftOut("trials is not built")
+    how = {"stdin": subprocess.DEVNULL, "capture_output": True, "text": True, "timeout": SECONDS_OF_A_RUN}
+    return subprocess.run([programs.trials, "keeps", directory, str(count)], env={**os.environ, **environ}, **how)
+
+
+def a_write_has_three_syncs(folder: str, programs: Programs) -> str:
+    """A sync that has nothing to write is not made: this process had all bytes of the file synced before."""
+    noted, counts = os.path.join(folder, "syncs"), []
+    environ: Dict[str, str] = {"LD_PRELOAD": built_library(folder, "slow-syncs", SLOW), "BOOTH_SYNCS": noted}
+    for count in (WRITES, 2 * WRITES):
+        with contextlib.suppress(FileNotFoundError):
+            os.remove(noted)
+        done = run_keeps(programs, os.path.join(folder, f"of-{count}"), count, **environ)
+        require(done.returncode == 0, f"{count} writes: {done.stderr}")
+        counts.append(os.path.getsize(noted))
+    each = (counts[1] - counts[0]) / WRITES
+    require(each == SYNCS_OF_A_WRITE, f"{each} syncs a write: {counts}")
+    return f"{counts[0]} syncs in {WRITES} writes in a new directory, {counts[1]} in {2 * WRITES}"
+
+
+def bytes_of_no_record_are_told(folder: str, programs: Programs) -> str:
+    """A file of random bytes has a line at the start, and one with a byte that no write leaves; others have none."""
+    chance, path = random.Random(SEED), os.path.join(folder, "records", TICKET.hex() + ".rec")
+    require(run_keeps(programs, os.path.dirname(path), 0).returncode == 0, "a run in a new directory")
+    cut_short = bytes(136) + bytes(range(1, 73)) + bytes(8)
+    files = {
+        "400 random bytes": (bytes(2 + chance.randrange(254) for _ in range(400)), True),
+        "100 random bytes": (bytes(2 + chance.randrange(254) for _ in range(100)), True),
+        "a byte between two slots": (bytes(50) + b"x", True),
+        "nothing": (b"", False),
+        "zeros": (bytes(336), False),
+        "a write that was cut short": (cut_short, False),
+    }
+    for name, (content, is_told) in files.items():
+        with open(path, "wb") as file:
+            file.write(content)
+        done = run_keeps(programs, os.path.dirname(path), 0)
+        line = f"the file of ticket {TICKET.decode()} keeps no record, and has bytes that no write leaves\n"
+        found = (done.returncode, done.stdout, line in done.stderr)
+        require(found == (0, "read 0\n", is_told), f"{name}: {found}: {done.stderr}")
+    return f"{len(files)} files"
+
+
+CHECKS = (
+    a_write_has_three_syncs,
+    bytes_of_no_record_are_told,
+    few_open_files_leave_the_lease_alone,
+    links_are_served_within_the_limit,
+    a_file_system_that_takes_no_writes_is_no_vote,
+    a_limit_in_the_environment_counts,
+    a_holder_with_a_slow_disk_passes_its_ticket_on,
+)
+
+
+def passes(check: Callable[[str, Programs], str], programs: Programs) -> bool:
+    """Returns whether a check passed. Prints its line."""
+    name = check.__name__.replace("_", " ")
+    with scratch("booth-pressure-") as folder:
+        try:
+            print(f"ok: {name}: {check(folder, programs)}", flush=True)
+        except LeftOut as why:
+            print(f"tests/pressure.py: {name}: not checked: {why}", flush=True)
+        except (Wrong, NotServing, OSError, subprocess.SubprocessError) as why:
+            print(f"WRONG: {name}: {why}", flush=True)
+            return False
+    return True
+
+
+def main(words: List[str]) -> int:
+    """Runs the checks, and returns the status."""
+    end_by_signals()
+    paths = [os.path.abspath(word) for word in words if word != "--long"] + [None] * 2
+    programs = Programs(paths[0] or built_program(), paths[1] or built_program("trials"), "--long" in words)
+    return 0 if all([passes(check, programs) for check in CHECKS]) else 1
+
+
+if __name__ == "__main__":
+    sys.exit(main(sys.argv[1:]))
