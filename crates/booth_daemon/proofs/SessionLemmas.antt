@@ -11,7 +11,9 @@ use Rattle.booth_node.specs.Session.{SessionEntry, Down, Doing, AreSessions}
 use Rattle.booth_node.specs.Opening.{opened as start_state}
 use Rattle.booth_node.specs.declared.node_config.NodeConfig.{NodeConfig}
 use Rattle.booth_world.specs.Tellers.{TellersAreApart, WhoTellsHolds}
+use Rattle.booth_world.specs.Told.{WorldsHaveFencingTerms}
 use Rattle.booth_world.specs.Worlds.{made, LaterHoldersHaveLaterTerms, WorldsHoldOne, WorldTermsNeverFall}
+use Rattle.booth_world.proofs.Untimed.{untimed}
 use Rattle.booth_world.proofs.LogSessions.{logs_are_sessions, stopped_logs_are_sessions, cut_sessions_are_sessions}
 use Rattle.booth_outcomes.specs.declared.outcome.Outcome.{Outcome}
 use Rattle.booth_outcomes.specs.declared.outcome.Outcome.TheVariants.{Done, TurnsSpent}
@@ -115,12 +117,14 @@ daemons_turn words outcome entries run daemon ends =
 
 -- what a run is, and what the laws of all worlds say of it
 pub safe_run : {a b : Option (List Entry)} (words : List (List ℕ)) (outcome : Outcome) → WorldsHoldOne → WorldTermsNeverFall
-    → LaterHoldersHaveLaterTerms → WhoTellsHolds → TellersAreApart → GrewSome (IsRun words outcome) a b → GrewSome (IsSafe words outcome) a b
-safe_run words outcome one_holder terms later_terms holds apart ran =
+    → LaterHoldersHaveLaterTerms → WhoTellsHolds → TellersAreApart → WorldsHaveFencingTerms → GrewSome (IsRun words outcome) a b → GrewSome (IsSafe words outcome) a b
+safe_run words outcome one_holder terms later_terms holds apart fenced ran =
     some_weaker (IsRun words outcome) (IsSafe words outcome) (λ entries run. record {
       turned = daemons_turn words outcome entries run;
       is_session = λ turns. runs_are_sessions turns.asked outcome turns.said turns.body turns.turning;
-      in_worlds = λ w is session. (one_holder w is, terms w is);
+      in_worlds = λ w is session. (one_holder w is, terms w (untimed w is));
       tellers = λ w is session. (holds w is, apart w is);
       in_second_worlds = λ w is second session. later_terms w is second;
+      in_untimed_worlds = λ w is session. terms w is;
+      in_untimed_second_worlds = λ w is second session. fenced w is second;
     }) ran

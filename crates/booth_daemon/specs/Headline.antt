@@ -1,10 +1,12 @@
 -- What a run of boothd is a part of: worlds, in which no automatic ticket is held at two sites and no kept term falls.
--- Where all sessions of a world are of version 2, a later holder has a later term.
+-- Where all sessions of a world are of version 2, a later holder has a later term, and leases are told apart by their
+-- terms even where clocks step forward.
 use Rattle.std.specs.Prelude.{◌≡◌, ◌++◌, ℕ, List, ◌∷◌, Bool, true, false, T}
 use Rattle.booth_host.specs.declared.entry.Entry.{Entry}
 use Rattle.booth_node.specs.Session.{SessionEntry, Starts, Down, AreSessions}
-use Rattle.booth_node.specs.World.{World, IsNodeOf, IsWorld, IsSecondWorld, entries_of}
+use Rattle.booth_node.specs.World.{World, IsNodeOf, IsWorld, IsSecondWorld, IsUntimedWorld, entries_of}
 use Rattle.booth_world.specs.Tellers.{TellersAreApartIn, TellersHoldIn}
+use Rattle.booth_world.specs.Told.{HasFencingTerms}
 use Rattle.booth_world.specs.Worlds.{HoldsOneIn, LaterTermsIn, TermsNeverFallIn, made}
 use Rattle.booth_outcomes.specs.declared.outcome.Outcome.{Outcome}
 use Rattle.booth_outcomes.specs.declared.outcome.Outcome.TheVariants.{Done, TurnsSpent}
@@ -59,7 +61,9 @@ IsTurningEnd outcome = T (is_turning_end outcome)
 -- A daemon that ends so made its whole opening and then turns; these are a session of a member; and in every world in
 -- which this run is one, no automatic ticket is held at two members at one moment, and no member's kept term falls;
 -- and who tells of itself as the holder is it, and no other, while what it told is not over. Where all sessions of
--- that world are of version 2, a member that holds later than another has a lease of a later term.
+-- that world are of version 2, a member that holds later than another has a lease of a later term. Where nothing is
+-- asked of its clocks but that they rise, no kept term falls all the same; and where all sessions are of version 2,
+-- leases are told apart by their terms.
 pub record IsSafe (words : List (List ℕ)) (outcome : Outcome) (entries : List Entry) : Type 0 where
   pub turned : AskForDaemon words → IsTurningEnd outcome → IsTurningRun words outcome entries
   pub is_session : (run : IsTurningRun words outcome entries) → AreSessions Down (session_of run.turning)
@@ -67,6 +71,9 @@ pub record IsSafe (words : List (List ℕ)) (outcome : Outcome) (entries : List 
   pub tellers : (w : World) → IsWorld w → IsSessionIn w words outcome entries → TellersHoldIn w × TellersAreApartIn w
   pub in_second_worlds : (w : World) → IsWorld w → IsSecondWorld w → IsSessionIn w words outcome entries
       → LaterTermsIn w
+  pub in_untimed_worlds : (w : World) → IsUntimedWorld w → IsSessionIn w words outcome entries → TermsNeverFallIn w
+  pub in_untimed_second_worlds : (w : World) → IsUntimedWorld w → IsSecondWorld w
+      → IsSessionIn w words outcome entries → HasFencingTerms w
 
 -- ---- the same of all runs
 

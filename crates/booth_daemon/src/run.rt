@@ -57,7 +57,8 @@ pub fn boothd<H: Host>(alloc: Global, words: &[String], host: &mut H) -> Outcome
 
     // What its daemon did is a session of a member. In every world that has it: no automatic ticket is held at two
     // sites, and no kept term falls; who tells of itself as the holder is it, where what it tells is not over. Where
-    // all sessions of such a world are of version 2, a later holder has a later term.
+    // all sessions of such a world are of version 2, a later holder has a later term; and then leases are told apart by
+    // their terms even in a world of which nothing is asked of the clocks but that they rise.
     ensures worlds { GrewSome (IsSafe (map string_bytes words.now) result) (H.past host.old) (H.past host.new) }
 
     // Over every host.
@@ -69,6 +70,7 @@ pub fn boothd<H: Host>(alloc: Global, words: &[String], host: &mut H) -> Outcome
     laws::terms();
     laws::later_terms();
     laws::tellers();
+    laws::fencing();
     let ended = run_words(alloc, words, host);
     tell(Program::Boothd, &ended.said, host);
     ended.outcome

@@ -13,10 +13,12 @@ reads_true n t below = omega (arith, get_or-range_with_len 0 n t 0 below)
 
 pub true_clock : (n : ℕ) → n ≤ 1000000 → IsClock 1 (range_with_len 0 n)
 true_clock n few = record {
-  rises = λ a b ab h. omega (arith, reads_true n a (omega (arith, length-range_with_len 0 n)), reads_true n b (omega (arith, length-range_with_len 0 n)));
+  rising = record {
+    rises = λ a b ab h. omega (arith, reads_true n a (omega (arith, length-range_with_len 0 n)), reads_true n b (omega (arith, length-range_with_len 0 n)));
+    small = λ t h. omega (arith, reads_true n t (omega (arith, length-range_with_len 0 n)), length-range_with_len 0 n);
+  };
   not_slow = λ a b ab h. omega (arith, reads_true n a (omega (arith, length-range_with_len 0 n)), reads_true n b (omega (arith, length-range_with_len 0 n)));
   not_fast = λ a b ab h. omega (arith, reads_true n a (omega (arith, length-range_with_len 0 n)), reads_true n b (omega (arith, length-range_with_len 0 n)));
-  small = λ t h. omega (arith, reads_true n t (omega (arith, length-range_with_len 0 n)), length-range_with_len 0 n);
 }
 
 -- each member of the world has the exact clock

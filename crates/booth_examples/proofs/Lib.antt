@@ -9,4 +9,5 @@ pub mod Clocks
 pub mod WorldRuns
 pub mod TellingRuns
 pub mod PremiseRuns
+pub mod UntimedRuns
 pub mod NeededPremises

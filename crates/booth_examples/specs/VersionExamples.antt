@@ -1,12 +1,13 @@
--- Worlds of sessions of both versions: promises are kept through a crash; and two hold where a member of version 2 goes
--- back to version 1.
+-- Worlds of sessions of both versions: promises are kept through a crash; two hold where a clock runs too fast, by
+-- leases of two terms; and two hold where a member of version 2 goes back to version 1.
 use Rattle.std.specs.Prelude.{ℕ, true, List, [], ◌∷◌, ◌++◌, Option, Some, None}
 use Rattle.booth_conf.specs.declared.members.Member.{Member}
 use Rattle.booth_rec.specs.declared.record.Record.{Record}
 use Rattle.booth_rec.specs.Record.{plain}
 use Rattle.booth_node.specs.Session.{SessionEntry, Starts}
 use Rattle.booth_node.specs.World.{World, WorldEntry}
-use Rattle.booth_examples.specs.WorldExamples.{site_one, site_two, arbitrator, config_with, three_members, world_with, at, starts, hears, reads, keeps, sends, term, lease, client, port_of, grant_it, asks_votes, votes, is_open, asks_state}
+use Rattle.booth_examples.specs.PremiseExamples.{one_is_fast}
+use Rattle.booth_examples.specs.WorldExamples.{site_one, site_two, arbitrator, config_with, three_members, world_by, world_with, at, starts, hears, reads, keeps, sends, term, lease, client, port_of, grant_it, asks_votes, votes, is_open, asks_state}
 
 -- a member starts in version 2
 abbrev pub starts_again : Member → ℕ → Option Record → SessionEntry
@@ -124,6 +125,45 @@ one_after_another = world_with three_members (
     ∷ at 20020 1 (hears (port_of arbitrator) (votes arbitrator site_two 2 20010))
     ∷ at 20020 1 (reads 20020)
     ∷ at 20021 1 (keeps (leased 2 site_two 26014 26000))
+    ∷ [])
+
+-- ---- in version 2 alone, with a clock that is not true
+
+-- Site two votes for site one, but by its own clock, which runs twice as fast, its promise is over in half the time.
+-- Then it is asked for the ticket, and the arbitrator votes for it. Both hold, by leases of two terms.
+abbrev pub fast_in_second : World
+fast_in_second = world_by one_is_fast three_members (
+    at 0 0 (starts_again site_one 0 None)
+    ∷ at 0 1 (starts_again site_two 0 None)
+    ∷ at 0 2 (starts_again arbitrator 0 None)
+    ∷ at 7000 0 (hears client grant_it)
+    ∷ at 7000 0 (reads 7000)
+    ∷ at 7000 0 (keeps (promised 1 site_one 13014 6014))
+    ∷ at 7000 0 (sends (port_of site_two) (asks_votes site_one 1 7000))
+    ∷ at 7000 0 (sends (port_of arbitrator) (asks_votes site_one 1 7000))
+    ∷ at 7000 0 (sends client (is_open site_one 1 7000))
+    ∷ at 7010 1 (hears (port_of site_one) (asks_votes site_one 1 7000))
+    ∷ at 7010 1 (reads 14020)
+    ∷ at 7010 1 (keeps (promised 1 site_one 20034 6014))
+    ∷ at 7010 1 (sends (port_of site_one) (votes site_two site_one 1 14020))
+    ∷ at 7010 1 (sends (port_of site_one) (asks_state site_two 1 14020))
+    ∷ at 7010 1 (sends (port_of arbitrator) (asks_state site_two 1 14020))
+    ∷ at 7020 0 (hears (port_of site_two) (votes site_two site_one 1 14020))
+    ∷ at 7020 0 (reads 7020)
+    ∷ at 7020 0 (keeps (leased 1 site_one 13014 13000))
+    ∷ at 10100 1 (hears client grant_it)
+    ∷ at 10100 1 (reads 20200)
+    ∷ at 10100 1 (keeps (promised 2 site_two 26214 6014))
+    ∷ at 10100 1 (sends (port_of site_one) (asks_votes site_two 2 20200))
+    ∷ at 10100 1 (sends (port_of arbitrator) (asks_votes site_two 2 20200))
+    ∷ at 10100 1 (sends client (is_open site_two 2 20200))
+    ∷ at 10110 2 (hears (port_of site_two) (asks_votes site_two 2 20200))
+    ∷ at 10110 2 (reads 10110)
+    ∷ at 10110 2 (keeps (promised 2 site_two 16124 6014))
+    ∷ at 10110 2 (sends (port_of site_two) (votes arbitrator site_two 2 10110))
+    ∷ at 10120 1 (hears (port_of arbitrator) (votes arbitrator site_two 2 10110))
+    ∷ at 10120 1 (reads 20240)
+    ∷ at 10120 1 (keeps (leased 2 site_two 26214 26200))
     ∷ [])
 
 -- ---- without 'versions rise'

@@ -3,13 +3,13 @@ ghost use Rattle.std.specs.Prelude.{ℕ, ◌<◌};
 ghost use Rattle.booth_world.specs.Shadows.{HasShadow};
 ghost use Rattle.booth_node.specs.Held.{Moment};
 ghost use Rattle.booth_node.specs.Session.{AreSessions, Down};
-ghost use Rattle.booth_node.specs.World.{IsWorld, IsSecondWorld, entries_of};
+ghost use Rattle.booth_node.specs.World.{IsWorld, IsSecondWorld, IsUntimedWorld, entries_of};
 ghost use Rattle.booth_examples.specs.ManyKindsExample.{of_many_kinds, web_by_handler};
 ghost use Rattle.booth_examples.specs.Premises.{NothingHeld, SameMembers, TrueClocks, RecordsReturn, VersionsRise, MembersSpeak, OneDaemon, IsWorldBut, TwoHold, HoldsAt, PremisesAreNeeded};
 ghost use Rattle.booth_examples.specs.TakeOverExample.{taken_over};
 ghost use Rattle.booth_examples.specs.Telling.{TellsAt};
 ghost use Rattle.booth_examples.specs.PremiseExamples.{with_foreign_records, with_leases_at_first, with_a_lost_record, with_forged_votes, with_two_configurations, with_a_fast_clock, with_two_daemons, AreTrueBut, HasTwoDaemons, daemon_starts, votes_for_one, votes_for_two};
-ghost use Rattle.booth_examples.specs.VersionExamples.{promises_kept, one_after_another, with_a_falling_version};
+ghost use Rattle.booth_examples.specs.VersionExamples.{promises_kept, one_after_another, fast_in_second, with_a_falling_version};
 ghost use Rattle.booth_examples.specs.WorldExamples.{one_goes_on, one_holds, site_one, site_two, tells_lease, web};
 ghost use Rattle.booth_world.specs.Tellers.{EndsIn, HasLeft};
 
@@ -67,6 +67,14 @@ pub fn fast_clock_gives_a_lease()
     ensures others { IsWorldBut TrueClocks with_a_fast_clock }
     ensures only_one { AreTrueBut 1 with_a_fast_clock }
     ensures two_hold { TwoHold with_a_fast_clock }
+{}
+
+/// The same in version 2 alone. It is an untimed world: nothing is asked of its clocks but that they rise, and there
+/// leases are told apart by their terms.
+pub fn fast_clock_gives_a_lease_of_its_term()
+    ensures untimed { IsUntimedWorld fast_in_second }
+    ensures second { IsSecondWorld fast_in_second }
+    ensures two_hold { TwoHold fast_in_second }
 {}
 
 /// Without the premise that one daemon of each member runs: two of an arbitrator's vote for two

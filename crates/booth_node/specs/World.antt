@@ -17,7 +17,7 @@ use Rattle.booth_auth.specs.Verdict.{verdict}
 use Rattle.booth_host.specs.declared.host.Arrival.TheVariants as arrivals
 use Rattle.booth_host.specs.declared.entry.Entry.TheVariants as calls
 use Rattle.booth_node.specs.declared.node_config.NodeConfig.{NodeConfig}
-use Rattle.booth_node.specs.Clock.{IsClock}
+use Rattle.booth_node.specs.Clock.{IsRising, IsClock}
 use Rattle.booth_node.specs.Reaction.{used}
 use Rattle.booth_node.specs.Session.{SessionEntry, Starts, Makes, IsCut, CutSend, Stand, Down, Hearing, AreSessions, after_entries}
 use Rattle.booth_node.specs.Records.{Has, record_at, may_be_kept}
@@ -106,6 +106,13 @@ abbrev pub ReadsClock : World → WorldEntry → SessionEntry → Type 0
 ReadsClock w entry (Starts node reading records) = reading ≡ clock_at w entry.member entry.time
 ReadsClock w entry (Makes (calls.Now reading)) = reading ≡ clock_at w entry.member entry.time
 ReadsClock w entry what = Unit {0}
+
+-- Each member has one clock through all its starts, which never falls, and reads nothing else.
+pub record HasRisingClocks (w : World) : Type 0 where
+  pub some : 0 < w.span
+  pub long : (m : ℕ) → m < members_of w → length (w.clock m) ≡ w.span
+  pub rising : (m : ℕ) → m < members_of w → IsRising (w.clock m)
+  pub read : AtEach w (λ before entry. ReadsClock w entry entry.what)
 
 -- Each member has one clock through all its starts, which drifts within the bounds, and reads nothing else.
 pub record HasTrueClocks (w : World) : Type 0 where
@@ -203,6 +210,18 @@ pub record IsWorld (w : World) : Type 0 where
   pub nothing_held : BeginsFree w
   pub same_members : AtEach w (λ before entry. HasConfiguration w entry entry.what)
   pub true_clocks : HasTrueClocks w
+  pub records_return : AtEach w (λ before entry. ReadsKept w before entry entry.what)
+  pub versions_rise : AtEach w (λ before entry. StaysSecond w before entry entry.what)
+  pub members_speak : AtEach w (λ before entry. HearsSent w before (stand_after entry.member before) entry.what)
+  pub one_daemon : (m : ℕ) → m < members_of w → AreSessions Down (entries_of m w.entries)
+
+-- An untimed world has all these premises but that clocks are true: they rise, and nothing is asked of their pace. Each
+-- world is one.
+pub record IsUntimedWorld (w : World) : Type 0 where
+  pub form : HasForm w
+  pub nothing_held : BeginsFree w
+  pub same_members : AtEach w (λ before entry. HasConfiguration w entry entry.what)
+  pub rising_clocks : HasRisingClocks w
   pub records_return : AtEach w (λ before entry. ReadsKept w before entry entry.what)
   pub versions_rise : AtEach w (λ before entry. StaysSecond w before entry entry.what)
   pub members_speak : AtEach w (λ before entry. HearsSent w before (stand_after entry.member before) entry.what)

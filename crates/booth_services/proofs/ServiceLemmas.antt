@@ -14,6 +14,7 @@ use Rattle.booth_world.specs.Held.{AreApart, IsApartFrom}
 use Rattle.booth_world.specs.Tellers.{BearsOut, HasLine, IsListed, Tells, address_at}
 use Rattle.booth_world.specs.Worlds.{IsLater, ReleasedIn}
 use Rattle.booth_world.proofs.TellerWorlds.{who_tells_has_kept}
+use Rattle.booth_world.proofs.Untimed.{untimed}
 use Rattle.booth_world.proofs.WorldLaws.{worlds_are_apart}
 use Rattle.booth_follow_rule.specs.Known.{Row, Started, known_first, rows_of}
 use Rattle.booth_follow_rule.specs.Laws.{HasTold, IsEnd, known_from}
@@ -101,7 +102,7 @@ module _ (w : World) (is_world : IsWorld w) (ticket : TicketConf) (automatic : I
   -- a clock does not fall
   rises_to : (m early late : ℕ) → m < members_of w → early ≤ late → late < w.span → clock_at w m early ≤ clock_at w m late
   rises_to m early late below on within =
-      (is_world.true_clocks.clocks m below).rises early late on
+      (is_world.true_clocks.clocks m below).rising.rises early late on
       (let long = is_world.true_clocks.long m below in omega (arith, long, within))
 
   -- a record is in force at a time where it is so later
@@ -163,7 +164,7 @@ module _ (w : World) (is_world : IsWorld w) (ticket : TicketConf) (automatic : I
       )
 
       kept : (kept : Record) × Has (may_at w ticket entry.member moment) kept × IsSomeAnd kept.lease (λ lease. BearsOut (IsListed digits) lease.until)
-      kept = who_tells_has_kept w is_world ticket automatic moment entry (at.after, refl) (IsListed digits) tells
+      kept = who_tells_has_kept w (untimed w is_world) ticket automatic moment entry (at.after, refl) (IsListed digits) tells
 
       in_force : IsInForce kept.0 (clock_at w m time)
       in_force =

@@ -19,14 +19,16 @@ is_clock : (f : ℕ → ℕ) (n : ℕ) → ((s t : ℕ) → s ≤ t → t < n �
     → ((t : ℕ) → t < n → f t < 2 ^ 62)
     → IsClock 1 (map f (range_with_len 0 n))
 is_clock f n rises slow fast small = record {
-  rises = λ s t le below. let b : t < n = short t below in
-      let x = at s (omega (arith, le, below)) in let y = at t below in let g = rises s t le b in omega (arith, x, y, g);
+  rising = record {
+    rises = λ s t le below. let b : t < n = short t below in
+        let x = at s (omega (arith, le, below)) in let y = at t below in let g = rises s t le b in omega (arith, x, y, g);
+    small = λ t below. let b : t < n = short t below in
+        let y = at t below in let g = small t b in omega (arith, y, g);
+  };
   not_slow = λ s t le below. let b : t < n = short t below in
       let x = at s (omega (arith, le, below)) in let y = at t below in let g = slow s t le b in omega (arith, x, y, g);
   not_fast = λ s t le below. let b : t < n = short t below in
       let x = at s (omega (arith, le, below)) in let y = at t below in let g = fast s t le b in omega (arith, x, y, g);
-  small = λ t below. let b : t < n = short t below in
-      let y = at t below in let g = small t b in omega (arith, y, g);
 }
   where
     short : (t : ℕ) → t < length (map f (range_with_len 0 n)) → t < n

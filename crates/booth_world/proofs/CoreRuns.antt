@@ -149,15 +149,15 @@ pub held : (c : Cluster) (cast : Cast) (cores : Cores) (w : WorldState) (s : ℕ
 held c cast cores w s i h = let z = held_by c cast cores w s h.0 i h.1 in (z.0, z.2)
 
 pub cores_hold_one : CoresHoldOne
-cores_hold_one c cast entries course s t hs ht =
+cores_hold_one c cast entries course timed s t hs ht =
     let r = runs_of c cast entries [] course in
     let cores = early_cores c cast entries in
-    runs_hold_one c course.clocks r.first r.run_first s t
+    runs_hold_one c course.clocks timed r.first r.run_first s t
     (held c cast cores (world_of c r.first) s r.early_holds hs)
     (held c cast cores (world_of c r.first) t r.early_holds ht)
 
 pub cores_are_apart : CoresAreApart
-cores_are_apart c cast early late course s t other k hs ht =
+cores_are_apart c cast early late course timed s t other k hs ht =
     let r = runs_of c cast early late course in
     let w = world_of c r.first in
     let z = world_of c (r.first ++ r.more) in
@@ -175,7 +175,7 @@ cores_are_apart c cast early late course s t other k hs ht =
     (λ (new : IsReleaseIn c cast (early_cores c cast early) late b.release).
     inr (b.release, new, subst (λ (k : Record). GivesBackLease s k.lease b.release) first.1 b.gives_back))
     (all_released c cast course.clocks course.is_cast (early_cores c cast early) late r.first b.release r.run_first r.early_holds course.enters_late in_late))
-    (runs_hold_apart c course.clocks r.first r.more r.run_all s t other first.0 first.2
+    (runs_hold_apart c course.clocks timed r.first r.more r.run_all s t other first.0 first.2
     (held c cast (late_cores c cast early late) z t r.late_holds ht))
 
 pub core_terms : CoreTermsNeverFall
@@ -184,7 +184,7 @@ core_terms c cast early late course s term below at k has =
     let w = world_of c r.first in
     let z = world_of c (r.first ++ r.more) in
     let one = kept_of cast.id_of (z.member s).may k (subst (λ (l : List Record). Has l k) (sym (r.late_holds.each s below).same_may) has) in
-    let l = runs_keep_terms c course.clocks r.first r.more r.run_all s term
+    let l = runs_keep_terms c r.first r.more r.run_all s term
     (λ y h. at (record_in cast.id_of y)
     (subst (λ (l : List Record). Has l (record_in cast.id_of y)) (r.early_holds.each s below).same_may (record_has cast.id_of (w.member s).may y h)))
     one.0 one.1 in
@@ -278,12 +278,12 @@ all_are_second c cast early late course r es ls =
     (second_from c cast course.clocks course.is_cast (early_cores c cast early) late early_up ls course.enters_late)
 
 pub later_core : LaterCoreHasLaterTerm
-later_core c cast early late course es ls s t other k n l m kl nl hs ht =
+later_core c cast early late course timed es ls s t other k n l m kl nl hs ht =
     let r = runs_of c cast early late course in
     let w = world_of c r.first in
     let z = world_of c (r.first ++ r.more) in
     let second = all_are_second c cast early late course r es ls in
     let a = held_by c cast (early_cores c cast early) w s k r.early_holds hs in
     let b = held_by c cast (late_cores c cast early late) z t n r.late_holds ht in
-    runs_rise c course.clocks r.first r.more r.run_all second s t other a.0 b.0 l m
+    runs_rise c course.clocks timed r.first r.more r.run_all second s t other a.0 b.0 l m
     (ap (λ (k : Record). k.lease) a.1 ∙ kl) (ap (λ (k : Record). k.lease) b.1 ∙ nl) a.2 b.2

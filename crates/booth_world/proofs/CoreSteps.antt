@@ -209,7 +209,7 @@ module _ (c : Cluster) (cast : Cast) (clocks : HasClocks c) (is_cast : IsCast c 
       let a = k.past in
       let b = g.facts.within in
       let e = clocks.long m below in
-      let s : reads c m (w.member m).at < 2 ^ 62 = (clocks.clocks m below).small (w.member m).at (omega arith) in
+      let s : reads c m (w.member m).at < 2 ^ 62 = (clocks.rising m below).small (w.member m).at (omega arith) in
       subst (λ (r : ℕ). r < 2 ^ 62) (sym k.clock) s
 
   -- ---- calls

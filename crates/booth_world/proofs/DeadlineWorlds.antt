@@ -20,7 +20,7 @@ use Rattle.booth_node.specs.Reaction.{Send, Keep, Start, used}
 use Rattle.booth_node.specs.Records.{record_at}
 use Rattle.booth_node.specs.Session.{MayMake, SessionEntry, Starts, Makes, IsCut, Stand, Down, Doing, Hearing, MayDo, AreSessions, after_call, after_entry, after_entries}
 use Rattle.booth_node.specs.State.{State}
-use Rattle.booth_node.specs.World.{HasConfiguration, WorldEntry, World, IsWorld, entries_of, members_of, stand_after}
+use Rattle.booth_node.specs.World.{HasConfiguration, WorldEntry, World, entries_of, members_of, stand_after, IsUntimedWorld}
 use Rattle.booth_world.specs.NodeWaits.{IsComing, RestsWithDeadlines, StandsWithDeadlines, WorldsWaitersHaveDeadlines}
 use Rattle.booth_world.proofs.Configured.{timed_so}
 use Rattle.booth_world.proofs.DeadlineLaws.{waiters_have_deadlines}
@@ -81,7 +81,7 @@ starts node sound reading records all = record { reading = refl; each_is = by_ti
         kinds true s rec short = manual_waiters_have_jobs.starts rec (start_reading reading)
         kinds false s rec short = (short, waiters_have_deadlines.starts s rec (start_reading reading))
 
-module _ (w : World) (is_world : IsWorld w) (m : ℕ) (below : m < members_of w) where
+module _ (w : World) (is_world : IsUntimedWorld w) (m : ℕ) (below : m < members_of w) where
   abbrev CalmAfter : List WorldEntry → Type 0
   CalmAfter before = StandsCalm (stand_after m before)
 

@@ -8,7 +8,7 @@ use Rattle.booth_base.specs.declared.name.Name.{Name}
 use Rattle.booth_world.specs.Calls.{IsMember}
 use Rattle.booth_node.specs.Clock.{IsClock}
 use Rattle.booth_world.specs.Facts.{Has, Round, Answer, Release}
-use Rattle.booth_world.specs.States.{KeptRecord, Promise, WorldState, opening, Cluster, HasClocks}
+use Rattle.booth_world.specs.States.{KeptRecord, Promise, WorldState, opening, Cluster, HasClocks, IsTimed}
 use Rattle.booth_world.specs.Steps.{WorldStep, IsRun, happens, after_steps, world_of}
 use Rattle.booth_world.specs.Held.{Held}
 use Rattle.booth_world.specs.Examples.{ahead, behind, exact, clock_of, three, unleased, won_by, first_round, second_round, third_round, first_release, granted, renewed, released, granted_elsewhere, crashed_and_started, start, id_of_place, first_caller}
@@ -21,10 +21,12 @@ use Rattle.booth_world.proofs.WorldGood.{bare_well}
 near_clock : (readings : List ℕ) → length readings ≡ 8
     → ((t : ℕ) → t < 8 → (t ≤ slice_index readings t) × (slice_index readings t ≤ t + 1)) → IsClock 1 readings
 near_clock readings long near = record {
-  rises = λ a b ab h. by_order a b ab h (ℕ_discrete a b);
   not_slow = λ a b ab h. let x = near a (omega (arith, long)) in let y = near b (omega (arith, long)) in omega (arith, x.0, x.1, y.0, y.1);
   not_fast = λ a b ab h. let x = near a (omega (arith, long)) in let y = near b (omega (arith, long)) in omega (arith, x.0, x.1, y.0, y.1);
-  small = λ t h. let x = near t (omega (arith, long)) in omega (arith, x.0, x.1, long);
+  rising = record {
+    rises = λ a b ab h. by_order a b ab h (ℕ_discrete a b);
+    small = λ t h. let x = near t (omega (arith, long)) in omega (arith, x.0, x.1, long);
+  };
 }
   where
     by_order : (a b : ℕ) → a ≤ b → b < length readings → Dec (a ≡ b) → slice_index readings a ≤ slice_index readings b
@@ -36,7 +38,7 @@ near_clock readings long near = record {
         omega (arith, x.0, x.1, y.0, y.1, less)
 
 -- what holds of each number below 8
-below_eight : (Q : ℕ → Type 0) → Q 0 → Q 1 → Q 2 → Q 3 → Q 4 → Q 5 → Q 6 → Q 7 → (t : ℕ) → t < 8 → Q t
+pub below_eight : (Q : ℕ → Type 0) → Q 0 → Q 1 → Q 2 → Q 3 → Q 4 → Q 5 → Q 6 → Q 7 → (t : ℕ) → t < 8 → Q t
 below_eight Q a b c d e f g h zero l = a
 below_eight Q a b c d e f g h (suc zero) l = b
 below_eight Q a b c d e f g h (suc (suc zero)) l = c
@@ -82,40 +84,43 @@ each_clock zero = near_clock ahead refl ahead_near
 each_clock (suc zero) = near_clock behind refl behind_near
 each_clock (suc (suc m)) = near_clock exact refl exact_near
 
+pub three_timed : IsTimed three
+three_timed = record { ticking = omega arith; clocks = λ m h. each_clock m }
+
 pub three_clocks : HasClocks three
-three_clocks = record { ticking = omega arith; some = omega arith; long = λ m h. each_long m; clocks = λ m h. each_clock m; begins = λ m. bare_well 3 _ }
+three_clocks = record { some = omega arith; long = λ m h. each_long m; rising = λ m h. (each_clock m).rising; begins = λ m. bare_well 3 _ }
 
 -- ---- parts of conditions
 
-runs_append : (c : Cluster) (w : WorldState) (early late : List WorldStep) → IsRun c w early → IsRun c (after_steps c w early) late
+pub runs_append : (c : Cluster) (w : WorldState) (early late : List WorldStep) → IsRun c w early → IsRun c (after_steps c w early) late
     → IsRun c w (early ++ late)
 runs_append c w [] late a b = b
 runs_append c w (step ∷ early) late a b = (a.0, runs_append c (happens c w step) early late a.1 b)
 
-only : {A : Type 0} (Q : A → Type 0) (x : A) → Q x → (y : A) → Has (x ∷ []) y → Q y
+pub only : {A : Type 0} (Q : A → Type 0) (x : A) → Q x → (y : A) → Has (x ∷ []) y → Q y
 only Q x h y i = ⊎_elim (λ (e : x ≡ y). subst Q e h) (λ (n : ⊥). absurd n) i
 
 -- whom a member is bound or promised to is the one
-just : (s : ℕ) → ForSome (Some s) (λ b. b ≡ s)
+pub just : (s : ℕ) → ForSome (Some s) (λ b. b ≡ s)
 just s b e = sym (some_same s b e)
 
 nobody : (s : ℕ) → ForSome None (λ b. b ≡ s)
 nobody s b e = absurd (none_is b e)
 
-no_promise : (s reading : ℕ) → ForSome None (λ (p : Promise). p.to ≢ s → p.until ≤ reading)
+pub no_promise : (s reading : ℕ) → ForSome None (λ (p : Promise). p.to ≢ s → p.until ≤ reading)
 no_promise s reading p e = absurd (none_is p e)
 
 same_promise : (q : Promise) (s reading : ℕ) → q.to ≡ s → ForSome (Some q) (λ p. p.to ≢ s → p.until ≤ reading)
 same_promise q s reading to p e other = absurd (other (subst (λ (y : Promise). y.to ≡ s) (some_same q p e) to))
 
 -- two members answered, last of all
-both : (f : List Answer) (r : Round) (s : ℕ) (a b : Answer) → a.member ≡ s → b.member ≡ 2 → a.round ≡ r → b.round ≡ r
+pub both : (f : List Answer) (r : Round) (s : ℕ) (a b : Answer) → a.member ≡ s → b.member ≡ 2 → a.round ≡ r → b.round ≡ r
     → (m : ℕ) → Has (s ∷ 2 ∷ []) m → (x : Answer) × (Has (b ∷ a ∷ f) x) × (x.member ≡ m) × (x.round ≡ r)
 both f r s a b ea eb ra rb =
     new_or_old (λ (m : ℕ). (x : Answer) × (Has (b ∷ a ∷ f) x) × (x.member ≡ m) × (x.round ≡ r)) s (2 ∷ []) (a, inr (inl refl), ea, ra)
     (only (λ (m : ℕ). (x : Answer) × (Has (b ∷ a ∷ f) x) × (x.member ≡ m) × (x.round ≡ r)) 2 (b, inl refl, eb, rb))
 
-abbrev answer_of : ℕ → Round → ℕ → ℕ → Answer
+abbrev pub answer_of : ℕ → Round → ℕ → ℕ → Answer
 answer_of m r reading at = record { member = m; round = r; reading = reading; at = at }
 
 abbrev first_answers : List Answer
@@ -124,7 +129,7 @@ first_answers = answer_of 2 first_round 6 6 ∷ answer_of 0 first_round 7 6 ∷ 
 abbrev second_answers : List Answer
 second_answers = answer_of 2 second_round 7 7 ∷ answer_of 0 second_round 8 7 ∷ first_answers
 
-not_one : zero ≡ suc zero → ⊥
+pub not_one : zero ≡ suc zero → ⊥
 not_one e = cc
 
 pub inactive : false ≡ true → ⊥

@@ -126,7 +126,7 @@ member_firm c now f m x ReadsClock i may second = record { second = i.second; st
 -- ---- the facts of a step
 
 -- the answers are as they were, and the member's own new one is firm
-answers_firm :
+pub answers_firm :
     (c : Cluster) (now : ℕ) (f : Facts) (m : ℕ) (x : MemberState) (step : MemberStep)
     → MemberFirm f.answers m x → May c f m x step → StartsSecond (MemberDoes m step)
     → MemberFirm (facts_after now m x step f).answers m (member_after c now m x step)
@@ -151,7 +151,7 @@ answers_firm c now f m x (Starts k is_second) i may second = member_firm c now f
 answers_firm c now f m x ReadsClock i may second = member_firm c now f m x ReadsClock i may second
 
 -- another member's answers are as they were
-others_firm : (now : ℕ) (f : Facts) (m : ℕ) (x : MemberState) (step : MemberStep) (k : ℕ) (y : MemberState) → k ≢ m
+pub others_firm : (now : ℕ) (f : Facts) (m : ℕ) (x : MemberState) (step : MemberStep) (k : ℕ) (y : MemberState) → k ≢ m
     → MemberFirm f.answers k y → MemberFirm (facts_after now m x step f).answers k y
 others_firm now f m x (Answers r given) k y other j = record {
   second = j.second;

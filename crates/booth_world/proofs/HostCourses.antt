@@ -19,12 +19,12 @@ use Rattle.booth_world.proofs.CoreReads.{StartsIn, AreStartedBy, start_more, sta
 use Rattle.booth_world.proofs.HostSteps.{HostsHold, follow_all, opens_hosts, host_held}
 
 pub hosts_hold_one : HostsHoldOne
-hosts_hold_one c cast entries course s t hs ht =
+hosts_hold_one c cast entries course timed s t hs ht =
     let clocks = course.clocks in
     let f = follow_all c cast clocks course.is_cast (opening_hosts c cast) (opening_cores c cast) entries (opens_hosts c cast clocks course.is_cast) course.hosted_early in
     let cores = cores_after c cast (opening_cores c cast) f.0 in
     let hosts = hosts_after c cast (opening_hosts c cast) entries in
-    cores_hold_one c cast f.0 (record { clocks = clocks; is_cast = course.is_cast; enters_early = f.1; enters_late = tt }) s t
+    cores_hold_one c cast f.0 (record { clocks = clocks; is_cast = course.is_cast; enters_early = f.1; enters_late = tt }) timed s t
     (hs.0, host_held c cast hosts cores s hs.0 f.2 hs.1)
     (ht.0, host_held c cast hosts cores t ht.0 f.2 ht.1)
 
@@ -55,7 +55,7 @@ followed c cast early late course =
     }
 
 pub hosts_are_apart : HostsAreApart
-hosts_are_apart c cast early late course s t other k hs ht =
+hosts_are_apart c cast early late course timed s t other k hs ht =
     let f = followed c cast early late course in
     let w = early_cores c cast f.first in
     let z = late_cores c cast f.first f.second in
@@ -65,7 +65,7 @@ hosts_are_apart c cast early late course s t other k hs ht =
     (subst (λ (b : ℕ). IsApartFrom c s k w.now b) f.late_holds.same_now apart)))
     (λ (b : (release : Release) × IsReleaseIn c cast w f.second release × GivesBackLease s k.lease release).
     inr (b.0, f.released b.0 b.1, b.2))
-    (cores_are_apart c cast f.first f.second f.course s t other k
+    (cores_are_apart c cast f.first f.second f.course timed s t other k
     (host_held c cast (early_hosts c cast early) w s k f.early_holds hs)
     (ht.0, host_held c cast (late_hosts c cast early late) z t ht.0 f.late_holds ht.1))
 
@@ -77,10 +77,10 @@ host_terms c cast early late course s term below at k has =
     k ((f.late_holds.each s below).more k has)
 
 pub later_host : LaterHostHasLaterTerm
-later_host c cast early late course es ls s t other k n l m kl nl hs ht =
+later_host c cast early late course timed es ls s t other k n l m kl nl hs ht =
     let f = followed c cast early late course in
     let IsSecond : Bool → Type 0 = λ second. second ≡ true in
-    later_core c cast f.first f.second f.course
+    later_core c cast f.first f.second f.course timed
     (starts_are_second f.first (start_more (StartsIn early) IsSecond (boots_are_second early es) f.first f.first_starts))
     (starts_are_second f.second (start_more (StartsIn late) IsSecond (boots_are_second late ls) f.second f.second_starts))
     s t other k n l m kl nl

@@ -108,7 +108,7 @@ module _ (c : Cluster) (cast : Cast) (clocks : HasClocks c) (is_cast : IsCast c 
   own_place m session below = (ap (λ (s : Setup). s.place) (is_cast.seated m below session), ap (λ (s : Setup). s.members) (is_cast.seated m below session))
 
   small : (m time : ℕ) → m < c.members → time < c.span → reads c m time < 2 ^ 62
-  small m time below within = let e = clocks.long m below in (clocks.clocks m below).small time (omega arith)
+  small m time below within = let e = clocks.long m below in (clocks.rising m below).small time (omega arith)
 
   -- nothing waits at a core that is idle
   at_rest_of : (place : CorePlace) (view : View) {s : Setup} {session : Session} {now : ℕ} → IsIdle s session now view place → ForSome place.view (λ v. v.waiting ≡ None)

@@ -3,7 +3,7 @@ use Rattle.std.proofs.Common.{◌≡◌, ◌≢◌, ℕ, ◌+◌, ◌<◌, ◌�
 use Rattle.std.specs.Prelude.{Option, Some, IsSomeAnd}
 use Rattle.booth_rec.specs.declared.record.Lease.{Lease}
 use Rattle.booth_world.specs.Facts.{Round}
-use Rattle.booth_world.specs.States.{KeptRecord, WorldState, opening, Cluster, HasClocks, reads, promise_time}
+use Rattle.booth_world.specs.States.{KeptRecord, WorldState, opening, Cluster, HasClocks, IsTimed, reads, promise_time}
 use Rattle.booth_world.specs.Steps.{WorldStep, IsRun, AreSecond, after_steps}
 use Rattle.booth_world.specs.Held.{IsHeldBy}
 use Rattle.booth_world.proofs.Lists.{some_same}
@@ -16,11 +16,11 @@ use Rattle.booth_world.proofs.Firm.{IsEarlier, Firm, opening_firm, run_firm}
 
 -- the lease that holds early, and the one that holds late, with the answers of a member of both majorities
 later_term :
-    (c : Cluster) → HasClocks c → (w z : WorldState) (s t : ℕ) → Good c w → Good c z → Firm c z → Later w z → s ≢ t
+    (c : Cluster) → HasClocks c → IsTimed c → (w z : WorldState) (s t : ℕ) → Good c w → Good c z → Firm c z → Later w z → s ≢ t
     → t < c.members → (l m : Lease) → LeaseGood c w.facts.leases w.facts.releases s l → LeaseGood c z.facts.leases z.facts.releases t m
     → reads c t z.now < m.until
     → l.term < m.term
-later_term c clocks w z s t gw gz firm later other tm l m lg mg m_force =
+later_term c clocks timed w z s t gw gz firm later other tm l m lg mg m_force =
     let lw = gw.facts.leases lg.gained lg.fact in
     let lz = gz.facts.leases lg.gained (later.leases lg.gained lg.fact) in
     let mz = gz.facts.leases mg.gained mg.fact in
@@ -40,7 +40,7 @@ later_term c clocks w z s t gw gz firm later other tm l m lg mg m_force =
     (λ (spent : b.reading + promise_time c ≤ a.reading).
     let early = lw.past in
     let a_early : a.at ≤ w.now = let x = p.4 in omega arith in
-    let n = times_apart c clocks z.now z.now w.now t mg.gained.round z.facts.rounds b a m gz.facts.within gz.facts.within tm mg.site
+    let n = times_apart c clocks timed z.now z.now w.now t mg.gained.round z.facts.rounds b a m gz.facts.within gz.facts.within tm mg.site
     (gz.facts.rounds mg.gained.round mz.round) mg.until m_force (gz.facts.answers b q.1) (gz.facts.answers a p.1) q.3 (sym member) a_early spent in
     let on = later.now in omega arith)
     (λ (f : Freed z.facts.releases b.round). let n = mg.above f.release f.fact (f.site ∙ b_site) in let x = f.term in omega (arith, b_term))
@@ -54,11 +54,11 @@ force_of o reading l force is =
     subst (λ (y : Lease). reading < y.until) (some_same q.0 l (sym q.1 ∙ is)) q.2
 
 pub runs_rise :
-    (c : Cluster) → HasClocks c → (early late : List WorldStep) → IsRun c (opening c) (early ++ late) → AreSecond (early ++ late)
+    (c : Cluster) → HasClocks c → IsTimed c → (early late : List WorldStep) → IsRun c (opening c) (early ++ late) → AreSecond (early ++ late)
     → (s t : ℕ) → s ≢ t → (k n : KeptRecord) (first second : Lease) → k.lease ≡ Some first → n.lease ≡ Some second
     → IsHeldBy c (after_steps c (opening c) early) s k → IsHeldBy c (after_steps c (opening c) (early ++ late)) t n
     → first.term < second.term
-runs_rise c clocks early late run are s t other k n l m kl nl hs ht =
+runs_rise c clocks timed early late run are s t other k n l m kl nl hs ht =
     let w = after_steps c (opening c) early in
     let z = after_steps c (opening c) (early ++ late) in
     let first = run_first c (opening c) early late run in
@@ -68,6 +68,6 @@ runs_rise c clocks early late run are s t other k n l m kl nl hs ht =
     let on : Later w z = subst (λ (y : WorldState). Later w y) (sym (after-append c (opening c) early late)) (run_later c w late second) in
     let held_early : reads c s w.now < l.until = force_of k.lease (reads c s w.now) l hs.in_force kl in
     let held_late : reads c t z.now < m.until = force_of n.lease (reads c t z.now) m ht.in_force nl in
-    later_term c clocks w z s t gw gz (run_firm c clocks (opening c) (early ++ late) (opening_good c clocks) (opening_firm c) run are) on other ht.below l m
+    later_term c clocks timed w z s t gw gz (run_firm c clocks (opening c) (early ++ late) (opening_good c clocks) (opening_firm c) run are) on other ht.below l m
     (force_good c clocks w s gw hs.below k hs.may l kl held_early) (force_good c clocks z t gz ht.below n ht.may m nl held_late)
     held_late

@@ -1,3 +1,4 @@
+pub mod Untimed
 pub mod Drift
 pub mod Majority
 pub mod Lists
@@ -16,6 +17,9 @@ pub mod KeptTerms
 pub mod Runs
 pub mod Firm
 pub mod LaterTerms
+pub mod Fenced
+pub mod FencedLaws
+pub mod FencedLives
 pub mod ExampleRuns
 pub mod Places
 pub mod Views
@@ -61,6 +65,7 @@ pub mod Configured
 pub mod WorldLaws
 pub mod WorldShadows
 pub mod WorldGrowth
+pub mod FencedWorlds
 pub mod LogSessions
 pub mod LoneRuns
 pub mod TellerTexts
@@ -83,3 +88,5 @@ pub mod AloneLemmas
 pub mod LastNumberLemmas
 pub mod DeadlineNodes
 pub mod DeadlineWorlds
+pub mod FencedExample
+pub mod FencedTellers

@@ -121,7 +121,7 @@ stands_later c z a reading later g l (Stands.Guarded h) = Stands.Guarded h
 pub reads_clock : (c : Cluster) → HasClocks c → (now : ℕ) (f : Facts) (m : ℕ) (x : MemberState) → Law c now f m x ReadsClock
 reads_clock c clocks now f m x i g below may =
     let within : now < length (c.clock m) = let l = g.within in let e = clocks.long m below in omega arith in
-    let rise : x.reading ≤ reads c m now = let r = (clocks.clocks m below).rises x.at now i.clock.past within in let e = i.clock.clock in omega arith in
+    let rise : x.reading ≤ reads c m now = let r = (clocks.rising m below).rises x.at now i.clock.past within in let e = i.clock.clock in omega arith in
     facts_stay c now f m _ g (record {
       clock = record { clock = refl; past = le_refl _ };
       may = i.may;

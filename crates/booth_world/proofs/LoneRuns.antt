@@ -15,7 +15,7 @@ use Rattle.booth_world.proofs.ExampleRuns.{same_place, each_clock, inactive}
 use Rattle.booth_world.proofs.WorldGood.{bare_well}
 
 lone_clocks : HasClocks lone
-lone_clocks = record { ticking = omega arith; some = omega arith; long = λ m h. refl; clocks = λ m h. each_clock 2; begins = λ m. bare_well 1 _ }
+lone_clocks = record { some = omega arith; long = λ m h. refl; rising = λ m h. (each_clock 2).rising; begins = λ m. bare_well 1 _ }
 
 lone_is_cast : (ticket : Name) → IsCast lone (lone_cast ticket)
 lone_is_cast ticket = record {

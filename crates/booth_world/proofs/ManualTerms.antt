@@ -18,7 +18,7 @@ use Rattle.booth_node.specs.Opening.{known_at_start, opened, opened_by, setup_of
 use Rattle.booth_node.specs.Reaction.{Ask, Send, Keep, Start, react, used}
 use Rattle.booth_node.specs.Records.{Has, record_at, may_after, may_after_all, may_after_keep, with_next}
 use Rattle.booth_node.specs.Session.{CutCall, MayMake, MayBeCut, CutKeep, CutNext, CutNow, CutSend, CutStart, SessionEntry, Starts, Makes, IsCut, Stand, Down, Doing, Hearing, MayDo, AreSessions, after_call, after_entry, after_entries}
-use Rattle.booth_node.specs.World.{HasConfiguration, IsOneTicket, ReadsKept, StartsWithIt, WorldEntry, World, members_of, entries_of, stand_after, IsWorld, begins_with}
+use Rattle.booth_node.specs.World.{HasConfiguration, IsOneTicket, ReadsKept, StartsWithIt, WorldEntry, World, members_of, entries_of, stand_after, begins_with, IsUntimedWorld}
 use Rattle.booth_ticket.specs.Ticket.{TicketState, Known, Automatic, Manual}
 use Rattle.booth_world.specs.Kept.{IsOfKind, RestsInKind, StandsInKind}
 use Rattle.booth_world.specs.Worlds.{IsLater}
@@ -243,7 +243,7 @@ module _ (own_name : List ℕ) where
 
 -- ---- a world
 
-module _ (w : World) (is_world : IsWorld w) (ticket : TicketConf) (one : IsOneTicket w ticket) (by_hand : ticket.manual ≡ true)
+module _ (w : World) (is_world : IsUntimedWorld w) (ticket : TicketConf) (one : IsOneTicket w ticket) (by_hand : ticket.manual ≡ true)
     (m : ℕ) (below : m < members_of w) where
   abbrev start : Record
   start = begins_with w m ticket.name

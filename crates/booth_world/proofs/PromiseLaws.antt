@@ -13,7 +13,7 @@ use Rattle.booth_world.proofs.Lists.{new_or_old, none_is, some_same}
 use Rattle.booth_world.proofs.Invariant.{Freed, Covers, StateGuard, RecordsCover, Guard, Stands, PromiseGood, PledgesGood, AnswerGood, AnswerFact, Apart}
 use Rattle.booth_world.proofs.Stays.{Law, facts_stay, not_up, stands_by, stands_beside}
 
-round_kept : (m s t : ℕ) (x : MemberState) (r : Round) → round_left m x s t ≡ Some r → (x.round ≡ Some r) × (x.term ≡ t)
+pub round_kept : (m s t : ℕ) (x : MemberState) (r : Round) → round_left m x s t ≡ Some r → (x.round ≡ Some r) × (x.term ≡ t)
 round_kept m s t x r e = go (s == m) (nat_eq x.term t) refl e
   where
     go : (a b : Bool) → nat_eq x.term t ≡ b → (if a && b then x.round else None) ≡ Some r → (x.round ≡ Some r) × (x.term ≡ t)

@@ -32,7 +32,7 @@ use Rattle.booth_node.specs.Opening.{known_at_start, opened, opened_by, own_plac
 use Rattle.booth_node.specs.Reaction.{Ask, Send, Keep, Start, used}
 use Rattle.booth_node.specs.Records.{Has, record_at, may_after, may_after_all, may_after_keep, may_after_start, with_next}
 use Rattle.booth_node.specs.Session.{MayMake, CutKeep, CutSend, CutStart, SessionEntry, Starts, Makes, IsCut, Stand, Down, Doing, Hearing, MayDo, AreSessions, after_call, after_entry, after_entries}
-use Rattle.booth_node.specs.World.{HasConfiguration, IsNodeOf, IsOneTicket, IsSend, StartsWithIt, WorldEntry, World, clock_at, id_at, members_of, entries_of, stand_after, IsWorld, begins_with}
+use Rattle.booth_node.specs.World.{HasConfiguration, IsNodeOf, IsOneTicket, IsSend, StartsWithIt, WorldEntry, World, clock_at, id_at, members_of, entries_of, stand_after, begins_with, IsUntimedWorld}
 use Rattle.booth_world.specs.Cores.{opening_session}
 use Rattle.booth_world.specs.Tellers.{BearsOut, Claim, IsGranted, HasLeft, EndsIn, IsListed, ClaimsLast, GrantsAreKept, IsSentAt, HasNone, IsLive, IsNext, IsStart, JobTells, SendTells, StartTells, Tells, TellersAreApart, WhoTellsHasKept, WhoTellsHolds, address_at}
 use Rattle.booth_world.specs.Worlds.{ReleasedIn}
@@ -53,6 +53,7 @@ use Rattle.booth_world.proofs.WorldLaws.{worlds_are_apart, worlds_hold_one}
 use Rattle.booth_world.proofs.WorldRuns.{append_both}
 use Rattle.booth_world.proofs.WorldSteps.{other_bytes, same_bytes, setup_by}
 use Rattle.booth_world.specs.Clusters.{cluster_of}
+use Rattle.booth_world.proofs.Untimed.{untimed}
 
 same_message : (r : Result PlainMessage FrameFault) (a b : PlainMessage) → r ≡ Ok a → r ≡ Ok b → a ≡ b
 same_message r a b e f = cc
@@ -187,7 +188,7 @@ module _ (conf : TicketConf) (me : MemberId) (address : Address) (lasts : 0 < co
 
 -- ---- a world
 
-module _ (w : World) (is_world : IsWorld w) (ticket : TicketConf) (one : IsOneTicket w ticket) (automatic : ticket.manual ≡ false) (m : ℕ)
+module _ (w : World) (is_world : IsUntimedWorld w) (ticket : TicketConf) (one : IsOneTicket w ticket) (automatic : ticket.manual ≡ false) (m : ℕ)
     (below : m < members_of w) where
   lasts : 0 < ticket.times.expire
   lasts = let e = (setup_sound w is_world.form ticket one m below (opening_session false)).renewal in omega (arith, e)
@@ -390,12 +391,12 @@ module _ (w : World) (is_world : IsWorld w) (ticket : TicketConf) (one : IsOneTi
 -- ---- the laws
 
 -- a member of the world's entries is one of its members
-entry_below : (w : World) → IsWorld w → (moment : Moment w) (entry : WorldEntry) → IsNext moment entry → entry.member < members_of w
+entry_below : (w : World) → IsUntimedWorld w → (moment : Moment w) (entry : WorldEntry) → IsNext moment entry → entry.member < members_of w
 entry_below w is_world moment entry next =
     is_world.form.members moment.before next.0 entry (moment.whole ∙ ap (λ (es : List WorldEntry). moment.before ++ es) next.1)
 
 -- what a member tells is borne out by a record that is kept for it
-backed_at : (w : World) → IsWorld w → (ticket : TicketConf) → IsAutomatic w ticket → (moment : Moment w) (entry : WorldEntry) → IsNext moment entry
+backed_at : (w : World) → IsUntimedWorld w → (ticket : TicketConf) → IsAutomatic w ticket → (moment : Moment w) (entry : WorldEntry) → IsNext moment entry
     → (claim : Claim) → Tells w ticket entry claim → IsBacked (may_at w ticket entry.member moment) claim
 backed_at w is_world ticket automatic moment entry next claim tells =
     tells_truly w is_world ticket automatic.0 automatic.1 entry.member
@@ -419,7 +420,7 @@ in_force clock claim k live some = by_lease k.lease some
     by_lease None h = absurd h
     by_lease (Some lease) h = live lease.until h
 
-held_by : (w : World) (is_world : IsWorld w) (ticket : TicketConf) (automatic : IsAutomatic w ticket)
+held_by : (w : World) (is_world : IsUntimedWorld w) (ticket : TicketConf) (automatic : IsAutomatic w ticket)
     (moment : Moment w) (entry : WorldEntry) (next : IsNext moment entry) (claim : Claim) (tells : Tells w ticket entry claim)
     → IsLive w entry.member moment claim
     → HoldsBy w ticket entry.member moment (who_tells_has_kept w is_world ticket automatic moment entry next claim tells).0
@@ -430,19 +431,19 @@ held_by w is_world ticket automatic moment entry next claim tells live =
 pub who_tells_holds : WhoTellsHolds
 who_tells_holds w is_world ticket automatic moment entry next claim tells live =
     let holds : Holds w ticket entry.member moment = (
-      (who_tells_has_kept w is_world ticket automatic moment entry next claim tells).0,
-      held_by w is_world ticket automatic moment entry next claim tells live,
+      (who_tells_has_kept w (untimed w is_world) ticket automatic moment entry next claim tells).0,
+      held_by w (untimed w is_world) ticket automatic moment entry next claim tells live,
     ) in
     (holds, λ other by_other. worlds_hold_one w is_world ticket automatic moment entry.member other holds by_other)
 
 pub tellers_are_apart : TellersAreApart
 tellers_are_apart w is_world ticket automatic early late between later first second at_first at_second ne claim other tells tells_too live live_too =
-    let q = who_tells_has_kept w is_world ticket automatic early first at_first claim tells in
+    let q = who_tells_has_kept w (untimed w is_world) ticket automatic early first at_first claim tells in
     let holds : HoldsBy w ticket first.member early q.0 =
-    held_by w is_world ticket automatic early first at_first claim tells live in
+    held_by w (untimed w is_world) ticket automatic early first at_first claim tells live in
     let holds_too : Holds w ticket second.member late = (
-      (who_tells_has_kept w is_world ticket automatic late second at_second other tells_too).0,
-      held_by w is_world ticket automatic late second at_second other tells_too live_too,
+      (who_tells_has_kept w (untimed w is_world) ticket automatic late second at_second other tells_too).0,
+      held_by w (untimed w is_world) ticket automatic late second at_second other tells_too live_too,
     ) in
     ⊎_elim
     (λ (apart : IsApartFrom (cluster_of w ticket) first.member q.0 early.time late.time).

@@ -26,7 +26,7 @@ use Rattle.booth_node.specs.Reaction.{Ask, Send, Keep, Start, used, react}
 use Rattle.booth_node.specs.Records.{may_after_keep, may_after, record_at}
 use Rattle.booth_node.specs.Session.{CutCall, CutNext, CutNow, CutSend, CutKeep, CutStart, Starts, Makes, IsCut, Stand, Down, Doing, Hearing, MayMake, after_call, MayBeCut}
 use Rattle.booth_node.specs.State.{State}
-use Rattle.booth_node.specs.World.{World, members_of, clock_at, HasTrueClocks, HoldsNothing, begins_with}
+use Rattle.booth_node.specs.World.{World, members_of, clock_at, HoldsNothing, begins_with, HasRisingClocks}
 use Rattle.booth_world.specs.Facts.{Has, Release}
 use Rattle.booth_world.specs.Turns.{Keeps, TurnTree, turn_tree}
 use Rattle.booth_world.specs.Hosts.{BeginsTurn, DoesAsk, Halts, Boots, HostPlace, Hosts, pending_in, pending, MayBegin, MayCome, begun, hosted, hosts_after}
@@ -132,13 +132,12 @@ revoked w ticket setting m session node below term term' same tree deeds says to
     subst (λ (places : List ℕ). SendsEach node.config places (IsRevocation ticket.name term') deeds) (sym (alone (members_of w) m below few)) tt)
     (has_others (members_of w))
 
-module _ (w : World) (clocks : HasTrueClocks w) (ticket : TicketConf) (setting : Setting w ticket) where
+module _ (w : World) (clocks : HasRisingClocks w) (ticket : TicketConf) (setting : Setting w ticket) where
   pub has_clocks : ((m : ℕ) → HoldsNothing w m (clock_at w m 0) (begins_with w m ticket.name)) → HasClocks (cluster w ticket setting)
   has_clocks free = record {
-    ticking = clocks.ticking;
     some = clocks.some;
     long = clocks.long;
-    clocks = clocks.clocks;
+    rising = clocks.rising;
     begins = λ m. begins_well w ticket setting m (clock_at w m 0) (begins_with w m ticket.name) (free m);
   }
 
@@ -146,11 +145,11 @@ module _ (w : World) (clocks : HasTrueClocks w) (ticket : TicketConf) (setting :
   read_by m time = reads (cluster w ticket setting) m time
 
   small_at : (m time : ℕ) → m < members_of w → time < w.span → read_by m time < 2 ^ 62
-  small_at m time below within = (clocks.clocks m below).small time (subst (λ (n : ℕ). time < n) (sym (clocks.long m below)) within)
+  small_at m time below within = (clocks.rising m below).small time (subst (λ (n : ℕ). time < n) (sym (clocks.long m below)) within)
 
   rises_at : (m early late : ℕ) → m < members_of w → early ≤ late → late < w.span → read_by m early ≤ read_by m late
   rises_at m early late below later within =
-      (clocks.clocks m below).rises early late later (subst (λ (n : ℕ). late < n) (sym (clocks.long m below)) within)
+      (clocks.rising m below).rises early late later (subst (λ (n : ℕ). late < n) (sym (clocks.long m below)) within)
 
   abbrev pub Stepping : Hosts → ℕ → Session → Stand → List Record → (Trace → Type 0) → Type 0
   Stepping hosts m session stand may R = Steps w ticket setting hosts m session stand may R

@@ -17,7 +17,7 @@ use Rattle.booth_node.specs.Opening.{opened, start_reading}
 use Rattle.booth_node.specs.Reaction.{Send, Keep, Start, used}
 use Rattle.booth_node.specs.Records.{Has as Holds, may_after, may_after_all, record_at}
 use Rattle.booth_node.specs.Session.{CutCall, CutNext, CutNow, CutSend, CutKeep, CutStart, SessionEntry, Starts, Makes, IsCut, Stand, Down, Doing, Hearing, MayMake, MayBeCut, MayDo, did, after_call, after_entry, AreSessions}
-use Rattle.booth_node.specs.World.{WorldEntry, World, members_of, clock_at, IsNodeOf, entries_of, HasConfiguration, ReadsClock, ReadsKept, StaysSecond, StartsWithIt, IsSend, HearsSent, stand_after, IsWorld, begins_with}
+use Rattle.booth_node.specs.World.{WorldEntry, World, members_of, clock_at, IsNodeOf, entries_of, HasConfiguration, ReadsClock, ReadsKept, StaysSecond, StartsWithIt, IsSend, HearsSent, stand_after, begins_with, IsUntimedWorld}
 use Rattle.booth_world.specs.Cores.{Session, opening_session}
 use Rattle.booth_world.specs.Facts.{Has, Release}
 use Rattle.booth_world.specs.Turns.{Keeps, TurnTree}
@@ -34,7 +34,7 @@ use Rattle.booth_world.proofs.WorldSteps.{Trace, Frees, Reads, Begins, IsTrace, 
 use Rattle.booth_world.proofs.WorldEntries.{read_by, used_is, HearsGoodAt, ReadsHere, makes, cuts, starts, started_is, when_true, when_false}
 use Rattle.booth_world.proofs.WorldHosts.{has_here, entries_join, entry_own, in_either, last_join, other_last, sessions_at, has_one, has_none, last_makes, last_rests, no_call, up_after, no_stand, was_second, may_of, after_hosts, IsSaidBy, IdlesAt, IsAt, Placed, PlacedAfter, placed_on, placed_more, placed_of, shows_of, Shadows, send_said, hears_so}
 
-module _ (w : World) (is_world : IsWorld w) (ticket : TicketConf) (setting : Setting w ticket) where
+module _ (w : World) (is_world : IsUntimedWorld w) (ticket : TicketConf) (setting : Setting w ticket) where
   -- what an entry of a member that stands so leads its host to
   pub record Went (hosts : Hosts) (m : ℕ) (stand : Stand) (may : List Record) (second : Bool) (last : LastStand) (what : SessionEntry) : Type 0 where
     pub entries : List HostEntry
@@ -142,12 +142,12 @@ module _ (w : World) (is_world : IsWorld w) (ticket : TicketConf) (setting : Set
       (second : Bool) (last : LastStand) → Placed w is_world ticket setting m stand may second last hosts.now (hosts.place m) hosts.sent
       → StandsAt w ticket setting m (hosts.place m).session stand (hosts.place m) hosts.sent
       → (last.now ≡ true) × (stand ≡ last.stand) → MayMake stand call
-      → ReadsHere w is_world.true_clocks ticket setting m (hosts.place m).session below hosts within call
-      → HearsGoodAt w is_world.true_clocks ticket setting m (hosts.place m).session below hosts within stand
+      → ReadsHere w is_world.rising_clocks ticket setting m (hosts.place m).session below hosts within call
+      → HearsGoodAt w is_world.rising_clocks ticket setting m (hosts.place m).session below hosts within stand
       → Went hosts m stand may second last (Makes call)
   went_makes hosts m below within stand call may second last x stands on d r good =
       let session : Session = (hosts.place m).session in
-      let steps = makes w is_world.true_clocks ticket setting m session below hosts within stand call may
+      let steps = makes w is_world.rising_clocks ticket setting m session below hosts within stand call may
       (shows_of w is_world ticket setting m stand may second last hosts.now (hosts.place m) hosts.sent x stands) d r good in
       let now_last = last_makes ticket.name last call on.0 in
       let same_stand : after_call stand call ≡ (last_after ticket.name last (Makes call)).stand =
@@ -177,7 +177,7 @@ module _ (w : World) (is_world : IsWorld w) (ticket : TicketConf) (setting : Set
       → Went hosts m stand may second last (IsCut call)
   went_cuts hosts m below within stand call may second last x stands d =
       let session : Session = (hosts.place m).session in
-      let steps = cuts w is_world.true_clocks ticket setting m session below hosts within stand call may
+      let steps = cuts w is_world.rising_clocks ticket setting m session below hosts within stand call may
       (shows_of w is_world ticket setting m stand may second last hosts.now (hosts.place m) hosts.sent x stands) d in
       record {
         entries = steps.entries;
@@ -217,7 +217,7 @@ module _ (w : World) (is_world : IsWorld w) (ticket : TicketConf) (setting : Set
           let agrees = agree place conf there named in
           let s = seats_of w ticket setting m node below own place conf there named agrees.1 in
           let seats : Seats w ticket setting m s.0 node = s.2 in
-          let steps = starts w is_world.true_clocks ticket setting m below hosts s.0 node reading records within all seats
+          let steps = starts w is_world.rising_clocks ticket setting m below hosts s.0 node reading records within all seats
           (ap (λ (t : TicketConf). t.manual) s.4 ∙ agrees.0 ∙ setting.automatic) clock
           (λ was. s.1 ∙ stays was)
           (subst (λ (rs : List Record). Has rs (record_at records seats.place)) (sym x.same_may)
@@ -304,14 +304,14 @@ module _ (w : World) (is_world : IsWorld w) (ticket : TicketConf) (setting : Set
         later (λ l h. h) (shadow.each e.member below)
 
     good_at : (at : Stand) (call : Entry) → Shows w ticket setting e.member session at may e.time (hosts.place e.member) hosts.sent
-        → MayMake at call → ReadsHere w is_world.true_clocks ticket setting e.member session below passed within call
+        → MayMake at call → ReadsHere w is_world.rising_clocks ticket setting e.member session below passed within call
         → HearsSent w before at (Makes call)
-        → HearsGoodAt w is_world.true_clocks ticket setting e.member session below passed within at
+        → HearsGoodAt w is_world.rising_clocks ticket setting e.member session below passed within at
     good_at (Hearing node old (Ok (arrivals.Datagram from)) bytes) (calls.Now reading) x d r heard =
         λ own member head part let_in.
         let q = hears_so w is_world ticket setting e.member session before hosts node old from bytes reading
-        (read_by w is_world.true_clocks ticket setting e.member e.time) shadow own
-        (used_is w is_world.true_clocks ticket setting e.member session below passed within old.last_reading x.time reading (x.stands.4 ∙ x.read) x.past r)
+        (read_by w is_world.rising_clocks ticket setting e.member e.time) shadow own
+        (used_is w is_world.rising_clocks ticket setting e.member session below passed within old.last_reading x.time reading (x.stands.4 ∙ x.read) x.past r)
         heard members hosts.sent refl member head part let_in in
         (q.0, q.1, q.2, q.3, (q.4, q.5))
     good_at (Hearing node old (Ok (arrivals.Datagram from)) bytes) call x d r heard = absurd d
@@ -322,7 +322,7 @@ module _ (w : World) (is_world : IsWorld w) (ticket : TicketConf) (setting : Set
     good_at Down call x d r heard = tt
     good_at (Doing node deeds) call x d r heard = tt
 
-    reads_here : (call : Entry) → ReadsClock w e (Makes call) → ReadsHere w is_world.true_clocks ticket setting e.member session below passed within call
+    reads_here : (call : Entry) → ReadsClock w e (Makes call) → ReadsHere w is_world.rising_clocks ticket setting e.member session below passed within call
     reads_here (calls.Now reading) r = r
     reads_here call r = tt
 
@@ -410,7 +410,7 @@ module _ (w : World) (is_world : IsWorld w) (ticket : TicketConf) (setting : Set
       sessions_at Down (entries_of e.member before) (entries_of e.member after) e.what
       (subst (λ (xs : List SessionEntry). AreSessions Down xs) mine (is_world.one_daemon e.member below)) in
       let went = goes before after e whole hosts shadow below within later members e.what may_do
-      (is_world.same_members before after e whole) (is_world.true_clocks.read before after e whole)
+      (is_world.same_members before after e whole) (is_world.rising_clocks.read before after e whole)
       (is_world.records_return before after e whole) (is_world.versions_rise before after e whole) (is_world.members_speak before after e whole)
       (setting.same before after e whole) in
       let last : Hosts = after_hosts w is_world ticket setting (record hosts { now = e.time }) went.entries in

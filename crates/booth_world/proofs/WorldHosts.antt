@@ -31,7 +31,7 @@ use Rattle.booth_node.specs.Reaction.{Ask, Send, Keep, Start, used}
 use Rattle.booth_node.specs.Records.{Has as Holds, may_after, may_after_all}
 use Rattle.booth_node.specs.Session.{CutSend, SessionEntry, Starts, Makes, IsCut, Stand, Down, Doing, Hearing, MayMake, MayDo, after_call, after_entry, AreSessions, after_entries}
 use Rattle.booth_node.specs.State.{State}
-use Rattle.booth_node.specs.World.{WorldEntry, World, members_of, id_at, IsNodeOf, entries_of, last_time, WasSecond, IsSend, WasSent, HearsSent, stand_after, IsWorld, begins_with}
+use Rattle.booth_node.specs.World.{WorldEntry, World, members_of, id_at, IsNodeOf, entries_of, last_time, WasSecond, IsSend, WasSent, HearsSent, stand_after, begins_with, IsUntimedWorld}
 use Rattle.booth_world.specs.Cores.{Session}
 use Rattle.booth_world.specs.States.{reads}
 use Rattle.booth_world.specs.Facts.{Has}
@@ -166,7 +166,7 @@ up_after Down call d is = absurd d
 pub no_call : (stand : Stand) (call : Entry) → stand ≡ Down → MayMake stand call → ⊥
 no_call stand call e d = subst (λ (s : Stand). MayMake s call) e d
 
-module _ (w : World) (is_world : IsWorld w) (ticket : TicketConf) (setting : Setting w ticket) where
+module _ (w : World) (is_world : IsUntimedWorld w) (ticket : TicketConf) (setting : Setting w ticket) where
   abbrev pub may_of : ℕ → List WorldEntry → List Record
   may_of m before = may_after_all ticket.name (begins_with w m ticket.name ∷ []) (entries_of m before)
 

@@ -4,18 +4,19 @@ use Rattle.std.proofs.Common.{◌≡◌, ◌≤◌, Bool, true, false, refl}
 use Rattle.booth_world.proofs.Configured.{setting_of}
 use Rattle.booth_world.proofs.ManualTerms.{manual_terms_hold}
 use Rattle.booth_world.proofs.WorldRuns.{one_holds, are_apart, terms_hold, terms_rise}
+use Rattle.booth_world.proofs.Untimed.{untimed, timed}
 
 pub worlds_hold_one : WorldsHoldOne
 worlds_hold_one w is_world ticket automatic moment s t by_s by_t =
-    one_holds w is_world ticket (setting_of w is_world.form ticket automatic.0 automatic.1) moment s t by_s by_t
+    one_holds w (untimed w is_world) ticket (setting_of w is_world.form ticket automatic.0 automatic.1) (timed w ticket is_world) moment s t by_s by_t
 
 pub worlds_are_apart : WorldsAreApart
 worlds_are_apart w is_world ticket automatic early late between later s t ne kept by_s by_t =
-    are_apart w is_world ticket (setting_of w is_world.form ticket automatic.0 automatic.1) early late between later s t ne kept by_s by_t
+    are_apart w (untimed w is_world) ticket (setting_of w is_world.form ticket automatic.0 automatic.1) (timed w ticket is_world) early late between later s t ne kept by_s by_t
 
 pub later_holders : LaterHoldersHaveLaterTerms
 later_holders w is_world all ticket automatic early late between later s t ne kept other first second is_first is_second by_s by_t =
-    terms_rise w is_world ticket (setting_of w is_world.form ticket automatic.0 automatic.1) all early late between later s t ne
+    terms_rise w (untimed w is_world) ticket (setting_of w is_world.form ticket automatic.0 automatic.1) (timed w ticket is_world) all early late between later s t ne
     kept other first second is_first is_second by_s by_t
 
 pub world_terms : WorldTermsNeverFall

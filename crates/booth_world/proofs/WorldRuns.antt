@@ -14,11 +14,11 @@ use Rattle.booth_host.specs.declared.entry.Entry.TheVariants as calls
 use Rattle.booth_node.specs.declared.node_config.NodeConfig.{NodeConfig}
 use Rattle.booth_node.specs.State.{State}
 use Rattle.booth_world.specs.Rules.{MemberMessage}
-use Rattle.booth_world.specs.States.{reads}
+use Rattle.booth_world.specs.States.{IsTimed, reads}
 use Rattle.booth_node.specs.Reaction.{Ask, Send, Keep, Start}
 use Rattle.booth_node.specs.Records.{Has as Holds, may_after_keep, may_after, may_after_all, record_at, with_next}
 use Rattle.booth_node.specs.Session.{CutKeep, SessionEntry, Starts, Makes, IsCut, Stand, Down, Doing, Hearing, MayDo, after_entry, AreSessions}
-use Rattle.booth_node.specs.World.{WorldEntry, World, AtEach, HasNoManual, HoldsNothing, StartsWithIt, members_of, entries_of, last_time, stand_after, IsWorld, IsSecondStart, IsSecondWorld, begins_with, id_at, clock_at}
+use Rattle.booth_node.specs.World.{WorldEntry, World, AtEach, HasNoManual, HoldsNothing, StartsWithIt, members_of, entries_of, last_time, stand_after, IsSecondStart, IsSecondWorld, begins_with, id_at, clock_at, IsUntimedWorld}
 use Rattle.booth_node.specs.Held.{IsBefore, Moment, may_at, HoldsBy, Holds as HoldsIt}
 use Rattle.booth_world.specs.Facts.{Has, Release}
 use Rattle.booth_world.specs.Held.{IsApartFrom, GivesBackLease}
@@ -75,7 +75,7 @@ no_manual w ticket setting before after entry whole = by_what entry.what (settin
     by_what (Makes call) same = tt
     by_what (IsCut call) same = tt
 
-module _ (w : World) (is_world : IsWorld w) (ticket : TicketConf) (setting : Setting w ticket) where
+module _ (w : World) (is_world : IsUntimedWorld w) (ticket : TicketConf) (setting : Setting w ticket) where
   -- each member begins with no lease
   pub begins_free : (m : ℕ) → HoldsNothing w m (clock_at w m 0) (begins_with w m ticket.name)
   begins_free m = is_world.nothing_held m ticket.name (no_manual w ticket setting)
@@ -329,13 +329,13 @@ module _ (w : World) (is_world : IsWorld w) (ticket : TicketConf) (setting : Set
     subst (λ (t : ℕ). IsInForce k (reads (cluster w ticket setting) m t)) (sym now_is) h.2,
   )
 
-  pub one_holds : (moment : Moment w) (s t : ℕ) → HoldsIt w ticket s moment → HoldsIt w ticket t moment → s ≡ t
-  one_holds moment s t by_s by_t =
+  pub one_holds : IsTimed (cluster w ticket setting) → (moment : Moment w) (s t : ℕ) → HoldsIt w ticket s moment → HoldsIt w ticket t moment → s ≡ t
+  one_holds timed moment s t by_s by_t =
       let r = reached moment in
       let hosts : Hosts = after_hosts w is_world ticket setting Opening r.entries in
       hosts_hold_one (cluster w ticket setting) (cast w ticket setting) r.entries
-      (record { clocks = has_clocks w is_world.true_clocks ticket setting begins_free; is_cast = is_cast; hosted_early = r.hosted_all; hosted_late = tt })
-      s t (by_s.0, holds_so moment s hosts r.now_is r.shadow by_s.0 by_s.1) (by_t.0, holds_so moment t hosts r.now_is r.shadow by_t.0 by_t.1)
+      (record { clocks = has_clocks w is_world.rising_clocks ticket setting begins_free; is_cast = is_cast; hosted_early = r.hosted_all; hosted_late = tt })
+      timed s t (by_s.0, holds_so moment s hosts r.now_is r.shadow by_s.0 by_s.1) (by_t.0, holds_so moment t hosts r.now_is r.shadow by_t.0 by_t.1)
 
   gave_back : (s : ℕ) (kept : Record) (z : Release) (earlier : List WorldEntry) (entry : WorldEntry)
       → GivesTermBack w ticket.name entry.member entry.time (stand_after entry.member (earlier ++ entry ∷ [])) entry.what z
@@ -353,10 +353,10 @@ module _ (w : World) (is_world : IsWorld w) (ticket : TicketConf) (setting : Set
           (sym r.2 ∙ gives.0, (r.0, r.1, (λ given is. subst (λ (n : ℕ). given.term ≤ n) r.3 (gives.1 given is)), r.5))
       by_what after what r = absurd r
 
-  pub are_apart : (early late : Moment w) (between : List WorldEntry) → IsLater w early late between → (s t : ℕ) → s ≢ t → (kept : Record)
+  pub are_apart : IsTimed (cluster w ticket setting) → (early late : Moment w) (between : List WorldEntry) → IsLater w early late between → (s t : ℕ) → s ≢ t → (kept : Record)
       → HoldsBy w ticket s early kept → HoldsIt w ticket t late
       → IsApartFrom (cluster_of w ticket) s kept early.time late.time ⊎ ReleasedIn w ticket s kept early.before between
-  are_apart early late between later s t ne kept by_s by_t =
+  are_apart timed early late between later s t ne kept by_s by_t =
       let r = reached early in
       let hosts : Hosts = after_hosts w is_world ticket setting Opening r.entries in
       let q = reached_later early late between hosts later r.now_is r.shadow in
@@ -367,8 +367,8 @@ module _ (w : World) (is_world : IsWorld w) (ticket : TicketConf) (setting : Set
       (subst (λ (n : ℕ). IsApartFrom (cluster w ticket setting) s kept n last.now) r.now_is apart)))
       (λ x. inr (some_so early.before between _ _ (λ earlier entry rel. gave_back s kept x.0 earlier entry rel x.2) (q.released x.0 x.1)))
       (hosts_are_apart (cluster w ticket setting) (cast w ticket setting) r.entries q.entries
-      (record { clocks = has_clocks w is_world.true_clocks ticket setting begins_free; is_cast = is_cast; hosted_early = r.hosted_all; hosted_late = q.hosted_all })
-      s t ne kept (holds_so early s hosts r.now_is r.shadow kept by_s) (by_t.0, holds_so late t last q.now_is q.shadow by_t.0 by_t.1))
+      (record { clocks = has_clocks w is_world.rising_clocks ticket setting begins_free; is_cast = is_cast; hosted_early = r.hosted_all; hosted_late = q.hosted_all })
+      timed s t ne kept (holds_so early s hosts r.now_is r.shadow kept by_s) (by_t.0, holds_so late t last q.now_is q.shadow by_t.0 by_t.1))
 
   -- ---- version 2 alone
 
@@ -386,10 +386,10 @@ module _ (w : World) (is_world : IsWorld w) (ticket : TicketConf) (setting : Set
   left_second all before (e ∷ between) after whole version (inr later) =
       left_second all (before ++ e ∷ []) between after (whole ∙ sym (append_both before (e ∷ []) (between ++ after))) version later
 
-  pub terms_rise : IsSecondWorld w → (early late : Moment w) (between : List WorldEntry) → IsLater w early late between → (s t : ℕ) → s ≢ t
+  pub terms_rise : IsTimed (cluster w ticket setting) → IsSecondWorld w → (early late : Moment w) (between : List WorldEntry) → IsLater w early late between → (s t : ℕ) → s ≢ t
       → (kept other : Record) (first second : Lease) → kept.lease ≡ Some first → other.lease ≡ Some second
       → HoldsBy w ticket s early kept → HoldsBy w ticket t late other → first.term < second.term
-  terms_rise all early late between later s t ne kept other first second is_first is_second by_s by_t =
+  terms_rise timed all early late between later s t ne kept other first second is_first is_second by_s by_t =
       let r = reached early in
       let hosts : Hosts = after_hosts w is_world ticket setting Opening r.entries in
       let q = reached_later early late between hosts later r.now_is r.shadow in
@@ -397,8 +397,8 @@ module _ (w : World) (is_world : IsWorld w) (ticket : TicketConf) (setting : Set
       let whole : w.entries ≡ early.before ++ (between ++ late.after) =
       late.whole ∙ ap (λ (es : List WorldEntry). es ++ late.after) later.entries ∙ append_both early.before between late.after in
       later_host (cluster w ticket setting) (cast w ticket setting) r.entries q.entries
-      (record { clocks = has_clocks w is_world.true_clocks ticket setting begins_free; is_cast = is_cast; hosted_early = r.hosted_all; hosted_late = q.hosted_all })
-      (all_boots_second r.entries (λ v h. left_second all [] early.before early.after early.whole v (r.started v h)))
+      (record { clocks = has_clocks w is_world.rising_clocks ticket setting begins_free; is_cast = is_cast; hosted_early = r.hosted_all; hosted_late = q.hosted_all })
+      timed (all_boots_second r.entries (λ v h. left_second all [] early.before early.after early.whole v (r.started v h)))
       (all_boots_second q.entries (λ v h. left_second all early.before between late.after whole v (q.started v h)))
       s t ne kept other first second is_first is_second
       (holds_so early s hosts r.now_is r.shadow kept by_s) (holds_so late t last q.now_is q.shadow other by_t)
@@ -473,7 +473,7 @@ module _ (w : World) (is_world : IsWorld w) (ticket : TicketConf) (setting : Set
           subst (λ (rs : List Record). Has rs some.0) (sym ((reached early).shadow.each s below).same_may) some.1 in
           let low = of_may some.0 there in
           let high = next_is_highest (cluster w ticket setting) (cast w ticket setting) (reached early).entries
-          (record { clocks = has_clocks w is_world.true_clocks ticket setting begins_free; is_cast = is_cast; hosted_early = (reached early).hosted_all; hosted_late = tt })
+          (record { clocks = has_clocks w is_world.rising_clocks ticket setting begins_free; is_cast = is_cast; hosted_early = (reached early).hosted_all; hosted_late = tt })
           s below kept go is some.0 (in_pending (hosts.place s).tree (hosts.place s).may some.0 there) in
           let same : kept.term ≡ k.term = ap (λ (r : Record). r.term) e in
           omega (arith, low, high, same)
@@ -488,5 +488,5 @@ module _ (w : World) (is_world : IsWorld w) (ticket : TicketConf) (setting : Set
       let q = reached_later early late between hosts later r.now_is r.shadow in
       let last : Hosts = after_hosts w is_world ticket setting hosts q.entries in
       host_terms (cluster w ticket setting) (cast w ticket setting) r.entries q.entries
-      (record { clocks = has_clocks w is_world.true_clocks ticket setting begins_free; is_cast = is_cast; hosted_early = r.hosted_all; hosted_late = q.hosted_all })
+      (record { clocks = has_clocks w is_world.rising_clocks ticket setting begins_free; is_cast = is_cast; hosted_early = r.hosted_all; hosted_late = q.hosted_all })
       s term below (at_host early s term below least) k (covers late s below last q.shadow k h)

@@ -25,7 +25,7 @@ use Rattle.booth_node.specs.declared.node_config.NodeConfig.{NodeConfig}
 use Rattle.booth_node.specs.Opening.{setup_of}
 use Rattle.booth_node.specs.Session.{Stand, Down, Doing, Hearing}
 use Rattle.booth_node.specs.State.{State}
-use Rattle.booth_node.specs.World.{WorldEntry, World, members_of, id_at, entries_of, clock_at, stand_after, IsWorld}
+use Rattle.booth_node.specs.World.{WorldEntry, World, members_of, id_at, entries_of, clock_at, stand_after, IsUntimedWorld}
 use Rattle.booth_world.specs.Facts.{Has, Release, Facts}
 use Rattle.booth_world.specs.Messages.{IsFact}
 use Rattle.booth_world.specs.States.{WorldState, opening}
@@ -65,7 +65,7 @@ one_place config sound i j a b is js same = by_place (same_or_not i j)
     by_place (inl e) = e
     by_place (inr ne) = absurd (names_apart config sound i j a b is js (λ e. ne (sym e)) (sym same))
 
-module _ (w : World) (is_world : IsWorld w) (ticket : TicketConf) (setting : Setting w ticket) (moment : Moment w) (hosts : Hosts)
+module _ (w : World) (is_world : IsUntimedWorld w) (ticket : TicketConf) (setting : Setting w ticket) (moment : Moment w) (hosts : Hosts)
     (shadow : Shadows w is_world ticket setting moment.before hosts) where
   -- what may be kept at a member's host may be kept by the entries, or comes next
   pub no_more_at : (m : ℕ) → m < members_of w → (k : Record) → Has (pending (hosts.place m).tree (hosts.place m).may) k
@@ -168,7 +168,7 @@ module _ (w : World) (is_world : IsWorld w) (ticket : TicketConf) (setting : Set
       (same_fact (id_at w) state.facts is.entry.member q.1 q.2 q.0 part q.0.cmd fact.1))
 
 -- a reading of the hosts is one of these entries
-pub read_in : (w : World) (is_world : IsWorld w) (ticket : TicketConf) (setting : Setting w ticket) (before : List WorldEntry)
+pub read_in : (w : World) (is_world : IsUntimedWorld w) (ticket : TicketConf) (setting : Setting w ticket) (before : List WorldEntry)
     (m reading time k t : ℕ) → m ≡ k → time ≡ t → reading ≡ clock_at w k t → IsLeftIn w is_world ticket setting [] before (Reads k t)
     → IsReadIn before m reading time
 read_in w is_world ticket setting before m reading time k t same_m same_t is at =
@@ -184,7 +184,7 @@ read_in w is_world ticket setting before m reading time k t same_m same_t is at 
 
 -- The shadow of a moment, by hosts, cores and steps that stand as its entries leave them. Each release of the cores is an
 -- entry's, and so is each reading that a mark is of.
-abbrev pub shadow_by : (w : World) (is_world : IsWorld w) (ticket : TicketConf) (setting : Setting w ticket) (moment : Moment w)
+abbrev pub shadow_by : (w : World) (is_world : IsUntimedWorld w) (ticket : TicketConf) (setting : Setting w ticket) (moment : Moment w)
     (hosts : Hosts) (cores : Cores) (steps : List WorldStep) (P : ℕ → ℕ → Type 0)
     → hosts.now ≡ moment.time → Shadows w is_world ticket setting moment.before hosts
     → HostsHold (cluster w ticket setting) (cast w ticket setting) hosts cores
@@ -239,7 +239,7 @@ worlds_have_shadows w is_world ticket automatic moment =
     let k = cast w ticket setting in
     let r = reached w is_world ticket setting moment in
     let hosts = after_hosts w is_world ticket setting (opening_hosts c k) r.entries in
-    let clocks = has_clocks w is_world.true_clocks ticket setting (begins_free w is_world ticket setting) in
+    let clocks = has_clocks w is_world.rising_clocks ticket setting (begins_free w is_world ticket setting) in
     let seated = is_cast w is_world ticket setting in
     let f = follow_all c k clocks seated (opening_hosts c k) (opening_cores c k) r.entries (opens_hosts c k clocks seated) r.hosted_all in
     let runs = runs_of c k f.0 [] (record { clocks = clocks; is_cast = seated; enters_early = f.1; enters_late = tt }) in

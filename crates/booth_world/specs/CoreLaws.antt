@@ -5,7 +5,7 @@ use Rattle.booth_rec.specs.declared.record.Record.{Record}
 use Rattle.booth_rec.specs.Record.{IsInForce}
 use Rattle.booth_raft.specs.declared.view.Rule.{Rule}
 use Rattle.booth_raft.specs.declared.view.Rule.TheVariants as rules
-use Rattle.booth_world.specs.States.{Cluster, HasClocks, reads}
+use Rattle.booth_world.specs.States.{Cluster, HasClocks, IsTimed, reads}
 use Rattle.booth_world.specs.Facts.{Has, Release}
 use Rattle.booth_world.specs.Held.{IsApartFrom, GivesBackLease}
 use Rattle.booth_world.specs.Cores.{CoreEntry, HasAnswer, StartsWith, Cores, opening_cores, Cast, IsCast, entered, AreEntered, cores_after}
@@ -60,7 +60,7 @@ late_cores c cast early late = cores_after c cast (early_cores c cast early) lat
 -- at no moment is the ticket held at two sites
 abbrev pub CoresHoldOne : Type 0
 CoresHoldOne =
-    (c : Cluster) (cast : Cast) (entries : List CoreEntry) → CoreCourse c cast entries []
+    (c : Cluster) (cast : Cast) (entries : List CoreEntry) → CoreCourse c cast entries [] → IsTimed c
     → (s t : ℕ) → CoreHolds c (early_cores c cast entries) s
     → CoreHolds c (early_cores c cast entries) t → s ≡ t
 
@@ -68,7 +68,7 @@ CoresHoldOne =
 -- in force and the later one, or an entry between the two gave the record's lease back.
 abbrev pub CoresAreApart : Type 0
 CoresAreApart =
-    (c : Cluster) (cast : Cast) (early late : List CoreEntry) → CoreCourse c cast early late
+    (c : Cluster) (cast : Cast) (early late : List CoreEntry) → CoreCourse c cast early late → IsTimed c
     → (s t : ℕ) → s ≢ t → (k : Record)
     → CoreHoldsBy c (early_cores c cast early) s k → CoreHolds c (late_cores c cast early late) t
     → IsApartFrom c s k (early_cores c cast early).now (late_cores c cast early late).now
@@ -98,7 +98,7 @@ AreSecondStarts (entry ∷ entries) = IsSecondStart entry × AreSecondStarts ent
 -- has the later term.
 abbrev pub LaterCoreHasLaterTerm : Type 0
 LaterCoreHasLaterTerm =
-    (c : Cluster) (cast : Cast) (early late : List CoreEntry) → CoreCourse c cast early late
+    (c : Cluster) (cast : Cast) (early late : List CoreEntry) → CoreCourse c cast early late → IsTimed c
     → AreSecondStarts early → AreSecondStarts late
     → (s t : ℕ) → s ≢ t → (k n : Record) (first second : Lease)
     → k.lease ≡ Some first → n.lease ≡ Some second

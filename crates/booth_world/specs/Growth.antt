@@ -2,7 +2,7 @@
 use Rattle.std.specs.Prelude.{◌≡◌, ◌⊎◌, ◌++◌, List, [], ◌∷◌}
 use Rattle.booth_conf.specs.declared.tickets.TicketConf.{TicketConf}
 use Rattle.booth_node.specs.Held.{Moment, IsAutomatic}
-use Rattle.booth_node.specs.World.{WorldEntry, World, stand_after, IsSecondWorld, IsWorld}
+use Rattle.booth_node.specs.World.{WorldEntry, World, stand_after, IsSecondWorld, IsUntimedWorld}
 use Rattle.booth_world.specs.Clusters.{cluster_of}
 use Rattle.booth_world.specs.Facts.{Release, Has}
 use Rattle.booth_world.specs.Revocations.{AtSome}
@@ -28,6 +28,6 @@ pub record HasLongerShadow (w : World) (ticket : TicketConf) (early late : Momen
 
 abbrev pub ShadowsGrow : Type 0
 ShadowsGrow =
-    (w : World) → IsWorld w → (ticket : TicketConf) → IsAutomatic w ticket
+    (w : World) → IsUntimedWorld w → (ticket : TicketConf) → IsAutomatic w ticket
     → (early late : Moment w) (between : List WorldEntry) → IsLater w early late between
     → HasLongerShadow w ticket early late between

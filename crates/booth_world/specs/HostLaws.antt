@@ -5,7 +5,7 @@ use Rattle.booth_rec.specs.declared.record.Lease.{Lease}
 use Rattle.booth_rec.specs.declared.record.Record.{Record}
 use Rattle.booth_rec.specs.Record.{IsInForce}
 use Rattle.booth_wire.specs.declared.command.Cmd.TheVariants.{Revk}
-use Rattle.booth_world.specs.States.{Cluster, HasClocks, reads}
+use Rattle.booth_world.specs.States.{Cluster, HasClocks, IsTimed, reads}
 use Rattle.booth_world.specs.Facts.{Has, Release}
 use Rattle.booth_world.specs.Held.{IsApartFrom, GivesBackLease}
 use Rattle.booth_world.specs.Cores.{Cast, IsCast}
@@ -73,7 +73,7 @@ late_hosts c cast early late = hosts_after c cast (early_hosts c cast early) lat
 -- at no moment is the ticket held at two sites
 abbrev pub HostsHoldOne : Type 0
 HostsHoldOne =
-    (c : Cluster) (cast : Cast) (entries : List HostEntry) → HostCourse c cast entries []
+    (c : Cluster) (cast : Cast) (entries : List HostEntry) → HostCourse c cast entries [] → IsTimed c
     → (s t : ℕ) → HostHolds c (early_hosts c cast entries) s
     → HostHolds c (early_hosts c cast entries) t → s ≡ t
 
@@ -81,7 +81,7 @@ HostsHoldOne =
 -- in force and the later one, or a keep between the two gave the record's lease back.
 abbrev pub HostsAreApart : Type 0
 HostsAreApart =
-    (c : Cluster) (cast : Cast) (early late : List HostEntry) → HostCourse c cast early late
+    (c : Cluster) (cast : Cast) (early late : List HostEntry) → HostCourse c cast early late → IsTimed c
     → (s t : ℕ) → s ≢ t → (k : Record)
     → HostHoldsBy c (early_hosts c cast early) s k → HostHolds c (late_hosts c cast early late) t
     → IsApartFrom c s k (early_hosts c cast early).now (late_hosts c cast early late).now
@@ -111,7 +111,7 @@ AreSecondBoots (entry ∷ entries) = IsSecondBoot entry × AreSecondBoots entrie
 -- has the later term.
 abbrev pub LaterHostHasLaterTerm : Type 0
 LaterHostHasLaterTerm =
-    (c : Cluster) (cast : Cast) (early late : List HostEntry) → HostCourse c cast early late
+    (c : Cluster) (cast : Cast) (early late : List HostEntry) → HostCourse c cast early late → IsTimed c
     → AreSecondBoots early → AreSecondBoots late
     → (s t : ℕ) → s ≢ t → (k n : Record) (first second : Lease)
     → k.lease ≡ Some first → n.lease ≡ Some second

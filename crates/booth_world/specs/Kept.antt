@@ -23,7 +23,7 @@ use Rattle.booth_node.specs.Records.{Has}
 use Rattle.booth_node.specs.State.{State}
 use Rattle.booth_node.specs.Session.{Stand, Doing, Hearing}
 use Rattle.booth_node.specs.declared.node_config.NodeConfig.{NodeConfig}
-use Rattle.booth_node.specs.World.{World, IsOneTicket, IsWorld, members_of, stand_after}
+use Rattle.booth_node.specs.World.{World, IsOneTicket, members_of, stand_after, IsUntimedWorld}
 use Rattle.booth_node.specs.Held.{Moment}
 
 -- ---- keeps that failed
@@ -66,7 +66,7 @@ RestsInKind ticket stand = Unit {0}
 -- the tickets of a node keep the kinds that the configuration gives them
 abbrev pub TicketsKeepTheirKinds : Type 0
 TicketsKeepTheirKinds =
-    (w : World) → IsWorld w → (ticket : TicketConf) → IsOneTicket w ticket
+    (w : World) → IsUntimedWorld w → (ticket : TicketConf) → IsOneTicket w ticket
     → (m : ℕ) → m < members_of w → (moment : Moment w) → RestsInKind ticket (stand_after m moment.before)
 
 -- ---- those that wait

@@ -1,21 +1,21 @@
 -- The laws of a ticket's world, over every list of steps from the opening state.
 use Rattle.std.specs.Prelude.{◌≡◌, ◌≢◌, ◌⊎◌, ◌++◌, ℕ, ◌<◌, Some, List}
 use Rattle.booth_rec.specs.declared.record.Lease.{Lease}
-use Rattle.booth_world.specs.States.{KeptRecord, opening, Cluster, HasClocks}
+use Rattle.booth_world.specs.States.{KeptRecord, opening, Cluster, HasClocks, IsTimed}
 use Rattle.booth_world.specs.Steps.{WorldStep, IsRun, AreSecond, world_of}
 use Rattle.booth_world.specs.Held.{IsHeldBy, Held, ReleasedBetween, IsApart, IsAtLeast}
 
 -- at no moment is the ticket held at two sites
 abbrev pub HasOneHolder : Type 0
 HasOneHolder =
-    (c : Cluster) → HasClocks c → (steps : List WorldStep) → IsRun c (opening c) steps
+    (c : Cluster) → HasClocks c → IsTimed c → (steps : List WorldStep) → IsRun c (opening c) steps
     → (s t : ℕ) → Held c (world_of c steps) s → Held c (world_of c steps) t → s ≡ t
 
 -- Where a member holds early by a record and another holds late, acquire-after lies between each time at which that
 -- record was in force and the late one, or the first gave the record's lease back between the two.
 abbrev pub HoldersAreApart : Type 0
 HoldersAreApart =
-    (c : Cluster) → HasClocks c
+    (c : Cluster) → HasClocks c → IsTimed c
     → (early late : List WorldStep) → IsRun c (opening c) (early ++ late)
     → (s t : ℕ) → s ≢ t → (k : KeptRecord)
     → IsHeldBy c (world_of c early) s k → Held c (world_of c (early ++ late)) t
@@ -25,8 +25,7 @@ HoldersAreApart =
 -- where each record that a member may have kept has at least a term, so has each one later
 abbrev pub KeptTermsNeverFall : Type 0
 KeptTermsNeverFall =
-    (c : Cluster) → HasClocks c
-    → (early late : List WorldStep) → IsRun c (opening c) (early ++ late)
+    (c : Cluster) (early late : List WorldStep) → IsRun c (opening c) (early ++ late)
     → (s term : ℕ)
     → IsAtLeast (world_of c early) s term → IsAtLeast (world_of c (early ++ late)) s term
 
@@ -34,7 +33,7 @@ KeptTermsNeverFall =
 -- has the later term.
 abbrev pub LaterHolderHasLaterTerm : Type 0
 LaterHolderHasLaterTerm =
-    (c : Cluster) → HasClocks c
+    (c : Cluster) → HasClocks c → IsTimed c
     → (early late : List WorldStep) → IsRun c (opening c) (early ++ late) → AreSecond (early ++ late)
     → (s t : ℕ) → s ≢ t → (k n : KeptRecord) (first second : Lease)
     → k.lease ≡ Some first → n.lease ≡ Some second

@@ -25,6 +25,7 @@ pub mod Tellers
 pub mod Kept
 pub mod Shadows
 pub mod Growth
+pub mod Fencing
 pub mod Laws
 pub mod Examples
 pub mod LoneExamples
@@ -32,3 +33,5 @@ pub mod Waits
 pub mod Alone
 pub mod LastNumbers
 pub mod NodeWaits
+pub mod FencingExample
+pub mod Told

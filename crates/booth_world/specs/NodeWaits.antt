@@ -7,7 +7,7 @@ use Rattle.booth_ticket.specs.Waiting.{waiting_at}
 use Rattle.booth_node.specs.Held.{Moment}
 use Rattle.booth_node.specs.Session.{Stand, Doing, Hearing}
 use Rattle.booth_node.specs.State.{State}
-use Rattle.booth_node.specs.World.{World, IsWorld, members_of, stand_after}
+use Rattle.booth_node.specs.World.{World, members_of, stand_after, IsUntimedWorld}
 use Rattle.booth_base.specs.Tree.{Ends}
 use Rattle.booth_world.specs.Waits.{latest}
 
@@ -29,5 +29,5 @@ StandsWithDeadlines stand = Unit {0}
 
 abbrev pub WorldsWaitersHaveDeadlines : Type 0
 WorldsWaitersHaveDeadlines =
-    (w : World) → IsWorld w → (m : ℕ) → m < members_of w → (moment : Moment w)
+    (w : World) → IsUntimedWorld w → (m : ℕ) → m < members_of w → (moment : Moment w)
     → StandsWithDeadlines (stand_after m moment.before)

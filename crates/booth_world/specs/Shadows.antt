@@ -18,7 +18,7 @@ use Rattle.booth_node.specs.Reaction.{Ask, Send, Keep, Start}
 use Rattle.booth_node.specs.Records.{Has}
 use Rattle.booth_node.specs.Session.{SessionEntry, Starts, Makes, IsCut, Stand, Down, Doing, Hearing, after_call, after_entry}
 use Rattle.booth_node.specs.State.{State}
-use Rattle.booth_node.specs.World.{WorldEntry, World, members_of, id_at, entries_of, IsSend, stand_after, IsWorld}
+use Rattle.booth_node.specs.World.{WorldEntry, World, members_of, id_at, entries_of, IsSend, stand_after, IsUntimedWorld}
 use Rattle.booth_node.specs.Held.{Moment, IsAutomatic, may_at, Holds}
 use Rattle.booth_world.specs.Clusters.{cluster_of}
 use Rattle.booth_world.specs.Agreement.{records_in, Agrees}
@@ -185,5 +185,5 @@ pub record HasShadow (w : World) (ticket : TicketConf) (moment : Moment w) : Typ
 
 abbrev pub WorldsHaveShadows : Type 0
 WorldsHaveShadows =
-    (w : World) → IsWorld w → (ticket : TicketConf) → IsAutomatic w ticket
+    (w : World) → IsUntimedWorld w → (ticket : TicketConf) → IsAutomatic w ticket
     → (moment : Moment w) → HasShadow w ticket moment

@@ -4,7 +4,7 @@ use Rattle.std.specs.Option.{ForSome}
 use Rattle.booth_base.specs.Times.{promise_of}
 use Rattle.booth_base.specs.declared.times.Times.{Times}
 use Rattle.booth_rec.specs.declared.record.Lease.{Lease}
-use Rattle.booth_node.specs.Clock.{IsClock}
+use Rattle.booth_node.specs.Clock.{IsRising, IsClock}
 use Rattle.booth_world.specs.Facts.{Round, Facts, no_facts}
 
 -- What an answer promises to a site: it is live at readings below `until`.
@@ -82,13 +82,17 @@ pub record BeginsWell (members reading : ℕ) (beginning : TicketBeginning) : Ty
       (λ pledge. ForSome pledge.promise
       (λ promise. (promise.term ≤ beginning.kept.term) × (pledge.abstain ≤ reading)))
 
--- each member has a clock, and all clocks have one length, of at least 1; and each begins well
+-- each member has a clock, which never falls, and all clocks have one length, of at least 1; and each begins well
 pub record HasClocks (c : Cluster) : Type 0 where
-  pub ticking : 0 < c.ticks
   pub some : 0 < c.span
   pub long : (m : ℕ) → m < c.members → length (c.clock m) ≡ c.span
-  pub clocks : (m : ℕ) → m < c.members → IsClock c.ticks (c.clock m)
+  pub rising : (m : ℕ) → m < c.members → IsRising (c.clock m)
   pub begins : (m : ℕ) → BeginsWell c.members (reads c m 0) (c.begins m)
+
+-- and each drifts within the bounds
+pub record IsTimed (c : Cluster) : Type 0 where
+  pub ticking : 0 < c.ticks
+  pub clocks : (m : ℕ) → m < c.members → IsClock c.ticks (c.clock m)
 
 -- ---- the state
 

@@ -17,7 +17,7 @@ use Rattle.booth_raft.specs.Numbers.{seconds_left}
 use Rattle.booth_node.specs.Jobs.{address_in}
 use Rattle.booth_node.specs.Records.{Has}
 use Rattle.booth_node.specs.Session.{SessionEntry, Makes, IsCut, CutStart}
-use Rattle.booth_node.specs.World.{WorldEntry, World, id_at, clock_at, IsSend, IsWorld}
+use Rattle.booth_node.specs.World.{WorldEntry, World, id_at, clock_at, IsSend, IsWorld, IsUntimedWorld}
 use Rattle.booth_node.specs.Held.{Moment, IsAutomatic, may_at, HoldsBy, Holds}
 use Rattle.booth_world.specs.Clusters.{cluster_of}
 use Rattle.booth_world.specs.Held.{AreApart}
@@ -155,12 +155,12 @@ TellersHaveKeptIn w =
     × IsSomeAnd kept.lease (λ lease. BearsOut claim lease.until)
 
 abbrev pub WhoTellsHasKept : Type 0
-WhoTellsHasKept = (w : World) → IsWorld w → TellersHaveKeptIn w
+WhoTellsHasKept = (w : World) → IsUntimedWorld w → TellersHaveKeptIn w
 
 -- A client is told that its grant was done where a record with such a lease is kept: no other may be.
 abbrev pub GrantsAreKept : Type 0
 GrantsAreKept =
-    (w : World) → IsWorld w → (ticket : TicketConf) → IsAutomatic w ticket
+    (w : World) → IsUntimedWorld w → (ticket : TicketConf) → IsAutomatic w ticket
     → (moment : Moment w) (entry : WorldEntry) → IsNext moment entry → (head : Head)
     → Tells w ticket entry (IsGranted head)
     → (kept : Record) × (may_at w ticket entry.member moment ≡ kept ∷ [])

@@ -12,7 +12,7 @@ use Rattle.booth_node.specs.Log.{IsNodeLog, IsStoppedLog}
 use Rattle.booth_node.specs.State.{State}
 use Rattle.booth_node.specs.Session.{SessionEntry, Makes, Stand, Doing, AreSessions, after_entries}
 use Rattle.booth_node.specs.Records.{Has}
-use Rattle.booth_node.specs.World.{WorldEntry, World, members_of, stand_after, IsOneTicket, IsWorld, IsSecondWorld}
+use Rattle.booth_node.specs.World.{WorldEntry, World, members_of, stand_after, IsOneTicket, IsWorld, IsSecondWorld, IsUntimedWorld}
 use Rattle.booth_node.specs.Held.{Moment, IsAutomatic, may_at, HoldsBy, Holds}
 use Rattle.booth_world.specs.Clusters.{cluster_of}
 use Rattle.booth_world.specs.Held.{IsApartFrom}
@@ -72,7 +72,7 @@ TermsNeverFallIn w =
     → (kept : Record) → Has (may_at w ticket s late) kept → term ≤ kept.term
 
 abbrev pub WorldTermsNeverFall : Type 0
-WorldTermsNeverFall = (w : World) → IsWorld w → TermsNeverFallIn w
+WorldTermsNeverFall = (w : World) → IsUntimedWorld w → TermsNeverFallIn w
 
 -- Where one member holds it by a lease, and another holds it later by a lease, the later lease has the later term.
 abbrev pub LaterTermsIn : World → Type 0

@@ -7,13 +7,15 @@ ghost use Rattle.booth_world.specs.HostLaws.{HostCourse, HostHolds, early_hosts}
 ghost use Rattle.booth_world.specs.LoneExamples.{lone, lone_cast, lone_grant, lone_restart, lone_turn};
 ghost use Rattle.booth_world.specs.Examples.{three, granted, renewed, released, granted_elsewhere, crashed_and_started, start, first_caller};
 ghost use Rattle.booth_world.specs.Held.{Held};
-ghost use Rattle.booth_world.specs.States.{opening, HasClocks};
-ghost use Rattle.booth_world.specs.Steps.{IsRun, world_of};
+ghost use Rattle.booth_world.specs.States.{opening, HasClocks, IsTimed};
+ghost use Rattle.booth_world.specs.FencingExample.{wild, first_part, second_part};
+ghost use Rattle.booth_world.specs.Steps.{IsRun, AreSecond, world_of};
 
 /// Among three members, whose clocks are at the limits of drift, a ticket is granted, renewed,
 /// released, and granted at another site.
 pub fn ticket_moves()
     ensures clocks { HasClocks three }
+    ensures timed { IsTimed three }
     ensures run { IsRun three (opening three) (granted ++ renewed ++ released ++ granted_elsewhere) }
     ensures held { Held three (world_of three granted) 0 }
     ensures renewed { Held three (world_of three (granted ++ renewed)) 0 }
@@ -43,4 +45,14 @@ pub fn lone_core_holds()
 pub fn lone_host_holds()
     ensures hosted { (ticket : Name) → HostCourse lone (lone_cast ticket) lone_turn [] }
     ensures held { (ticket : Name) → HostHolds lone (early_hosts lone (lone_cast ticket) lone_turn) 0 }
+{}
+
+/// Where a clock steps forward two sites hold at one moment, each start in version 2, and their leases have the terms 1
+/// and 2.
+pub fn stepped_clock_gives_a_lease()
+    ensures clocks { HasClocks wild }
+    ensures run { IsRun wild (opening wild) (first_part ++ second_part) }
+    ensures second { AreSecond (first_part ++ second_part) }
+    ensures first_holds { Held wild (world_of wild (first_part ++ second_part)) 0 }
+    ensures second_holds { Held wild (world_of wild (first_part ++ second_part)) 1 }
 {}

@@ -3,6 +3,7 @@ ghost use Rattle.booth_node.specs.World.{OneConfigurationIsEnough};
 ghost use Rattle.booth_world.specs.Alone.{GrantGainsAlone};
 ghost use Rattle.booth_world.specs.Calls.{CallsAreSteps, PromisesWhereItMayAnswer, StepsOfOneAreSteps};
 ghost use Rattle.booth_world.specs.CoreLaws.{CoreTermsNeverFall, CoresAreApart, CoresHoldOne, LaterCoreHasLaterTerm};
+ghost use Rattle.booth_world.specs.Fencing.{TermsAreOfOneMember, LaterAskersHaveLaterTerms, LaterRoundsHaveLaterTerms, LivesHaveTheirTerms};
 ghost use Rattle.booth_world.specs.Growth.{ShadowsGrow};
 ghost use Rattle.booth_world.specs.HostLaws.{HostTermsNeverFall, HostsAreApart, HostsHoldOne, LaterHostHasLaterTerm};
 ghost use Rattle.booth_world.specs.Kept.{FailedKeepsSayNothing, ManualWaitersHaveJobs, TicketsKeepTheirKinds, ToldStopWaiting};
@@ -12,6 +13,7 @@ ghost use Rattle.booth_world.specs.NodeWaits.{WorldsWaitersHaveDeadlines};
 ghost use Rattle.booth_world.specs.Rules.{lease_rules};
 ghost use Rattle.booth_world.specs.Stability.{AgreementStays, CallsLeadOn, MembersStay, RunsAppend};
 ghost use Rattle.booth_world.specs.Shadows.{WorldsHaveShadows};
+ghost use Rattle.booth_world.specs.Told.{WorldsHaveFencingTerms};
 ghost use Rattle.booth_world.specs.Tellers.{ClaimsLast, GrantsAreKept, TellersAreApart, WhoTellsHasKept, WhoTellsHolds};
 ghost use Rattle.booth_world.specs.Waits.{WaitersHaveDeadlines};
 ghost use Rattle.booth_world.specs.Worlds.{CutSessionsAreSessions, LogsAreSessions, StoppedLogsAreSessions};
@@ -244,4 +246,15 @@ pub fn worlds_have_shadows()
 /// an entry between the two, and where all sessions are of version 2, so is each start among the steps.
 pub fn shadows_grow()
     ensures { ShadowsGrow }
+{}
+
+/// Leases are told apart by their terms, whatever clocks do, where each start is of version 2: two gained leases of one
+/// term are one member's, a lease that is asked for later has a greater term, and so has one that a member gains after
+/// it went down. So it is in each world whose clocks rise.
+pub fn fencing()
+    ensures terms { TermsAreOfOneMember }
+    ensures askers { LaterAskersHaveLaterTerms }
+    ensures rounds { LaterRoundsHaveLaterTerms }
+    ensures lives { LivesHaveTheirTerms }
+    ensures worlds { WorldsHaveFencingTerms }
 {}

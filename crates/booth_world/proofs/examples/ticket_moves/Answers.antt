@@ -1,4 +1,4 @@
-use Rattle.booth_world.proofs.ExampleRuns.{three_clocks, moves, granted_held, renewed_held, elsewhere_held}
+use Rattle.booth_world.proofs.ExampleRuns.{three_clocks, three_timed, moves, granted_held, renewed_held, elsewhere_held}
 use Rattle.booth_world.proofs.examples.ticket_moves.Goals as goal
 
 pub returns-clause-clocks : goal.returns-clause-clocks
@@ -15,3 +15,6 @@ returns-clause-renewed c = renewed_held
 
 pub returns-clause-elsewhere : goal.returns-clause-elsewhere
 returns-clause-elsewhere c = elsewhere_held
+
+pub returns-clause-timed : goal.returns-clause-timed
+returns-clause-timed c = three_timed
