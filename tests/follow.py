@@ -1,9 +1,9 @@
 #!/usr/bin/env python3
-"""Holds services that follow their ticket on three real boothd to it: started where it is held, stopped before it ends.
+"""Holds services that follow their ticket on three real boothd to it: started if it is held, stopped before it ends.
 
 Run it as `python3 tests/follow.py [BOOTHD BOOTH BOOTH-FOLLOW]`, which are what `make build` leaves where they are left
-out. It takes less than a minute, prints a line for each check, ends all that it started, and has the status 1 where a
-check failed. Where a program is not built it checks nothing, with status 0.
+out. It takes less than a minute, prints a line for each check, ends all that it started, and has the status 1 if a
+check failed. If a program is not built it checks nothing, with status 0.
 
 The services of both sites write a line with its time into one file, ten times a second, and no two sites' lines may
 overlap.
@@ -15,10 +15,8 @@ import io
 import multiprocessing
 import os
 import signal
-import stat
 import subprocess
 import sys
-import tempfile
 import time
 
 HERE = os.path.dirname(os.path.abspath(__file__))
@@ -28,12 +26,15 @@ sys.path[:0] = [HERE, f"{TOP}/tools"]
 import frames
 from following import Services
 from members import TICKET, Cluster, Times, now, wait_for
+from scratch import scratch
 from serving import built_program, end_by_signals, own_addresses
 from stories import PATIENCE, Wrong, grants, passed, require, slack
 
 TIMES = Times(expire=10)
 # with room between the margin and a renewal for a key that is read again
 LONG_TIMES = Times(expire=20, renewal=8)
+# the margin is 5 s: a service is stopped up to 5 s after its lease was renewed, if no later end is armed
+HALF_TIMES = Times(expire=20, renewal=10)
 # the margin and the time of a kill that follow from the first ones
 MARGIN, KILL = 2.5, 1.25
 # how long a service that was stopped is left so
@@ -51,7 +52,7 @@ def story(function):
 
 def times_of(function):
     """The times of the cluster of a story."""
-    return LONG_TIMES if function is a_key_that_is_changed else TIMES
+    return {a_key_that_is_changed: LONG_TIMES, a_renewal_that_fails_once: HALF_TIMES}.get(function, TIMES)
 
 
 def begun(cluster, services):
@@ -123,7 +124,7 @@ def a_daemon_that_stands_still_and_a_slow_stop(cluster, services):
     one.server.process.send_signal(signal.SIGSTOP)
     until = one.record().until
     left = stops_in_time(services, one, until)
-    # (where the machine has no processor for it, no stop is done in time)
+    # (if the machine has no processor for it, no stop is done in time)
     is_killed = "kill" in services.words(one)
     require(not is_killed or slack() > KILL, f"it was run with {services.words(one)}")
     require(services.await_up(two, until - now() + PATIENCE), "the other site's service does not start")
@@ -210,6 +211,25 @@ def an_end_that_cannot_be_armed(cluster, services):
 
 
 @story
+def a_renewal_that_fails_once(cluster, services):
+    """a service for which a later end can be armed only at the second try"""
+    one, _ = begun(cluster, services)
+    first, until = services.process(one), services.runs(one)[-1][1]
+    renewals = lambda: [end for word, end in services.runs(one) if word == "renew"]
+    before = len(renewals())
+    services.set("once", one)
+    failed = wait_for(lambda: not os.path.exists(services.path("once", one)), HALF_TIMES.renewal + PATIENCE)
+    require(failed, "no later end is to be armed")
+    failed_at = now()
+    require(wait_for(lambda: len(renewals()) > before + 1, PATIENCE), f"it is not tried again: {services.runs(one)}")
+    again = now() - failed_at
+    time.sleep(max(0.0, until - now()) + 1)
+    require(services.process(one) == first, f"the service was not left running: {services.said()}")
+    require(services.words(one) == ["stop", "start"], f"it was run with {services.words(one)}")
+    passed(f"a renewal that failed is run again {again:.2f} s later, and the service runs on beyond the end before")
+
+
+@story
 def a_ticket_that_is_moved(cluster, services):
     """a move, with the service stopped first"""
     one, two = begun(cluster, services)
@@ -230,7 +250,7 @@ def a_ticket_that_is_moved(cluster, services):
 def a_move_beside_a_follower(cluster, services):
     """a move on a machine on which a follower of the ticket lives"""
     one, two = begun(cluster, services)
-    with tempfile.TemporaryDirectory() as folder, followed_in(folder):
+    with scratch("booth-test-") as folder, followed_in(folder):
         told = f"booth: a follower of ticket {NAME} runs here: booth-switchover {NAME} {two.address} "
         before = one.record()
         for words in ((NAME, two.address), ("-w", NAME, two.address)):
@@ -289,55 +309,7 @@ def a_key_that_is_changed(cluster, services):
     passed("a follower reads its keys again when its daemon has others, and its service runs on through the steps of a change")
 
 
-# ---- what is refused, and examples
-
-STAND_INS = {
-    "crm_ticket": '#!/bin/sh\necho "crm_ticket $*" >>{notes}\n[ "$3" != --get-attr ] || cat {granted}\n',
-    "crm_resource": '#!/bin/sh\necho "crm_resource $*" >>{notes}\n',
-}
-
-
-class Examples:
-    """Scripts that are run with stand-ins for the programs that they call."""
-
-    def __init__(self, folder):
-        self.folder = folder
-        self.notes, self.granted = f"{folder}/notes", f"{folder}/granted"
-        for name, text in STAND_INS.items():
-            path = f"{folder}/{name}"
-            with open(path, "w", encoding="ascii") as file:
-                file.write(text.format(notes=self.notes, granted=self.granted))
-            os.chmod(path, stat.S_IRWXU)
-
-    def run(self, script, *words):
-        """The status of a script with these words, and what it called."""
-        with open(self.notes, "w", encoding="ascii"):
-            pass
-        env = {**os.environ, "PATH": f"{self.folder}:{os.environ['PATH']}", "BOOTH_TICKET": "db8"}
-        status = subprocess.run([f"{TOP}/{script}", *words], env=env, capture_output=True).returncode
-        with open(self.notes, encoding="ascii") as file:
-            return status, file.read().splitlines()
-
-
-def pacemaker(examples):
-    """the program for Pacemaker does what it says"""
-    settles = ["crm_ticket --ticket db8 --revoke --force", "crm_resource --wait --timeout=300s"]
-    asks = ["crm_ticket --ticket db8 --get-attr granted"]
-    rows = [
-        ("true", "check", 0, asks),
-        ("false", "check", 3, asks),
-        ("", "check", 1, asks),
-        ("", "start", 0, ["crm_ticket --ticket db8 --grant --force"]),
-        ("", "stop", 0, settles),
-        ("", "kill", 0, settles),
-        ("", "go", 2, []),
-    ]
-    for granted, word, status, calls in rows:
-        with open(examples.granted, "w", encoding="ascii") as file:
-            file.write(granted)
-        got = examples.run("examples/follow-pacemaker", word)
-        require(got == (status, calls), f"{word} where the ticket is granted: {granted}: {got}")
-
+# ---- what is refused
 
 # words, and what is said of them
 REFUSALS = [
@@ -359,8 +331,9 @@ def words_are_refused(program, folder):
         def is_told(text, *words, site="127.0.0.1"):
             base = [program, "-c", cluster.conf, "-s", site, "-d", records]
             done = subprocess.run([*base, *words], capture_output=True, text=True, timeout=PATIENCE)
-            want = (1, "", f"booth-follow: {text}\n")
-            require((done.returncode, done.stdout, done.stderr) == want, f"{words}: {done}")
+            # (tests/causes.py looks at the line with the cause behind it)
+            want = (1, "", f"booth-follow: {text}")
+            require((done.returncode, done.stdout, done.stderr.split("\n")[0]) == want, f"{words}: {done}")
 
         keep_clock(records)
         for words, text in REFUSALS:
@@ -392,7 +365,7 @@ def keep_clock(records, boot=None):
 def outcome(place, programs):
     """Whether the story at this place passes, in a cluster of its own, and the lines that it printed."""
     function, printed, passes = stories[place], io.StringIO(), False
-    with contextlib.redirect_stdout(printed), tempfile.TemporaryDirectory(prefix="booth-follow-") as folder:
+    with contextlib.redirect_stdout(printed), scratch("booth-follow-") as folder:
         try:
             key = KEY if "key" in function.__name__ else None
             with Cluster(programs[0], folder, own_addresses(), times=times_of(function), client=programs[1], key=key) as cluster:
@@ -424,10 +397,7 @@ def checked(check, *arguments):
 def run(programs):
     """Runs all stories side by side: most of their time they wait. Says how many failed."""
     failed, started = 0, time.monotonic()
-    with tempfile.TemporaryDirectory(prefix="booth-examples-") as folder:
-        examples = Examples(folder)
-        failed += not checked(pacemaker, examples)
-    with tempfile.TemporaryDirectory(prefix="booth-refused-") as folder:
+    with scratch("booth-refused-") as folder:
         failed += not checked(words_are_refused, programs[2], folder)
     with multiprocessing.get_context("fork").Pool(len(stories)) as pool:
         for passes, printed in pool.imap_unordered(functools.partial(outcome, programs=programs), range(len(stories))):
@@ -435,7 +405,7 @@ def run(programs):
             failed += not passes
         pool.close()
         pool.join()
-    took, all_checks = time.monotonic() - started, len(stories) + 2
+    took, all_checks = time.monotonic() - started, len(stories) + 1
     print(f"follow: {all_checks - failed} passed, {failed} failed, in {took:.1f} s ({programs[2]})")
     return failed
 

@@ -14,8 +14,8 @@ from members import TICKET, wait_for
 from serving import written
 
 # A service: a line with its time, its site and its process, ten times a second, into a file of all sites. What is to go
-# wrong with it a file says: how long a stop takes, or that it never ends, or that no end can be armed. The end that is
-# armed stands in a file until the service is over.
+# wrong with it a file says: how long a stop takes, or that it never ends, or that no end can be armed, or that the next
+# one cannot. The end that is armed stands in a file until the service is over.
 SERVICE = """#!/bin/sh
 cd {folder} || exit 1
 site=$BOOTH_LOCAL
@@ -27,6 +27,7 @@ case $1 in
   check) runs && exit 0; exit 3 ;;
   renew)
     [ ! -e "unarmed.$site" ] || exit 1
+    ! rm "once.$site" 2>/dev/null || exit 1
     echo "$BOOTH_TICKET_EXPIRES" >"end.$site.new" && exec mv "end.$site.new" "end.$site"
     ;;
   start)
@@ -99,7 +100,7 @@ class Services:
         follower.wait()
 
     def run(self, member, word):
-        """Runs the service's program by hand, as the unit does once a follower has ended."""
+        """Runs the service's program manually, as the unit does once a follower has ended."""
         told = {"BOOTH_LOCAL": member.address, "BOOTH_TICKET": self.ticket, "BOOTH_TICKET_EXPIRES": "0"}
         return subprocess.run([self.script, word], env={**os.environ, **told}, stdin=subprocess.DEVNULL).returncode
 
@@ -140,7 +141,7 @@ class Services:
         return [(one, other) for one, other in zip(spells, spells[1:]) if other.first <= one.last]
 
     def process(self, member):
-        """The process of a site's service, where one runs."""
+        """The process of a site's service, if one runs."""
         try:
             with open(self.path("pid", member), encoding="ascii") as file:
                 number = int(file.read())

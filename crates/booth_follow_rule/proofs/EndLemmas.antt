@@ -14,10 +14,10 @@ use Rattle.booth_follow_rule.specs.declared.state.FollowDeed.TheVariants as deed
 use Rattle.booth_follow_rule.specs.declared.state.Renewal.{Renewal}
 use Rattle.booth_follow_rule.specs.declared.state.Word.{Word}
 use Rattle.booth_follow_rule.specs.declared.state.Word.TheVariants.{Check, Renew, Start, Stop, Kill}
-use Rattle.booth_follow_rule.specs.Known.{AllRows, Known, Row, Service, Unknown, Started, Over, done_at, known_after, known_at, known_first, told, told_armed, told_done, told_over}
-use Rattle.booth_follow_rule.specs.Laws.{HasArmed, HasTold, IsEnd, IsLet, IsRowLet, known_from, last_shown, shown_after}
+use Rattle.booth_follow_rule.specs.Known.{AllRows, Known, Row, Service, Unknown, Started, Over, done_at, known_after, known_at, known_first, told, told_armed, told_done, told_failed, told_over}
+use Rattle.booth_follow_rule.specs.Laws.{HasArmed, HasRun, HasTold, IsEnd, IsLet, IsRowLet, known_from, last_shown, shown_after}
 use Rattle.booth_follow_rule.specs.Rule.{end_of}
-use Rattle.booth_follow_rule.proofs.RowLemmas.{HasRun, armed_last, armed_more, run_last, run_more, shown_push, shown_told, told_more}
+use Rattle.booth_follow_rule.proofs.RowLemmas.{armed_last, armed_more, run_last, run_more, shown_push, shown_told, told_more}
 
 -- nothing was heard since an earlier follower left an end
 pub record IsLeft (end armed : ℕ) (renewal : Option Renewal) (service : Service) (last : Option Shown) : Type 0 where
@@ -164,6 +164,43 @@ armed_holds left rows row k run h is (Some r) there = by_test (run == r.run) ref
     by_test true e = renewal_done left rows row k run h is r there (same_number run r.run e)
     by_test false e = quiet_holds left rows row k h (news.End run Done) is refl
 
+-- ---- a renewal failed
+
+renewal_failed : (left : Option ℕ) (rows : List Row) (row : Row) (k : Known) (run : ℕ) → Holds left rows k →
+    row.at.heard ≡ news.End run Failed → (r : Renewal) → k.renewal ≡ Some r →
+    Holds left (rows ++ row ∷ []) (record k { renewal = Some (record r { failed = true }) })
+renewal_failed left rows row k run h is r there =
+    let whole : List Row = rows ++ row ∷ [] in
+    let made = subst (λ (x : Option Renewal). IsRun x rows) there h.run in
+    let quiet : last_shown None whole ≡ last_shown None rows =
+    shown_push None rows row ∙ ap (λ (n : News). shown_after (last_shown None rows) n) is in record {
+      shown = λ here. by_shown quiet (h.shown here);
+      run = is_run_more rows row (Some r) made;
+      armed_so = armed_so_more left rows row k.armed k.service h.armed_so;
+      latest_so = latest_more left rows row k.latest h.latest_so;
+    }
+  where
+    none_some : k.renewal ≡ None → k.renewal ≡ Some r → ⊥
+    none_some p q = cc
+
+    by_shown : last_shown None (rows ++ row ∷ []) ≡ last_shown None rows →
+        (last_shown None rows ≡ Some (Here k.end)) ⊎ IsLeft k.end k.armed k.renewal k.service (last_shown None rows) →
+        (last_shown None (rows ++ row ∷ []) ≡ Some (Here k.end))
+        ⊎ IsLeft k.end k.armed (Some (record r { failed = true })) k.service (last_shown None (rows ++ row ∷ []))
+    by_shown quiet (inl e) = inl (quiet ∙ e)
+    by_shown quiet (inr l) = absurd (none_some l.none there)
+
+failed_holds : (left : Option ℕ) (rows : List Row) (row : Row) (k : Known) (run : ℕ) → Holds left rows k →
+    row.at.heard ≡ news.End run Failed → (r : Option Renewal) → k.renewal ≡ r →
+    Holds left (rows ++ row ∷ []) (told_failed k run r)
+failed_holds left rows row k run h is None there = quiet_holds left rows row k h (news.End run Failed) is refl
+failed_holds left rows row k run h is (Some r) there = by_test (run == r.run)
+  where
+    by_test : (test : Bool) →
+        Holds left (rows ++ row ∷ []) (cond test (record k { renewal = Some (record r { failed = true }) }) k)
+    by_test true = renewal_failed left rows row k run h is r there
+    by_test false = quiet_holds left rows row k h (news.End run Failed) is refl
+
 -- ---- news
 
 list_holds : (left : Option ℕ) (rows : List Row) (row : Row) (k : Known) → Holds left rows k → (here : Bool) (end : ℕ) →
@@ -180,7 +217,7 @@ news_holds_so : (left : Option ℕ) (rows : List Row) (row : Row) (k : Known) �
     Holds left (rows ++ row ∷ []) (told k row.at.reading heard)
 news_holds_so left rows row k h news.Nothing is = quiet_holds left rows row k h news.Nothing is refl
 news_holds_so left rows row k h news.Stop is = quiet_holds left rows row k h news.Stop is refl
-news_holds_so left rows row k h (news.End run Failed) is = quiet_holds left rows row k h (news.End run Failed) is refl
+news_holds_so left rows row k h (news.End run Failed) is = failed_holds left rows row k run h is k.renewal refl
 news_holds_so left rows row k h (news.End run Done) is =
     let then : Known = told_armed k run k.renewal in
     ended_holds left (rows ++ row ∷ []) then row.at.reading (armed_holds left rows row k run h is k.renewal refl) (run == then.run)
@@ -226,7 +263,7 @@ is_shown left rows k h here later = by_shown (h.shown here)
 
 renew_holds : (left : Option ℕ) (rows : List Row) (k : Known) (number until reading : ℕ) → Holds left rows k → k.here ≡ true → k.armed < k.end → until ≡ k.end →
     HasRun number until rows →
-    HoldsOf left rows k.here k.end k.armed k.latest (Some (record { run = number; end = until; since = reading })) k.service
+    HoldsOf left rows k.here k.end k.armed k.latest (Some (record { run = number; end = until; since = reading; failed = false })) k.service
 renew_holds left rows k number until reading h here later is run =
     let shown : last_shown None rows ≡ Some (Here k.end) = is_shown left rows k h here later in record {
       shown = λ here. inl shown;
@@ -300,12 +337,21 @@ over_armed k run over (Some r) = by_test (run == r.run)
     by_test true = over
     by_test false = over
 
+over_failed : (k : Known) (run : ℕ) → k.service ≡ Over → (r : Option Renewal) → (told_failed k run r).service ≡ Over
+over_failed k run over None = over
+over_failed k run over (Some r) = by_test (run == r.run)
+  where
+    by_test : (test : Bool) →
+        (let now : Known = cond test (record k { renewal = Some (record r { failed = true }) }) k in now).service ≡ Over
+    by_test true = over
+    by_test false = over
+
 pub over_stays : (k : Known) (reading : ℕ) → k.service ≡ Over → (heard : News) → (told k reading heard).service ≡ Over
 over_stays k reading over news.Nothing = over
 over_stays k reading over news.Stop = over
 over_stays k reading over (news.List Elsewhere) = over
 over_stays k reading over (news.List (Here until)) = over
-over_stays k reading over (news.End run Failed) = over
+over_stays k reading over (news.End run Failed) = over_failed k run over k.renewal
 over_stays k reading over (news.End run Done) =
     let then : Known = told_armed k run k.renewal in over_ended then reading (over_armed k run over k.renewal) (run == then.run)
 

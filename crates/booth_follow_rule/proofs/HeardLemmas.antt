@@ -10,7 +10,7 @@ use Rattle.booth_follow_rule.specs.declared.state.FollowDeed.TheVariants as deed
 use Rattle.booth_follow_rule.specs.declared.state.Renewal.{Renewal}
 use Rattle.booth_follow_rule.specs.declared.state.Word.{Word}
 use Rattle.booth_follow_rule.specs.declared.state.Word.TheVariants.{Check, Renew, Start, Stop, Kill}
-use Rattle.booth_follow_rule.specs.Known.{Known, Row, Service, Unknown, Started, Over, done_at, known_after, known_first, told, told_armed, told_done, told_ended}
+use Rattle.booth_follow_rule.specs.Known.{Known, Row, Service, Unknown, Started, Over, done_at, known_after, known_first, told, told_armed, told_done, told_ended, told_failed}
 use Rattle.booth_follow_rule.specs.Laws.{KnowsWhatIsHeard, known_from, last_shown, shown_after, shown_first}
 
 -- what the last list shows, as it was; or it counts no more
@@ -54,6 +54,14 @@ same_armed k run (Some r) = by_test (run == r.run)
     by_test true = record { here = λ is. is; end = refl }
     by_test false = same k
 
+same_failed : (k : Known) (run : ℕ) (r : Option Renewal) → SameList k (told_failed k run r)
+same_failed k run None = same k
+same_failed k run (Some r) = by_test (run == r.run)
+  where
+    by_test : (test : Bool) → SameList k (cond test (record k { renewal = Some (record r { failed = true }) }) k)
+    by_test true = record { here = λ is. is; end = refl }
+    by_test false = same k
+
 same_deed : (k : Known) (reading : ℕ) (deed : FollowDeed) → SameList k (done_at k reading deed)
 same_deed k reading deeds.Nothing = record { here = λ is. is; end = refl }
 same_deed k reading deeds.Leave = record { here = λ is. is; end = refl }
@@ -76,7 +84,8 @@ agrees_told k last reading so news.Nothing = so
 agrees_told k last reading so news.Stop = so
 agrees_told k last reading so (news.List (Here until)) = λ here. refl
 agrees_told k last reading so (news.List Elsewhere) = λ here. absurd cc
-agrees_told k last reading so (news.End run Failed) = so
+agrees_told k last reading so (news.End run Failed) =
+    agrees_with k (told_failed k run k.renewal) last (same_failed k run k.renewal) so
 agrees_told k last reading so (news.End run Done) =
     let then : Known = told_armed k run k.renewal in
     agrees_with then (told_ended then reading run) last (same_ended then reading (run == then.run)) (agrees_with k then last (same_armed k run k.renewal) so)

@@ -1,8 +1,6 @@
 -- A follower's deeds are let by what is known.
-use Rattle.std.proofs.Common.{◌≡◌, ◌≢◌, ◌<◌, ◌≤◌, ◌+◌, ◌⊎◌, ℕ, Bool, true, false, not, ◌&&◌, ◌||◌, ◌==◌, cond, max, map, List, [], ◌∷◌, Option, Some, None, refl, sym, ap, subst, inl, inr, arith}
-use Rattle.std.specs.Prelude.{nat_lt, nat_le}
+use Rattle.std.proofs.Common.{◌≡◌, ◌≢◌, ◌<◌, ◌≤◌, ◌+◌, ◌⊎◌, ℕ, Bool, true, false, not, ◌&&◌, ◌||◌, ◌==◌, cond, max, map, List, [], ◌∷◌, Option, Some, None, refl, sym, ap, subst, inl, inr}
 use Rattle.std.proofs.lemmas.Bool.{cond_both, and_parts}
-use Rattle.std.proofs.lemmas.Bool.Decides.{nat_tests}
 use Rattle.booth_follow_rule.specs.declared.margins.Margins.{Margins}
 use Rattle.booth_follow_rule.specs.declared.news.News.{News}
 use Rattle.booth_follow_rule.specs.declared.news.News.TheVariants as news
@@ -14,157 +12,12 @@ use Rattle.booth_follow_rule.specs.declared.state.Renewal.{Renewal}
 use Rattle.booth_follow_rule.specs.declared.state.Stage.{Stage}
 use Rattle.booth_follow_rule.specs.declared.state.Stage.TheVariants.{Opening, Down, Up, Stopping, Killing, Ended}
 use Rattle.booth_follow_rule.specs.declared.state.State.{State}
-use Rattle.booth_follow_rule.specs.declared.state.Word.{Word}
 use Rattle.booth_follow_rule.specs.declared.state.Word.TheVariants.{Check, Start, Stop, Kill}
 use Rattle.booth_follow_rule.specs.declared.steps.Step.{Step}
-use Rattle.booth_follow_rule.specs.Known.{AllRows, Known, Row, Service, Unknown, Started, Over, done_at, known_first, rows_from, told, told_armed, told_done, told_ended}
-use Rattle.booth_follow_rule.specs.Laws.{DeedsAreLet, GoesOn, IsAwaited, IsDue, IsHeld, IsKept, IsLet, IsQuietLet, IsRenewable, IsRenewalRested, IsRenewedBeside, IsRowLet, IsStopLet}
-use Rattle.booth_follow_rule.specs.Rule.{Moment, arms, deeds_from, end_of, ends_service, follow_step, goes_on, has_failed, hears, is_held, is_kept, is_renewable, is_rested, leaves, leaves_more, may_renew, no_deed, opening, renewed, renews, rests, runs, starts, state_after, step_at, stops_first}
-
--- ---- tests
-
-less : (a b : ℕ) → nat_lt a b ≡ true → a < b
-less a b h = grind (arith, nat_tests)
-
-not_less : (a b : ℕ) → nat_lt a b ≡ false → b ≤ a
-not_less a b h = grind (arith, nat_tests)
-
-test_less : (a b : ℕ) → a < b → nat_lt a b ≡ true
-test_less a b h = grind (arith, nat_tests)
-
-no_more : (a b : ℕ) → nat_le a b ≡ true → a ≤ b
-no_more a b h = grind (arith, nat_tests)
-
-test_no_more : (a b : ℕ) → a ≤ b → nat_le a b ≡ true
-test_no_more a b h = grind (arith, nat_tests)
-
-is_zero : (a : ℕ) → (a == 0) ≡ true → a ≡ 0
-is_zero a h = grind (arith, nat_tests)
-
-no_zero : (a : ℕ) → (a == 0) ≡ false → a ≢ 0
-no_zero a h is = grind (arith, nat_tests, is)
-
-test_both : (a b : Bool) → a ≡ true → b ≡ true → (a && b) ≡ true
-test_both true b p q = q
-test_both false b p q = absurd cc
-
-clash : (b : Bool) → b ≡ false → b ≡ true → ⊥
-clash true p q = cc
-clash false p q = cc
-
--- ---- what is known of a follower that stands so
-
--- what the state does not tell: the latest armed end, when the service was over, when it was killed, the last reading,
--- whether it ended by a kill, whether it was taken over by a check, and whether this follower started it
-record Extra : Type 0 where
-  latest : ℕ
-  over_at : ℕ
-  killed_at : ℕ
-  seen : ℕ
-  killed : Bool
-  checked : Bool
-  started : Bool
-
-abbrev ended_by : Bool → Option Word
-ended_by true = Some Kill
-ended_by false = Some Stop
-
-abbrev begun_by : Bool → Option Word
-begun_by true = Some Check
-begun_by false = Some Start
-
-abbrev begun : Bool → Service
-begun true = Started
-begun false = Unknown
-
-abbrev last_of : Stage → Bool → Bool → Option Word
-last_of Opening killed checked = None
-last_of (Down since) killed checked = ended_by killed
-last_of Up killed checked = begun_by checked
-last_of (Stopping by) killed checked = Some Stop
-last_of (Killing failed) killed checked = Some Kill
-last_of Ended killed checked = ended_by killed
-
-abbrev service_of : Stage → Bool → Service
-service_of Opening started = Unknown
-service_of (Down since) started = Over
-service_of Up started = Started
-service_of (Stopping by) started = begun started
-service_of (Killing failed) started = begun started
-service_of Ended started = Over
-
-abbrev over_of : Stage → ℕ → ℕ
-over_of (Down since) over_at = since
-over_of stage over_at = over_at
-
-abbrev left_of : Stage → Bool
-left_of Ended = true
-left_of stage = false
-
-abbrev known_as : State → Extra → Known
-known_as s e = record {
-  here = s.here;
-  end = s.until;
-  armed = s.armed;
-  latest = e.latest;
-  renewal = s.renewal;
-  asked = s.asked;
-  last = last_of s.stage e.killed e.checked;
-  run = s.run;
-  number = s.number;
-  service = service_of s.stage e.started;
-  over_at = over_of s.stage e.over_at;
-  killed_at = e.killed_at;
-  seen = e.seen;
-  left = left_of s.stage;
-}
-
--- the end of a stop is the armed one, where this follower made the start
-abbrev IsSoundAt : Stage → ℕ → Bool → Type 0
-IsSoundAt (Stopping by) armed started = started ≡ true → by ≡ armed
-IsSoundAt stage armed started = Unit {0}
-
-abbrev IsSound : State → Extra → Type 0
-IsSound s e = IsSoundAt s.stage s.armed e.started
-
--- ---- tests of a state
-
-held : (m : Margins) (reading : ℕ) (s : State) (e : Extra) → is_held m reading s ≡ true → IsHeld m reading (known_as s e)
-held m reading s e h =
-    let both = and_parts s.here (nat_lt (reading + m.margin) s.until) h in record { here = both.0; in_time = less (reading + m.margin) s.until both.1 }
-
-test_held : (m : Margins) (reading : ℕ) (s : State) (e : Extra) → IsHeld m reading (known_as s e) → is_held m reading s ≡ true
-test_held m reading s e h = test_both s.here (nat_lt (reading + m.margin) s.until) h.here (test_less (reading + m.margin) s.until h.in_time)
-
-kept : (m : Margins) (reading : ℕ) (s : State) (e : Extra) → is_kept m reading s ≡ true → IsKept m reading (known_as s e)
-kept m reading s e h =
-    let both = and_parts (is_held m reading s) (nat_lt (reading + m.margin) s.armed) h in
-    record { held = held m reading s e both.0; armed = less (reading + m.margin) s.armed both.1 }
-
-not_kept : (m : Margins) (reading : ℕ) (s : State) (e : Extra) → is_kept m reading s ≡ false → IsKept m reading (known_as s e) → ⊥
-not_kept m reading s e not h =
-    clash (is_kept m reading s) not
-    (test_both (is_held m reading s) (nat_lt (reading + m.margin) s.armed) (test_held m reading s e h.held) (test_less (reading + m.margin) s.armed h.armed))
-
-renewal_rested : (m : Margins) (reading : ℕ) (r : Option Renewal) → may_renew m reading r ≡ true → IsRenewalRested m reading r
-renewal_rested m reading None h = tt
-renewal_rested m reading (Some r) h = no_more (r.since + m.pause) reading h
-
-test_rested : (m : Margins) (reading : ℕ) (r : Option Renewal) → IsRenewalRested m reading r → may_renew m reading r ≡ true
-test_rested m reading None h = refl
-test_rested m reading (Some r) h = test_no_more (r.since + m.pause) reading h
-
-renewable : (m : Margins) (reading : ℕ) (s : State) (e : Extra) → is_renewable m reading s ≡ true → IsRenewable m reading (known_as s e)
-renewable m reading s e h =
-    let both = and_parts s.here (nat_lt s.armed s.until && may_renew m reading s.renewal) h in
-    let rest = and_parts (nat_lt s.armed s.until) (may_renew m reading s.renewal) both.1 in
-    record { here = both.0; later = less s.armed s.until rest.0; rested = renewal_rested m reading s.renewal rest.1 }
-
-not_renewable : (m : Margins) (reading : ℕ) (s : State) (e : Extra) → is_renewable m reading s ≡ false → IsRenewable m reading (known_as s e) → ⊥
-not_renewable m reading s e not h =
-    clash (is_renewable m reading s) not
-    (test_both s.here (nat_lt s.armed s.until && may_renew m reading s.renewal) h.here
-    (test_both (nat_lt s.armed s.until) (may_renew m reading s.renewal) (test_less s.armed s.until h.later) (test_rested m reading s.renewal h.rested)))
+use Rattle.booth_follow_rule.specs.Known.{AllRows, Known, Row, Service, Unknown, Started, Over, done_at, known_first, rows_from, told, told_armed, told_done, told_ended, told_failed}
+use Rattle.booth_follow_rule.specs.Laws.{DeedsAreLet, GoesOn, IsAwaited, IsDue, IsLet, IsQuietLet, IsRenewable, IsRenewedBeside, IsRowLet, IsStopLet}
+use Rattle.booth_follow_rule.specs.Rule.{Moment, arms, deeds_from, end_of, ends_service, follow_step, goes_on, has_failed, hears, is_held, is_kept, is_renewable, is_rested, leaves, leaves_more, no_deed, not_renewed, opening, renewed, renews, rests, runs, starts, state_after, step_at, stops_first}
+use Rattle.booth_follow_rule.proofs.StateLemmas.{Extra, IsSound, IsSoundAt, begun, begun_by, clash, due, due_first, failed_is, held, is_zero, kept, known_as, last_of, left_of, less, no_more, no_zero, not_due, not_due_first, not_failed, not_kept, not_less, not_renewable, renewable, service_of, test_both, test_held, test_no_more}
 
 -- ---- one step
 
@@ -196,39 +49,6 @@ on_goes m reading how was s e sound here beside quiet =
     cond_both (is_renewable m reading s) (renews reading s) (no_deed s s.stage) (λ (step : Step). Goes m reading how was (known_as s e) step)
     (λ test. ((here, refl, refl, (renewable m reading s e test, beside)), (record e { seen = reading }, refl, sound)))
     (λ test. (quiet (not_renewable m reading s e test), (record e { seen = reading }, refl, sound)))
-
--- what the test for the end of a service says
-due : (asked failed held : Bool) → (asked || (failed || not held)) ≡ true → (asked ≡ true) ⊎ ((failed ≡ true) ⊎ (held ≡ false))
-due true failed held e = inl refl
-due false true held e = inr (inl refl)
-due false false true e = absurd cc
-due false false false e = inr (inr refl)
-
-not_due : (asked failed held : Bool) → (asked || (failed || not held)) ≡ false → (asked ≡ false) × (failed ≡ false) × (held ≡ true)
-not_due true failed held e = absurd cc
-not_due false true held e = absurd cc
-not_due false false true e = (refl, refl, refl)
-not_due false false false e = absurd cc
-
-due_first : (asked held : Bool) → (asked || not held) ≡ true → (asked ≡ true) ⊎ (held ≡ false)
-due_first true held e = inl refl
-due_first false true e = absurd cc
-due_first false false e = inr refl
-
-not_due_first : (asked held : Bool) → (asked || not held) ≡ false → (asked ≡ false) × (held ≡ true)
-not_due_first true held e = absurd cc
-not_due_first false true e = (refl, refl)
-not_due_first false false e = absurd cc
-
-failed_is : (how : Option RunEnd) → has_failed how ≡ true → how ≡ Some Failed
-failed_is None h = absurd cc
-failed_is (Some Done) h = absurd cc
-failed_is (Some Failed) h = refl
-
-not_failed : (how : Option RunEnd) → has_failed how ≡ false → how ≢ Some Failed
-not_failed None h = λ is. cc
-not_failed (Some Done) h = λ is. cc
-not_failed (Some Failed) h = absurd cc
 
 -- ---- at first
 
@@ -485,6 +305,29 @@ renewal_goes m reading s e sound run (Some r) = by_test (run == r.run)
     by_test true = armed_goes m reading s e r.end run s.stage
     by_test false = run_goes m reading s e s.stage sound (run == s.run)
 
+-- a run failed, which may be the last but for renewals
+fail_goes : (m : Margins) (reading : ℕ) (s : State) (e : Extra) (stage : Stage) → IsSoundAt stage s.armed e.started → (test : Bool) →
+    Goes m reading (cond test (Some Failed) None) (service_of stage e.started) (known_as (with_stage s stage) e)
+    (step_at m reading (cond test (Some Failed) None) (with_stage s stage) stage)
+fail_goes m reading s e stage sound true = failed_goes m reading s e stage
+fail_goes m reading s e stage sound false = none_goes m reading s e stage sound
+
+abbrev until_failed : State → Renewal → State
+until_failed s r = record s { renewal = Some (record r { failed = true }) }
+
+-- the same run was a renewal's
+unrenewed_goes : (m : Margins) (reading : ℕ) (s : State) (e : Extra) → IsSound s e → (run : ℕ) (r : Option Renewal) →
+    Goes m reading (cond (run == s.run) (Some Failed) None) (service_of s.stage e.started) (told_failed (known_as s e) run r)
+    (step_at m reading (cond (run == s.run) (Some Failed) None) (not_renewed s run r) (not_renewed s run r).stage)
+unrenewed_goes m reading s e sound run None = fail_goes m reading s e s.stage sound (run == s.run)
+unrenewed_goes m reading s e sound run (Some r) = by_test (run == r.run)
+  where
+    by_test : (test : Bool) → Goes m reading (cond (run == s.run) (Some Failed) None) (service_of s.stage e.started)
+        (cond test (record (known_as s e) { renewal = Some (record r { failed = true }) }) (known_as s e))
+        (step_at m reading (cond (run == s.run) (Some Failed) None) (cond test (until_failed s r) s) (cond test (until_failed s r) s).stage)
+    by_test true = fail_goes m reading (until_failed s r) e s.stage sound (run == s.run)
+    by_test false = fail_goes m reading s e s.stage sound (run == s.run)
+
 -- what follows a moment
 moment_goes : (m : Margins) (reading : ℕ) (s : State) (e : Extra) → IsSound s e → (heard : News) →
     Goes m reading (end_of s.run heard) (service_of s.stage e.started) (told (known_as s e) reading heard)
@@ -493,12 +336,7 @@ moment_goes m reading s e sound news.Nothing = none_goes m reading s e s.stage s
 moment_goes m reading s e sound news.Stop = none_goes m reading (record s { asked = true }) e s.stage sound
 moment_goes m reading s e sound (news.List Elsewhere) = none_goes m reading (record s { here = false }) e s.stage sound
 moment_goes m reading s e sound (news.List (Here until)) = none_goes m reading (record s { here = true; until = until }) e s.stage sound
-moment_goes m reading s e sound (news.End run Failed) = by_test (run == s.run)
-  where
-    by_test : (test : Bool) → Goes m reading (cond test (Some Failed) None) (service_of s.stage e.started) (known_as s e)
-        (step_at m reading (cond test (Some Failed) None) s s.stage)
-    by_test true = failed_goes m reading s e s.stage
-    by_test false = none_goes m reading s e s.stage sound
+moment_goes m reading s e sound (news.End run Failed) = unrenewed_goes m reading s e sound run s.renewal
 moment_goes m reading s e sound (news.End run Done) = renewal_goes m reading s e sound run s.renewal
 
 -- ---- all rows

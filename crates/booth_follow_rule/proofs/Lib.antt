@@ -1,3 +1,4 @@
+pub mod StateLemmas
 pub mod KnownLemmas
 pub mod TimeLemmas
 pub mod HeardLemmas

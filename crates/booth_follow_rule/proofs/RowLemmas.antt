@@ -8,12 +8,16 @@ use Rattle.booth_follow_rule.specs.declared.news.Shown.TheVariants.{Here}
 use Rattle.booth_follow_rule.specs.declared.state.FollowDeed.TheVariants as deeds
 use Rattle.booth_follow_rule.specs.declared.state.Word.TheVariants.{Renew}
 use Rattle.booth_follow_rule.specs.Known.{Row}
-use Rattle.booth_follow_rule.specs.Laws.{HasArmed, HasDone, HasTold, last_shown, shown_after}
+use Rattle.booth_follow_rule.specs.Laws.{HasArmed, HasDone, HasRow, HasRun, HasTold, last_shown, shown_after}
 
--- a run of this number was made for a renewal of this end
-abbrev pub HasRun : ℕ → ℕ → List Row → Type 0
-HasRun number end [] = ⊥
-HasRun number end (row ∷ rows) = (row.deed ≡ deeds.Run Renew number end) ⊎ HasRun number end rows
+row_more : (P : Row → Type 0) (before : List Row) (row : Row) → HasRow P before → HasRow P (before ++ row ∷ [])
+row_more P [] row h = absurd h
+row_more P (r ∷ before) row (inl h) = inl h
+row_more P (r ∷ before) row (inr h) = inr (row_more P before row h)
+
+row_last : (P : Row → Type 0) (before : List Row) (row : Row) → P row → HasRow P (before ++ row ∷ [])
+row_last P [] row h = inl h
+row_last P (r ∷ before) row h = inr (row_last P before row h)
 
 pub shown_push : (last : Option Shown) (before : List Row) (row : Row) → last_shown last (before ++ row ∷ []) ≡ shown_after (last_shown last before) row.at.heard
 unfolding last_shown
@@ -21,27 +25,19 @@ shown_push last [] row = refl
 shown_push last (r ∷ before) row = shown_push (shown_after last r.at.heard) before row
 
 pub told_more : (end : ℕ) (before : List Row) (row : Row) → HasTold end before → HasTold end (before ++ row ∷ [])
-told_more end [] row h = absurd h
-told_more end (r ∷ before) row (inl h) = inl h
-told_more end (r ∷ before) row (inr h) = inr (told_more end before row h)
+told_more end before row h = row_more (λ (r : Row). r.at.heard ≡ news.List (Here end)) before row h
 
 pub run_more : (number end : ℕ) (before : List Row) (row : Row) → HasRun number end before → HasRun number end (before ++ row ∷ [])
-run_more number end [] row h = absurd h
-run_more number end (r ∷ before) row (inl h) = inl h
-run_more number end (r ∷ before) row (inr h) = inr (run_more number end before row h)
+run_more number end before row h = row_more (λ (r : Row). r.deed ≡ deeds.Run Renew number end) before row h
 
 pub run_last : (number end : ℕ) (before : List Row) (row : Row) → row.deed ≡ deeds.Run Renew number end → HasRun number end (before ++ row ∷ [])
-run_last number end [] row h = inl h
-run_last number end (r ∷ before) row h = inr (run_last number end before row h)
+run_last number end before row h = row_last (λ (r : Row). r.deed ≡ deeds.Run Renew number end) before row h
 
-done_more : (number : ℕ) (before : List Row) (row : Row) → HasDone number before → HasDone number (before ++ row ∷ [])
-done_more number [] row h = absurd h
-done_more number (r ∷ before) row (inl h) = inl h
-done_more number (r ∷ before) row (inr h) = inr (done_more number before row h)
+pub done_more : (number : ℕ) (before : List Row) (row : Row) → HasDone number before → HasDone number (before ++ row ∷ [])
+done_more number before row h = row_more (λ (r : Row). r.at.heard ≡ news.End number Done) before row h
 
-done_last : (number : ℕ) (before : List Row) (row : Row) → row.at.heard ≡ news.End number Done → HasDone number (before ++ row ∷ [])
-done_last number [] row h = inl h
-done_last number (r ∷ before) row h = inr (done_last number before row h)
+pub done_last : (number : ℕ) (before : List Row) (row : Row) → row.at.heard ≡ news.End number Done → HasDone number (before ++ row ∷ [])
+done_last number before row h = row_last (λ (r : Row). r.at.heard ≡ news.End number Done) before row h
 
 pub armed_more : (end : ℕ) (before : List Row) (row : Row) → HasArmed end before → HasArmed end (before ++ row ∷ [])
 armed_more end [] row h = absurd h

@@ -11,7 +11,7 @@ use Rattle.booth_follow_rule.specs.declared.state.FollowDeed.TheVariants as deed
 use Rattle.booth_follow_rule.specs.declared.state.Renewal.{Renewal}
 use Rattle.booth_follow_rule.specs.declared.state.Word.{Word}
 use Rattle.booth_follow_rule.specs.declared.state.Word.TheVariants.{Check, Renew, Start, Stop, Kill}
-use Rattle.booth_follow_rule.specs.Known.{AllRows, Known, Row, Service, Unknown, Started, Over, done_at, killed_from, known_after, known_at, known_first, rows_of, told, told_armed, told_done, told_ended, told_over}
+use Rattle.booth_follow_rule.specs.Known.{AllRows, Known, Row, Service, Unknown, Started, Over, done_at, killed_from, known_after, known_at, known_first, rows_of, told, told_armed, told_done, told_ended, told_failed, told_over}
 use Rattle.booth_follow_rule.specs.Laws.{IsCovered, IsLet, IsPrompt, IsQuietLet, IsRenewedBeside, IsRowLet, IsStopLet, ServesInTime}
 use Rattle.booth_follow_rule.specs.Rule.{end_of}
 use Rattle.booth_follow_rule.proofs.KnownLemmas.{deeds_let}
@@ -60,6 +60,14 @@ armed_from k run le (Some r) = by_test (run == r.run)
     by_test true = record { last = refl; killed_at = refl; seen = refl; left = refl; grows = omega arith; known = omega arith; service = λ is. is }
     by_test false = told_same k le
 
+failed_from : (k : Known) (run : ℕ) → k.armed ≤ k.latest → (r : Option Renewal) → ToldFrom k (told_failed k run r)
+failed_from k run le None = told_same k le
+failed_from k run le (Some r) = by_test (run == r.run)
+  where
+    by_test : (test : Bool) → ToldFrom k (cond test (record k { renewal = Some (record r { failed = true }) }) k)
+    by_test true = record { last = refl; killed_at = refl; seen = refl; left = refl; grows = omega arith; known = le; service = λ is. is }
+    by_test false = told_same k le
+
 both_from : (k then now : Known) → ToldFrom k then → ToldFrom then now → ToldFrom k now
 both_from k then now first second =
     let grows : k.latest ≤ then.latest = first.grows in let more : then.latest ≤ now.latest = second.grows in record {
@@ -78,7 +86,7 @@ told_from k reading le news.Stop = record { last = refl; killed_at = refl; seen 
 told_from k reading le (news.List Elsewhere) = record { last = refl; killed_at = refl; seen = refl; left = refl; grows = omega arith; known = le; service = λ is. is }
 told_from k reading le (news.List (Here until)) =
     record { last = refl; killed_at = refl; seen = refl; left = refl; grows = omega arith; known = le; service = λ is. is }
-told_from k reading le (news.End run Failed) = told_same k le
+told_from k reading le (news.End run Failed) = failed_from k run le k.renewal
 told_from k reading le (news.End run Done) =
     let then : Known = told_armed k run k.renewal in
     let first : ToldFrom k then = armed_from k run le k.renewal in

@@ -15,12 +15,19 @@ use Rattle.booth_follow_rule.specs.Rule.{follow_deeds}
 abbrev pub times : Margins
 times = record { margin = 20000; kill = 5000; pause = 5000 }
 
+-- those of a lease of 20 seconds that is renewed each 10 seconds
+abbrev pub short_times : Margins
+short_times = record { margin = 5000; kill = 2500; pause = 5000 }
+
 abbrev pub row : ℕ → News → FollowDeed → Row
 row reading heard deed = record { at = record { reading = reading; heard = heard }; deed = deed }
 
--- the deeds of a story are those of the rule, for a follower to which an earlier one left such an end
+-- the deeds of a story are those of the rule, for a follower with these times to which an earlier one left such an end
+abbrev pub IsFollowedBy : Margins → Option ℕ → List Row → Type 0
+IsFollowedBy m left rows = follow_deeds m left (map (λ r. r.at) rows) ≡ map (λ r. r.deed) rows
+
 abbrev pub IsFollowed : Option ℕ → List Row → Type 0
-IsFollowed left rows = follow_deeds times left (map (λ r. r.at) rows) ≡ map (λ r. r.deed) rows
+IsFollowed left rows = IsFollowedBy times left rows
 
 -- A service through a whole life of a ticket: what an earlier follower left is stopped; an end is armed, and it is
 -- started; its lease is renewed and then not, and it is killed; it is started again, until another site is shown, and
@@ -53,8 +60,8 @@ a_whole_life =
     ∷ []
 
 -- What fails: a stop that fails is followed by a kill, and a kill that fails by another after a pause; a renewal that
--- fails is made again after a pause; a start that fails is cleared up, and made again behind a renewal; where readings
--- stood still for too long there is no time to stop.
+-- fails is made again 0.9 seconds after it was made; a start that fails is cleared up, and made again behind a renewal;
+-- where readings stood still for too long there is no time to stop.
 abbrev pub what_fails : List Row
 what_fails =
     row 1000 n.Nothing (deeds.Run Stop 1 0)
@@ -65,8 +72,8 @@ what_fails =
     ∷ row 6300 (n.End 3 Done) deeds.Nothing
     ∷ row 12000 (n.List (Here 60000)) (deeds.Run Renew 4 60000)
     ∷ row 12100 (n.End 4 Failed) deeds.Nothing
-    ∷ row 16999 n.Nothing deeds.Nothing
-    ∷ row 17000 n.Nothing (deeds.Run Renew 5 60000)
+    ∷ row 12899 n.Nothing deeds.Nothing
+    ∷ row 12900 n.Nothing (deeds.Run Renew 5 60000)
     ∷ row 17100 (n.End 5 Done) (deeds.Run Start 6 60000)
     ∷ row 17200 (n.End 6 Failed) (deeds.Run Stop 7 60000)
     ∷ row 17300 (n.End 7 Done) deeds.Nothing
@@ -98,8 +105,8 @@ no_start =
     ∷ row 24100 (n.End 4 Done) (deeds.Run Start 5 50000)
     ∷ []
 
--- A renewal that fails leaves the end before in force: the service is stopped in time for that; one that is done while
--- it stops gives the stop more time.
+-- A renewal that fails leaves the end before in force, as one that runs on does; that one is made again after a pause.
+-- The service is stopped in time for the end before; a renewal that is done while it stops gives the stop more time.
 abbrev pub a_renewal_fails : List Row
 a_renewal_fails =
     row 1000 n.Nothing (deeds.Run Stop 1 0)
@@ -108,15 +115,71 @@ a_renewal_fails =
     ∷ row 7100 (n.End 2 Done) (deeds.Run Start 3 60000)
     ∷ row 30000 (n.List (Here 90000)) (deeds.Run Renew 4 90000)
     ∷ row 30100 (n.End 4 Failed) deeds.Nothing
-    ∷ row 34999 n.Nothing deeds.Nothing
-    ∷ row 35000 n.Nothing (deeds.Run Renew 5 90000)
-    ∷ row 35100 (n.List (Here 91000)) deeds.Nothing
-    ∷ row 39999 n.Nothing deeds.Nothing
-    ∷ row 40000 n.Nothing (deeds.Run Stop 6 60000)
-    ∷ row 41000 n.Nothing (deeds.Run Renew 7 91000)
-    ∷ row 41100 (n.End 7 Done) deeds.Nothing
+    ∷ row 30899 n.Nothing deeds.Nothing
+    ∷ row 30900 n.Nothing (deeds.Run Renew 5 90000)
+    ∷ row 31100 (n.List (Here 91000)) deeds.Nothing
+    ∷ row 35899 n.Nothing deeds.Nothing
+    ∷ row 35900 n.Nothing (deeds.Run Renew 6 91000)
+    ∷ row 39999 (n.End 5 Failed) deeds.Nothing
+    ∷ row 40000 n.Nothing (deeds.Run Stop 7 60000)
+    ∷ row 40899 n.Nothing deeds.Nothing
+    ∷ row 40900 n.Nothing (deeds.Run Renew 8 91000)
+    ∷ row 41100 (n.End 8 Done) deeds.Nothing
     ∷ row 55000 n.Nothing deeds.Nothing
-    ∷ row 56000 (n.End 6 Done) deeds.Nothing
+    ∷ row 56000 (n.End 7 Done) deeds.Nothing
+    ∷ []
+
+-- A lease of 20 seconds that is renewed each 10 seconds. A renewal that fails is made again 0.9 seconds after it was
+-- made, or at once where it took longer to fail. So the service, whose end would have it stopped at 21000, runs on.
+abbrev pub a_short_lease : List Row
+a_short_lease =
+    row 1000 n.Nothing (deeds.Run Stop 1 0)
+    ∷ row 1100 (n.End 1 Done) deeds.Nothing
+    ∷ row 6500 (n.List (Here 26000)) (deeds.Run Renew 2 26000)
+    ∷ row 6600 (n.End 2 Done) (deeds.Run Start 3 26000)
+    ∷ row 6900 (n.End 3 Done) deeds.Nothing
+    ∷ row 16000 (n.List (Here 26000)) deeds.Nothing
+    ∷ row 17000 (n.List (Here 36000)) (deeds.Run Renew 4 36000)
+    ∷ row 17100 (n.End 4 Failed) deeds.Nothing
+    ∷ row 17899 n.Nothing deeds.Nothing
+    ∷ row 17900 n.Nothing (deeds.Run Renew 5 36000)
+    ∷ row 18000 (n.List (Here 36000)) deeds.Nothing
+    ∷ row 20100 (n.End 5 Failed) (deeds.Run Renew 6 36000)
+    ∷ row 20200 (n.End 6 Done) deeds.Nothing
+    ∷ row 21000 n.Nothing deeds.Nothing
+    ∷ row 27000 (n.List (Here 46000)) (deeds.Run Renew 7 46000)
+    ∷ row 27100 (n.End 7 Done) deeds.Nothing
+    ∷ row 40999 n.Nothing deeds.Nothing
+    ∷ row 41000 n.Nothing (deeds.Run Stop 8 46000)
+    ∷ []
+
+-- No renewal of such a lease is done: one is made each 0.9 seconds, the service is stopped in time for the end before,
+-- and it is started again behind one that is done.
+abbrev pub no_renewal_is_done : List Row
+no_renewal_is_done =
+    row 1000 n.Nothing (deeds.Run Stop 1 0)
+    ∷ row 1100 (n.End 1 Done) deeds.Nothing
+    ∷ row 6500 (n.List (Here 26000)) (deeds.Run Renew 2 26000)
+    ∷ row 6600 (n.End 2 Done) (deeds.Run Start 3 26000)
+    ∷ row 18000 (n.List (Here 36000)) (deeds.Run Renew 4 36000)
+    ∷ row 18100 (n.End 4 Failed) deeds.Nothing
+    ∷ row 18900 n.Nothing (deeds.Run Renew 5 36000)
+    ∷ row 19000 (n.End 5 Failed) deeds.Nothing
+    ∷ row 19799 n.Nothing deeds.Nothing
+    ∷ row 19800 n.Nothing (deeds.Run Renew 6 36000)
+    ∷ row 19900 (n.End 6 Failed) deeds.Nothing
+    ∷ row 20700 n.Nothing (deeds.Run Renew 7 36000)
+    ∷ row 20800 (n.End 7 Failed) deeds.Nothing
+    ∷ row 20999 n.Nothing deeds.Nothing
+    ∷ row 21000 n.Nothing (deeds.Run Stop 8 26000)
+    ∷ row 21100 (n.End 8 Done) deeds.Nothing
+    ∷ row 22000 (n.List (Here 36000)) deeds.Nothing
+    ∷ row 26099 n.Nothing deeds.Nothing
+    ∷ row 26100 n.Nothing (deeds.Run Renew 9 36000)
+    ∷ row 26200 (n.End 9 Failed) deeds.Nothing
+    ∷ row 26999 n.Nothing deeds.Nothing
+    ∷ row 27000 n.Nothing (deeds.Run Renew 10 36000)
+    ∷ row 27100 (n.End 10 Done) (deeds.Run Start 11 36000)
     ∷ []
 
 -- A stop has longer where the lease is renewed meanwhile, as when the end was asked for.
@@ -199,6 +262,8 @@ pub record StoriesAreFollowed : Type 0 where
   pub what_fails_is : IsFollowed None what_fails
   pub no_start_is : IsFollowed None no_start
   pub a_renewal_fails_is : IsFollowed None a_renewal_fails
+  pub a_short_lease_is : IsFollowedBy short_times None a_short_lease
+  pub no_renewal_is_done_is : IsFollowedBy short_times None no_renewal_is_done
   pub a_stop_has_longer_is : IsFollowed None a_stop_has_longer
   pub taken_over_is : IsFollowed (Some 60000) taken_over
   pub not_running_is : IsFollowed (Some 60000) not_running

@@ -26,9 +26,9 @@ pub data Service : Type 0 where
 
 -- What the last list since the service was over shows, with the end that the last list of this site told; the armed
 -- end, which the last renewal that was done told, or 0 where the service was over since, and the latest of those; the
--- last renewal that is not done; whether the end was asked for; what the program was run for last but for renewals,
--- and that run's number; the number of the last run; the service, and the reading at which it was over; the reading
--- of the first of the kills that were made last; the last reading; whether the follower left.
+-- last renewal that is not done, and whether it failed; whether the end was asked for; what the program was run for
+-- last but for renewals, and that run's number; the number of the last run; the service, and the reading at which it
+-- was over; the reading of the first of the kills that were made last; the last reading; whether the follower left.
 pub record Known : Type 0 where
   pub here : Bool
   pub end : ℕ
@@ -80,6 +80,11 @@ told_armed k run None = k
 abbrev pub told_over : Known → ℕ → Known
 told_over k reading = record k { here = false; armed = 0; renewal = None; service = Over; over_at = reading }
 
+-- a renewal failed
+abbrev pub told_failed : Known → ℕ → Option Renewal → Known
+told_failed k run (Some r) = if run == r.run then record k { renewal = Some (record r { failed = true }) } else k
+told_failed k run None = k
+
 -- the last run was done: where it was a stop or a kill, the service is over
 abbrev pub told_done : Known → ℕ → Service → Option Word → Known
 told_done k reading Over last = k
@@ -95,7 +100,7 @@ abbrev pub told : Known → ℕ → News → Known
 told k reading (news.List (Here until)) = record k { here = true; end = until }
 told k reading (news.List Elsewhere) = record k { here = false }
 told k reading (news.End run Done) = told_ended (told_armed k run k.renewal) reading run
-told k reading (news.End run Failed) = k
+told k reading (news.End run Failed) = told_failed k run k.renewal
 told k reading news.Stop = record k { asked = true }
 told k reading news.Nothing = k
 
@@ -110,7 +115,7 @@ abbrev pub done_at : Known → ℕ → FollowDeed → Known
 done_at k reading (deeds.Run Check number until) =
     record k { last = Some Check; run = number; number = number; service = Started; seen = reading }
 done_at k reading (deeds.Run Renew number until) = record k {
-  renewal = Some (record { run = number; end = until; since = reading });
+  renewal = Some (record { run = number; end = until; since = reading; failed = false });
   number = number;
   seen = reading;
 }

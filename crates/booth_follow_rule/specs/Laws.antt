@@ -1,6 +1,7 @@
 -- What holds of the deeds of every follower.
-use Rattle.std.specs.Prelude.{◌≡◌, ◌≢◌, ◌<◌, ◌≤◌, ◌+◌, ◌*◌, ◌++◌, ◌⊎◌, ℕ, Bool, true, false, List, [], ◌∷◌, map, Option, Some, None}
+use Rattle.std.specs.Prelude.{◌≡◌, ◌≢◌, ◌<◌, ◌≤◌, ◌+◌, ◌*◌, ◌++◌, ◌⊎◌, min, ℕ, Bool, true, false, List, [], ◌∷◌, map, Option, Some, None}
 use Rattle.booth_follow_rule.specs.declared.margins.Margins.{Margins}
+use Rattle.booth_follow_rule.specs.declared.margins.TheConstants.{RETRY}
 use Rattle.booth_follow_rule.specs.declared.news.News.{News}
 use Rattle.booth_follow_rule.specs.declared.news.News.TheVariants as news
 use Rattle.booth_follow_rule.specs.declared.news.RunEnd.{RunEnd}
@@ -13,7 +14,7 @@ use Rattle.booth_follow_rule.specs.declared.state.Renewal.{Renewal}
 use Rattle.booth_follow_rule.specs.declared.state.Word.{Word}
 use Rattle.booth_follow_rule.specs.declared.state.Word.TheVariants.{Check, Renew, Start, Stop, Kill}
 use Rattle.booth_follow_rule.specs.Known.{AllRows, Known, Row, Service, Unknown, Started, Over, known_after, known_at, known_first, rows_of}
-use Rattle.booth_follow_rule.specs.Rule.{Moment, end_of, follow_deeds, next_number}
+use Rattle.booth_follow_rule.specs.Rule.{Moment, end_of, follow_deeds, next_number, wait_of}
 
 -- ---- which deeds are let
 
@@ -37,10 +38,11 @@ pub record GoesOn (m : Margins) (reading : ℕ) (how : Option RunEnd) (now : Kno
   pub not_failed : how ≢ Some Failed
   pub kept : IsKept m reading now
 
--- no renewal is under way, or it was run a pause ago
+-- no renewal is under way or failed; or one runs on that was run a pause ago; or one failed that was run the time of a
+-- retry ago
 abbrev pub IsRenewalRested : Margins → ℕ → Option Renewal → Type 0
 IsRenewalRested m reading None = Unit {0}
-IsRenewalRested m reading (Some r) = r.since + m.pause ≤ reading
+IsRenewalRested m reading (Some r) = r.since + wait_of m r ≤ reading
 
 -- the last list shows this site until an end behind the armed one, which may be renewed
 pub record IsRenewable (m : Margins) (reading : ℕ) (now : Known) : Type 0 where
@@ -114,7 +116,6 @@ IsQuietLet m reading how was now true service last = Unit {0}
 IsQuietLet m reading how was now false Over last =
     was ≡ Over → (now.asked ≡ false) × (IsAwaited m reading now →
     (now.armed ≤ reading + m.margin) × (IsRenewable m reading now → ⊥))
-IsQuietLet m reading how was now false service None = ⊥
 IsQuietLet m reading how was now false service (Some Check) =
     GoesOn m reading how now × (IsRenewable m reading now → ⊥)
 IsQuietLet m reading how was now false service (Some Start) =
@@ -122,7 +123,7 @@ IsQuietLet m reading how was now false service (Some Start) =
 IsQuietLet m reading how was now false service (Some Stop) =
     (service ≡ Started → reading + m.kill < now.armed) × (IsRenewable m reading now → ⊥)
 IsQuietLet m reading how was now false service (Some Kill) = Unit {0}
-IsQuietLet m reading how was now false service (Some Renew) = ⊥
+IsQuietLet m reading how was now false service last = ⊥
 
 -- Which deeds are let at a reading: by how the last run ended, if that came, the service before, and what is known now.
 abbrev pub IsLet : Margins → ℕ → Option RunEnd → Service → Known → FollowDeed → Type 0
@@ -183,15 +184,22 @@ unfoldable pub last_shown : Option Shown → List Row → Option Shown
 last_shown last [] = last
 last_shown last (row ∷ rows) = last_shown (shown_after last row.at.heard) rows
 
+-- P holds of one of the rows
+abbrev pub HasRow : (Row → Type 0) → List Row → Type 0
+HasRow P [] = ⊥
+HasRow P (row ∷ rows) = P row ⊎ HasRow P rows
+
 -- a list in one of the rows shows this site until this end
 abbrev pub HasTold : ℕ → List Row → Type 0
-HasTold until [] = ⊥
-HasTold until (row ∷ rows) = (row.at.heard ≡ news.List (Here until)) ⊎ HasTold until rows
+HasTold until rows = HasRow (λ row. row.at.heard ≡ news.List (Here until)) rows
 
 -- the run of this number ended with 0 in one of the rows
 abbrev pub HasDone : ℕ → List Row → Type 0
-HasDone number [] = ⊥
-HasDone number (row ∷ rows) = (row.at.heard ≡ news.End number Done) ⊎ HasDone number rows
+HasDone number rows = HasRow (λ row. row.at.heard ≡ news.End number Done) rows
+
+-- a renewal of this number was run for this end in one of the rows
+abbrev pub HasRun : ℕ → ℕ → List Row → Type 0
+HasRun number end rows = HasRow (λ row. row.deed ≡ deeds.Run Renew number end) rows
 
 -- a renewal for this end was run in one of the rows, and ended with 0 in a later one
 abbrev pub HasArmed : ℕ → List Row → Type 0
@@ -230,6 +238,15 @@ abbrev pub RenewalsAreTold : Type 0
 RenewalsAreTold = (m : Margins) (left : Option ℕ) (moments : List Moment) (before after : List Row) (row : Row)
     (number until : ℕ) → rows_of m left moments ≡ before ++ row ∷ after → row.deed ≡ deeds.Run Renew number until →
     last_shown None (before ++ row ∷ []) ≡ Some (Here until)
+
+-- Of two renewals with none between them the second comes the time of a retry after the first, or a pause where that is
+-- less; or a run was done between them.
+abbrev pub RenewalsAreApart : Type 0
+RenewalsAreApart = (m : Margins) (left : Option ℕ) (moments : List Moment) (before between after : List Row)
+    (one other : Row) (first second end until : ℕ) →
+    rows_of m left moments ≡ before ++ one ∷ (between ++ other ∷ after) → one.deed ≡ deeds.Run Renew first end →
+    other.deed ≡ deeds.Run Renew second until → ((number told : ℕ) → HasRun number told between → ⊥) →
+    (one.at.reading + min RETRY m.pause ≤ other.at.reading) ⊎ ((number : ℕ) × HasDone number (between ++ other ∷ []))
 
 -- an end that a list told and a renewal armed, or that an earlier follower left
 abbrev pub IsEnd : Option ℕ → List Row → ℕ → Type 0

@@ -1,6 +1,7 @@
 -- The rule: which deed follows a moment, and the deeds of a list of moments.
 use Rattle.std.specs.Prelude.{ℕ, Bool, true, false, not, ◌+◌, ◌%◌, ◌^◌, ◌-◌, min, ◌&&◌, ◌||◌, ◌==◌, nat_le, nat_lt, List, [], ◌∷◌, Option, Some, None, if◌then◌else◌}
 use Rattle.booth_follow_rule.specs.declared.margins.Margins.{Margins}
+use Rattle.booth_follow_rule.specs.declared.margins.TheConstants.{RETRY}
 use Rattle.booth_follow_rule.specs.declared.news.News.{News}
 use Rattle.booth_follow_rule.specs.declared.news.News.TheVariants as news
 use Rattle.booth_follow_rule.specs.declared.news.RunEnd.{RunEnd}
@@ -37,13 +38,18 @@ abbrev pub renewed : State → ℕ → Option Renewal → State
 renewed s run (Some r) = if run == r.run then arms s r.end else s
 renewed s run None = s
 
+-- the run of this number failed: if it was the renewal's, the next one may come sooner
+abbrev pub not_renewed : State → ℕ → Option Renewal → State
+not_renewed s run (Some r) = if run == r.run then record s { renewal = Some (record r { failed = true }) } else s
+not_renewed s run None = s
+
 abbrev pub hears : State → News → State
 hears s (news.List (Here until)) = record s { here = true; until = until }
 hears s (news.List Elsewhere) = record s { here = false }
 hears s news.Stop = record s { asked = true }
 hears s news.Nothing = s
 hears s (news.End run Done) = renewed s run s.renewal
-hears s (news.End run Failed) = s
+hears s (news.End run Failed) = not_renewed s run s.renewal
 
 -- how the run of this number ended, where that came
 abbrev pub end_of : ℕ → News → Option RunEnd
@@ -75,7 +81,7 @@ renews reading s = record {
   deed = deeds.Run Renew (next_number s.number) s.until;
   state = record s {
     number = next_number s.number;
-    renewal = Some (record { run = next_number s.number; end = s.until; since = reading });
+    renewal = Some (record { run = next_number s.number; end = s.until; since = reading; failed = false });
   };
 }
 
@@ -107,14 +113,22 @@ is_held m reading s = s.here && leaves_more m.margin reading s.until
 abbrev pub is_kept : Margins → ℕ → State → Bool
 is_kept m reading s = is_held m reading s && leaves_more m.margin reading s.armed
 
+-- so much time has passed since a reading
+abbrev pub has_passed : ℕ → ℕ → ℕ → Bool
+has_passed time since reading = nat_le (since + time) reading
+
 -- a pause is over since a reading
 abbrev pub is_rested : Margins → ℕ → ℕ → Bool
-is_rested m since reading = nat_le (since + m.pause) reading
+is_rested m since reading = has_passed m.pause since reading
 
--- a renewal may be run: none is under way, or it was run a pause ago
+-- how long after a renewal was run the next one may be: a pause, and less if it failed
+abbrev pub wait_of : Margins → Renewal → ℕ
+wait_of m r = if r.failed then RETRY else m.pause
+
+-- a renewal may be run: none is under way or failed, or so much time has passed since that was run
 abbrev pub may_renew : Margins → ℕ → Option Renewal → Bool
 may_renew m reading None = true
-may_renew m reading (Some r) = is_rested m r.since reading
+may_renew m reading (Some r) = has_passed (wait_of m r) r.since reading
 
 -- a list of this site told a later end than the armed one
 abbrev pub is_renewable : Margins → ℕ → State → Bool

@@ -1,6 +1,6 @@
 //! What holds of the deeds of every follower, whatever it is told.
 ghost use Rattle.booth_follow_rule.specs.Examples.{StoriesAreFollowed};
-ghost use Rattle.booth_follow_rule.specs.Laws.{DeedsAreLet, KnowsWhatIsHeard, RenewalsAreTold, ServesBelowAnEnd, ServesInTime, StartsAreHeld};
+ghost use Rattle.booth_follow_rule.specs.Laws.{DeedsAreLet, KnowsWhatIsHeard, RenewalsAreApart, RenewalsAreTold, ServesBelowAnEnd, ServesInTime, StartsAreHeld};
 
 /// Each deed is let by what is known before it, and where one is due it is not left out.
 pub fn deeds_are_let()
@@ -31,6 +31,12 @@ pub fn starts_are_held()
 /// Each end that a renewal tells is the one that the last list shows for this site.
 pub fn renewals_are_told()
     ensures { RenewalsAreTold }
+{}
+
+/// Two renewals with none between them are 0.9 s apart, or a pause where that is less, unless a run was done between
+/// them.
+pub fn renewals_are_apart()
+    ensures { RenewalsAreApart }
 {}
 
 /// While the service is started, and a gap longer, the clock is below an end that a list told and that was armed, or

@@ -10,8 +10,14 @@ const SLACK: u64 = 2_000;
 /// The shortest time of a kill, in milliseconds.
 const LEAST_KILL: u64 = 1_000;
 
-/// How long a service that was stopped is left so, in milliseconds.
+/// How long a service that was stopped is left so, and a renewal that runs on, in milliseconds.
 const PAUSE: u64 = 5_000;
+
+/// How long after it was run a renewal that failed is run again, in milliseconds.
+///
+/// It is less than the second after which a list is asked for again. The failure of a run that cannot be begun is told
+/// in place of what arrives next, and with that very second this would be each list.
+pub(crate) const RETRY: u64 = 900;
 
 /// The times of a follower, in milliseconds.
 #[derive(Clone, Copy)]
@@ -20,7 +26,7 @@ pub struct Margins {
     pub margin: u64,
     /// How long before that end it is killed, where it has not stopped.
     pub kill: u64,
-    /// How long a service that was stopped is left so.
+    /// How long a service that was stopped is left so, and a renewal that runs on.
     pub pause: u64,
 }
 

@@ -42,7 +42,7 @@ pub enum Stage {
     Ended,
 }
 
-/// A renewal whose run did not end with 0 yet.
+/// A renewal that is not done: its run has not ended, or it failed.
 #[derive(Clone, Copy)]
 pub struct Renewal {
     /// The number of its run.
@@ -51,6 +51,8 @@ pub struct Renewal {
     pub end: u64,
     /// The reading at which it was run.
     pub since: u64,
+    /// Whether its run failed. The next one may then come sooner.
+    pub failed: bool,
 }
 
 /// What a follower knows.
@@ -62,7 +64,7 @@ pub struct State {
     pub until: u64,
     /// The armed end: that of the last renewal that ended with 0 since the service was stopped, or 0.
     pub armed: u64,
-    /// The last renewal, if its run did not end with 0.
+    /// The last renewal, if it is not done.
     pub renewal: Option<Renewal>,
     /// Whether the end was asked for.
     pub asked: bool,

@@ -1,8 +1,8 @@
 //! What follows a reading at each stage.
 ghost use Rattle.std.specs.Prelude.{◌≡◌, MatchBool, ◌<◌, ◌≤◌, ◌+◌};
-ghost use Rattle.booth_follow_rule.specs.Rule.{after, arms, end_of, ends_service, goes_on, has_failed, hears, is_held, is_kept, is_renewable, is_rested, kills_on, leaves, leaves_more, may_renew, moved, next_number, no_deed, opens, renewed, renews, rests, runs, starts, step_at, stops_first, while_down, while_killing, while_stopping, while_up};
+ghost use Rattle.booth_follow_rule.specs.Rule.{after, arms, end_of, ends_service, goes_on, has_failed, has_passed, hears, is_held, is_kept, is_renewable, is_rested, kills_on, leaves, leaves_more, may_renew, moved, next_number, no_deed, not_renewed, opens, renewed, renews, rests, runs, starts, step_at, stops_first, wait_of, while_down, while_killing, while_stopping, while_up};
 
-use crate::margins::Margins;
+use crate::margins::{Margins, RETRY};
 use crate::news::{News, RunEnd, Shown};
 use crate::state::{FollowDeed, Renewal, Stage, State, Word};
 
@@ -52,6 +52,28 @@ fn renewed(state: State, run: u64) -> State
     }
 }
 
+fn not_renewed(state: State, run: u64) -> State
+    ensures { result ≡ not_renewed state run state.renewal }
+{
+    match state.renewal {
+        Some(renewal) => {
+            if run == renewal.run {
+                let failed = Renewal {
+                    failed: true,
+                    ..renewal
+                };
+                State {
+                    renewal: Some(failed),
+                    ..state
+                }
+            } else {
+                state
+            }
+        }
+        None => state,
+    }
+}
+
 fn shows(state: State, shown: Shown) -> State
     ensures { result ≡ hears state (News.List shown) }
 {
@@ -73,7 +95,7 @@ fn ends(state: State, run: u64, how: RunEnd) -> State
 {
     match how {
         RunEnd::Done => renewed(state, run),
-        RunEnd::Failed => state,
+        RunEnd::Failed => not_renewed(state, run),
     }
 }
 
@@ -161,6 +183,7 @@ fn renews(reading: u64, state: State) -> Step
         run: number,
         end: state.until,
         since: reading,
+        failed: false,
     };
     Step {
         deed: FollowDeed::Run {
@@ -230,20 +253,34 @@ fn is_kept(margins: &Margins, reading: u64, state: State) -> bool
     is_held(margins, reading, state) && leaves_more(margins.margin, reading, state.armed)
 }
 
-fn is_rested(margins: &Margins, since: u64, reading: u64) -> bool
-    ensures { result ≡ is_rested margins.now since reading }
+// Whether so much time has passed since a reading.
+fn has_passed(time: u64, since: u64, reading: u64) -> bool
+    ensures { result ≡ has_passed time since reading }
 {
-    match since.checked_add(margins.pause) {
+    match since.checked_add(time) {
         Some(first) => first <= reading,
         None => false,
     }
+}
+
+fn is_rested(margins: &Margins, since: u64, reading: u64) -> bool
+    ensures { result ≡ is_rested margins.now since reading }
+{
+    has_passed(margins.pause, since, reading)
+}
+
+// How long after a renewal was run the next one may be.
+fn wait_of(margins: &Margins, renewal: Renewal) -> u64
+    ensures { result ≡ wait_of margins.now renewal }
+{
+    if renewal.failed { RETRY } else { margins.pause }
 }
 
 fn may_renew(margins: &Margins, reading: u64, renewal: Option<Renewal>) -> bool
     ensures { result ≡ may_renew margins.now reading renewal }
 {
     match renewal {
-        Some(renewal) => is_rested(margins, renewal.since, reading),
+        Some(renewal) => has_passed(wait_of(margins, renewal), renewal.since, reading),
         None => true,
     }
 }
