@@ -3,15 +3,15 @@
 
 Run it as `python3 tests/cluster.py [BOOTHD BOOTH GEOSTORE]`, which are what `make build` leaves where they are
 left out. It takes a minute and a half, prints a line for each check, ends all that it started, and has the status 1
-where a check failed. Where a program is not built it checks nothing, with status 0.
+if a check failed. If a program is not built it checks nothing, with status 0.
 
 What an operator does is done by booth and geostore, at each member: their status and each text that they print or
-say are held to what they have to be. The stories of handlers and of tickets that are granted by hand stand in
+say are held to what they must be. The stories of handlers and of tickets that are granted manually stand in
 handler_stories.py, those of members that are killed and started anew in promise_stories.py, that of the log in
 log_stories.py, that of a file that changes in change_stories.py, and those of moves in move_stories.py.
 
 Who holds a ticket is judged from the record files and this machine's clock, hundred times a second over
-the whole run, and never from what a daemon says of itself. Each daemon writes a journal, and where boothd has an
+the whole run, and never from what a daemon says of itself. Each daemon writes a journal, and if boothd has an
 auditor that judges them behind each story.
 """
 
@@ -23,7 +23,6 @@ import os
 import shutil
 import socket
 import sys
-import tempfile
 import time
 
 HERE = os.path.dirname(os.path.abspath(__file__))
@@ -37,6 +36,7 @@ from auditing import AuditedCluster
 from handler_stories import handler_in
 from members import MANUAL, TICKET, Times, now, wait_for
 from promise_stories import MANY
+from scratch import scratch
 from serving import built_program, end_by_signals, own_addresses
 from stories import (
     NAME,
@@ -77,7 +77,7 @@ def two_sites_and_an_arbitrator(cluster):
     passed("nobody is granted the ticket before each member has abstained")
 
     abstains(cluster, started)
-    # (the first grant has to end before)
+    # (the first grant must end before)
     record = grants(cluster, 0)
     require(now() < record.until <= now() + times.expire, f"a lease until {record.until}")
     passed("a grant is held, kept on disk, and listed by every member")
@@ -189,7 +189,8 @@ def a_member_with_another_key(cluster):
     arbitrator.start(cluster.program, cluster.file("other.conf", OTHER_KEY))
     says(one, ("grant", NAME), 0, f"grant of {NAME} requested\n")
     right, one.conf = one.conf, arbitrator.conf
-    says(one, ("list",), 1, "booth: no reply\n")
+    why = "takes links over TCP, and does not answer: compare its key and its clock with those here"
+    says(one, ("list",), 1, f"booth: no reply\nbooth: {one.address} {why}\n")
     one.conf = right
     says(one, ("list",), 0, f"ticket: {NAME}, leader: none\n")
     passed("booth asks with the key of its configuration, and with another it gets no answer")
@@ -201,7 +202,7 @@ def a_member_with_another_key(cluster):
 
 @story
 def attributes_that_are_waited_for(cluster):
-    """a cluster whose sites acquire where an attribute says so, and are granted where another does not forbid it"""
+    """a cluster whose sites acquire if an attribute says so, and are granted if another does not forbid it"""
     times = cluster.times
     one, two, arbitrator = cluster.members
     cluster.remember()
@@ -293,7 +294,8 @@ def a_site_by_ipv6(cluster):
         counts_as(member)
     passed("members by IPv4 grant the ticket to a site by IPv6, and each hears the others")
     one.kill()
-    says(one, ("list",), 1, "booth: no reply\n")
+    why = f"{one.address} refuses links over TCP too: does the daemon run there?"
+    says(one, ("list",), 1, f"booth: no reply\nbooth: {why}\n")
     passed("booth asks by IPv6, and says where no daemon answers")
     require(wait_for(lambda: is_held_by(cluster, two), PATIENCE), "nobody took over")
     one.start(cluster.program, cluster.conf)
@@ -341,7 +343,7 @@ def tell(function, cluster):
 def outcome(place, programs):
     """Whether the story at this place of the list passes, in a cluster of its own, and the lines that it printed."""
     function, printed, passes = stories[place], io.StringIO(), False
-    with contextlib.redirect_stdout(printed), tempfile.TemporaryDirectory(prefix="booth-cluster-") as folder:
+    with contextlib.redirect_stdout(printed), scratch("booth-cluster-") as folder:
         try:
             with made(function, folder, *programs) as cluster:
                 tell(function, cluster)

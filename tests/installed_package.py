@@ -27,7 +27,8 @@ def package_is_whole(room):
     packed = [re.sub(r"(/man/.*|/changelog)\.gz$", r"\1", name) for name in files_below(f"{room}/scratch")]
     need(sorted(packed) == files_below(f"{room}/kept"), "it has other files than make install")
     listed = run("dpkg-deb", "-c", built).stdout.splitlines()
-    hidden = [line for line in listed if not re.match("drwxr-xr-x|-rw[x-]r-[x-]r-[x-]", line)]
+    # (a link has the rights of what it leads to)
+    hidden = [line for line in listed if not re.match("drwxr-xr-x|-rw[x-]r-[x-]r-[x-]|lrwxrwxrwx", line)]
     need(not hidden, f"not for everybody: {hidden}")
     with gzip.open(f"{room}/scratch/usr/share/man/man8/boothd.8.gz", "rt", encoding="utf-8") as file:
         need(file.read() == read(f"{TOP}/man/boothd.8"), "the page is another")

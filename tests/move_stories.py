@@ -80,7 +80,8 @@ def a_move_to_a_site_that_is_down(cluster):
     two.kill()
     asked = now()
     before = one.record()
-    says(one, ("move", "-w", NAME, two.address), 1, "booth: no reply\n")
+    why = f"{two.address} refuses links over TCP too: does the daemon run there?"
+    says(one, ("move", "-w", NAME, two.address), 1, f"booth: no reply\nbooth: {why}\n")
     require(5 < now() - asked < 5 + 2 * slack(), f"it was told after {now() - asked:.2f} s")
     require(one.record().term == before.term and one.record().holds(now()), "it was given back")
     passed("a move to a site that is down is told as one without a reply, and the ticket stays where it is")
@@ -93,7 +94,7 @@ def a_move_to_a_site_that_is_down(cluster):
 
 @story
 def a_move_that_attributes_forbid(cluster):
-    """a cluster whose ticket is moved to a site where an attribute forbids its grant"""
+    """a cluster whose ticket is moved to a site if an attribute forbids its grant"""
     one, two, _ = cluster.members
     cluster.remember()
     cluster.start()

@@ -1,9 +1,9 @@
 #!/usr/bin/env python3
 """Holds three real boothd with 4,096 tickets to what one ticket has: lists, grants, a restart, a takeover.
 
-Run it as `python3 tests/thousands.py [BOOTHD BOOTH BOOTH-FOLLOW [TICKETS]]`, which are what `make build` leaves where
+Run it as `python3 tests/thousands.py [BOOTHD BOOTH BOOTH-FOLLOW [TICKETS]]`, which are what `make build` leaves if
 they are left out. It takes some 40 seconds, most of which it waits for leases, prints a line for each check, ends all
-that it started, and has the status 1 where a check failed. Where a program is not built it checks nothing, with status
+that it started, and has the status 1 if a check failed. If a program is not built it checks nothing, with status
 0.
 
 A list of so many tickets comes in parts. Of each part's tickets some are granted, the first and the last among them,
@@ -12,7 +12,6 @@ and a service follows one of the last part.
 
 import os
 import sys
-import tempfile
 import time
 
 HERE = os.path.dirname(os.path.abspath(__file__))
@@ -21,6 +20,7 @@ sys.path[:0] = [HERE, f"{HERE}/../tools"]
 import frames
 from following import Services
 from members import Cluster, Times, now, wait_for
+from scratch import scratch
 from serving import NotServing, built_program, end_by_signals, own_addresses
 from stories import PATIENCE, Wrong, passed, require
 from tcp_links import Link
@@ -81,7 +81,7 @@ def lists_right(member, tickets, holder=None, held=()):
     held = set(held)
     before = {ticket: line_of(ticket, holder if ticket in held else None) for ticket in tickets}
     ran = member.booth("list")
-    if ran.said == "booth: no reply\n":
+    if ran.said.startswith("booth: no reply\n"):
         # (thousands of datagrams go around just after a start: one of the list's may be lost)
         return False
     require((ran.status, ran.said) == (0, ""), f"booth list at {member.address}: {ran.status}, {ran.said!r}")
@@ -106,7 +106,7 @@ def holds_all(member, tickets):
 
 
 def grant_all(member, tickets):
-    """Grants each ticket, again where its members do not agree yet."""
+    """Grants each ticket, again if its members do not agree yet."""
     wanted = list(tickets)
 
     def is_done():
@@ -180,7 +180,7 @@ def story(cluster, follower):
 def run(programs, count):
     """Says how many checks failed: the story ends at the first."""
     begun, failed = time.monotonic(), 0
-    with tempfile.TemporaryDirectory(prefix="booth-thousands-") as folder:
+    with scratch("booth-thousands-") as folder:
         tickets = names(count)
         made = Cluster(programs[0], folder, own_addresses(), times=TIMES, tickets=tickets, client=programs[1])
         try:

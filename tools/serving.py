@@ -21,7 +21,7 @@ SECONDS_TO_START = 30
 
 TOP = os.path.dirname(os.path.dirname(os.path.abspath(__file__)))
 
-# what boothd locks where no other file is named
+# what boothd locks if no other file is named
 LOCK = "/var/run/booth.lock"
 
 # what may help, by what boothd said
@@ -32,10 +32,9 @@ HINTS = {
 
 
 def built_program(name="boothd"):
-    """The path of this proved program as it was built last, or None where it is not."""
+    """The path of this proved program as it was built last, or None if it is not."""
     # where make build leaves a program, and where rt does
-    crate = name.replace("-", "_")
-    paths = [f"{TOP}/out/{name}", f"{TOP}/crates/{crate}/out/{crate}"]
+    paths = [f"{TOP}/out/{name}", f"{TOP}/crates/{name}/out/{name}"]
     built = [path for path in paths if os.access(path, os.X_OK)]
     return max(built, key=os.path.getmtime, default=None)
 
@@ -50,7 +49,7 @@ def own_addresses():
 
 
 def exit_code(status):
-    """The exit code of a child that was waited for: a signal's number, below 0, where one ended it."""
+    """The exit code of a child that was waited for: a signal's number, below 0, if one ended it."""
     return os.WEXITSTATUS(status) if os.WIFEXITED(status) else -os.WTERMSIG(status)
 
 
@@ -90,8 +89,8 @@ class NotServing(Exception):
 class Server:
     """A program that answers at this address and port, in a `with` block, from its first answer on.
 
-    `key` is what its requests are sealed with. It prints its log only where `logs` is set before it is entered, and
-    writes the journal of that path where `journal` is. `prepare` is called in the new process.
+    `key` is what its requests are sealed with. It prints its log only if `logs` is set before it is entered, and
+    writes the journal of that path if `journal` is. `prepare` is called in the new process.
     """
 
     logs = False
@@ -126,7 +125,7 @@ class Server:
             raise self.ended_by_itself(status)
 
     def end(self):
-        """Ends the program at once, where it has not ended."""
+        """Ends the program at once, if it has not ended."""
         self.process.kill()
         self.process.wait()
 

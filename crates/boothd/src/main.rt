@@ -1,80 +1,111 @@
-//! The program `boothd`: its words over the real host and the real links, whose calls a log tells on standard error,
-//! and a journal says where the environment names one.
+//! The programs `boothd`, `booth`, `geostore` and `booth-follow` over the real host. They are one file, which is the
+//! program that it is run as.
 #![tactic(auto)]
 
+mod client;
+mod daemon;
+mod default_site;
 mod error_lines;
+mod explaining;
+mod follower;
+mod follower_texts;
+mod heard;
 mod journal_path;
+mod link_limit;
+mod live_followers;
+mod transport;
+mod unmade;
+mod watcher;
+mod word_lists;
+mod write_limit;
 
-use booth_cli::{Asked, Program, ask};
-use booth_daemon::{Outcome, boothd};
-use booth_host::Host;
-use booth_journal::JournalHost;
-use booth_links::RealLinks;
-use booth_log::LogHost;
-use booth_real::{JournalFile, Priority, RealHost, Speaker};
-use booth_stream::StreamHost;
-use error_lines::ErrorLines;
-use journal_path::journal_path;
+use crate::client::{run_booth, run_geostore};
+use crate::daemon::run_daemon;
+use crate::explaining::{Run, explain};
+use crate::follower::run_follower;
+use crate::unmade::Unmade;
+use booth_cli::Program;
+use booth_outcomes::Outcome;
+use booth_real::{Priority, Speaker};
 use std::alloc::{AllocError, Global};
 use std::env;
 use std::io::ErrorKind;
 use std::process::ExitCode;
 
-// The words behind the program's name. Those that are no UTF-8 are none that are taken.
+// The name of a file, whatever its directory is.
+fn file_name(path: &str) -> &str {
+    match path.rsplit_once('/') {
+        Some((_, name)) => name,
+        None => path,
+    }
+}
+
+// The program that a file is run as.
+fn program_of(path: &str) -> Program {
+    match file_name(path) {
+        "booth" => Program::Booth,
+        "geostore" => Program::Geostore,
+        "booth-follow" => Program::BoothFollow,
+        _ => Program::Boothd,
+    }
+}
+
+// All arguments, of which the first is the name that the file is run by. Those that are no UTF-8 are none that are
+// taken.
 fn words(rt: &HostRuntime, alloc: Global) -> Result<Vec<String>, AllocError> {
     match env::args(rt) {
-        Ok(args) => args.skip(1).collect(alloc),
+        Ok(args) => args.collect(alloc),
         Err(error) if error.kind() == ErrorKind::OutOfMemory => Err(AllocError),
         Err(_) => Ok(Vec::new(alloc)),
     }
 }
 
-// Has a daemon's first reading be one of the clock that its records keep.
-fn await_clock(alloc: Global, words: &[String], host: &mut RealHost) {
-    if let Ok(Asked::Daemon(asked)) = &ask(alloc, Program::Boothd, words) {
-        host.await_clock(&asked.records);
-    }
+// Says why a run ended so, as far as that is known, and returns its status.
+fn end(rt: HostRuntime, alloc: Global, run: Run<'_>, outcome: Outcome) -> u8 {
+    explain(rt, alloc, run, outcome, None);
+    outcome.status()
 }
 
-// Runs the words over a host, whose calls the log tells.
-fn serve<H: Host + Drop>(
-    rt: HostRuntime,
-    alloc: Global,
-    words: &[String],
-    host: H,
-) -> Result<Outcome, AllocError> {
-    let mut host = LogHost::new(alloc, host, ErrorLines::new(rt))?;
-    Ok(boothd(alloc, words, &mut host))
-}
-
-fn run(rt: HostRuntime, alloc: Global) -> Result<Outcome, AllocError> {
-    let words = words(&rt, alloc)?;
-    // (the host comes first: it fills the places of standard streams that were closed, so that no file of the links
-    // has one)
-    let mut host = RealHost::new(rt, alloc)?;
-    await_clock(alloc, &words, &mut host);
-    let mut links = RealLinks::new(rt, alloc)?;
-    let mark = links.ready_mark(alloc)?;
-    host.wake_on(links.ready_file(), mark);
-    let host = StreamHost::new(alloc, host, links, 0)?;
-    match journal_path(&rt)? {
-        Some(path) => {
-            let host = JournalHost::new(alloc, host, JournalFile::new(rt, path))?;
-            serve(rt, alloc, &words, host)
+// Runs this program. The first of the arguments is its name.
+fn run(rt: HostRuntime, alloc: Global, program: Program, words: &[String]) -> Result<u8, Unmade> {
+    let rest = words.get(1..).unwrap_or(&[]);
+    match program {
+        Program::Boothd => {
+            let outcome = run_daemon(rt, alloc, rest)?;
+            let words = rest;
+            Ok(end(rt, alloc, Run { program, words }, outcome))
         }
-        None => serve(rt, alloc, &words, host),
+        Program::Booth => run_booth(rt, alloc, rest),
+        Program::Geostore => run_geostore(rt, alloc, rest),
+        Program::BoothFollow => {
+            let outcome = run_follower(rt, alloc, words)?;
+            Ok(end(rt, alloc, Run { program, words }, outcome))
+        }
     }
+}
+
+// Says why a program did not run, unless a line said it.
+fn tell(rt: HostRuntime, program: Program, why: Unmade) -> u8 {
+    if let Some(text) = why.text() {
+        Speaker::new(rt, program.name()).say(Priority::Failure, text);
+    }
+    Outcome::OutOfMemory.status()
 }
 
 fn main(rt: HostRuntime) -> ExitCode {
     let alloc = rt.alloc();
-    let outcome = match run(rt, alloc) {
-        Ok(outcome) => outcome,
-        Err(AllocError) => {
-            // There is no host yet that would say it.
-            Speaker::new(rt, "boothd").say(Priority::Failure, b"out of memory");
-            Outcome::OutOfMemory
+    let status = match words(&rt, alloc) {
+        Ok(words) => {
+            let program = match words.first() {
+                Some(name) => program_of(name.as_str()),
+                None => Program::Boothd,
+            };
+            match run(rt, alloc, program, &words) {
+                Ok(status) => status,
+                Err(why) => tell(rt, program, why),
+            }
         }
+        Err(AllocError) => tell(rt, Program::Boothd, Unmade::OutOfMemory),
     };
-    ExitCode::from(outcome.status())
+    ExitCode::from(status)
 }

@@ -1,6 +1,6 @@
 //! What a follower says of its turns: a line for each decision, and what the service manager is told.
 
-use crate::texts::{Text, put, put_seconds, put_status, put_time, put_times};
+use crate::follower_texts::{Text, put, put_seconds, put_status, put_time, put_times};
 use booth_follow_rule::{FollowDeed, News, RunEnd, Shown, Stage, Word};
 use booth_following::{Seen, Watch};
 use booth_real::{Notifier, Priority, Speaker};

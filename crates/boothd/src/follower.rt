@@ -1,35 +1,20 @@
-//! The program `booth-follow`: its words over the real host, and what it says of its turns.
-#![tactic(auto)]
-
-mod texts;
-mod watcher;
+//! The program `booth-follow`: its arguments over the real host, and what it says of its turns.
 
 use crate::watcher::Watcher;
 use booth_cli::{Asked, Program, ask};
 use booth_followers::{Outcome, booth_follow};
 use booth_following::Setting;
 use booth_host::Host;
-use booth_real::{Notifier, Priority, RealHost, Speaker};
+use booth_real::{Notifier, RealHost, Speaker};
 use std::alloc::{AllocError, Global};
 use std::env::Env;
-use std::io::ErrorKind;
-use std::process::ExitCode;
-use std::{env, fs, str};
+use std::{fs, str};
 
 /// The word with which a program runs beside the other ones of its ticket.
 const BESIDE: &str = "renew";
 
 /// The variable that names the file of the end until which an earlier follower left the service running.
 const END_FILE: &str = "BOOTH_FOLLOW_END";
-
-// All words, the first of which is the program's name. Those that are no UTF-8 are none that are taken.
-fn words(rt: &HostRuntime, alloc: Global) -> Result<Vec<String>, AllocError> {
-    match env::args(rt) {
-        Ok(args) => args.collect(alloc),
-        Err(error) if error.kind() == ErrorKind::OutOfMemory => Err(AllocError),
-        Err(_) => Ok(Vec::new(alloc)),
-    }
-}
 
 // Has each reading be one of the clock that the daemon of this site keeps: an end that its list tells is one of that.
 fn shares_clock(alloc: Global, words: &[String], host: &mut RealHost) -> bool {
@@ -68,32 +53,22 @@ fn left_end(rt: &HostRuntime, alloc: Global, host: &mut RealHost) -> Option<u64>
     }
 }
 
-fn run(rt: HostRuntime, alloc: Global) -> Result<Outcome, AllocError> {
+/// Runs `booth-follow` with these arguments, of which the first is its name, and returns how that ended.
+pub(crate) fn run_follower(
+    rt: HostRuntime,
+    alloc: Global,
+    words: &[String],
+) -> Result<Outcome, AllocError> {
     let name = Program::BoothFollow.name();
-    let words = words(&rt, alloc)?;
     let mut host = RealHost::new(rt, alloc)?;
     host.speak_as(name);
     host.run_beside(BESIDE);
-    if !shares_clock(alloc, &words, &mut host) {
+    if !shares_clock(alloc, words, &mut host) {
         return Ok(Outcome::OpenFault);
     }
     let mut setting = Setting {
         left: left_end(&rt, alloc, &mut host),
         watch: Watcher::new(Speaker::new(rt, name), Notifier::new(rt, name)),
     };
-    Ok(booth_follow(alloc, &words, &mut setting, &mut host))
-}
-
-fn main(rt: HostRuntime) -> ExitCode {
-    let alloc = rt.alloc();
-    let outcome = match run(rt, alloc) {
-        Ok(outcome) => outcome,
-        Err(AllocError) => {
-            // There is no host yet that would say it.
-            let speaker = Speaker::new(rt, Program::BoothFollow.name());
-            speaker.say(Priority::Failure, b"out of memory");
-            Outcome::OutOfMemory
-        }
-    };
-    ExitCode::from(outcome.status())
+    Ok(booth_follow(alloc, words, &mut setting, &mut host))
 }

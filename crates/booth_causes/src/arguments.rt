@@ -1,0 +1,241 @@
+//! Why an argument is refused: which one it is, what it was, and what is allowed.
+
+use crate::cause::Cause;
+use crate::words::{option, plain};
+use booth_base::{Address, AttrValue, Name, PathText};
+use booth_cli::{MOST_EVENTS, MOST_TURNS, Program, Word};
+use booth_following::PROGRAM_BYTES;
+
+/// What a name may be.
+const NAMES: &str = "a name has 1 to 63 printing characters of ASCII, without blanks";
+
+/// What the value of an attribute may be.
+const VALUES: &str = "a value has up to 127 printing characters of ASCII, blanks too";
+
+/// What an address may be.
+const ADDRESSES: &str =
+    "an IPv4 or IPv6 address is needed, as 192.0.2.10 or 2001:db8::10; names are not resolved";
+
+/// What a path may be.
+const PATHS: &str = "a path has 1 to 255 bytes";
+
+/// What a program may be.
+const PROGRAMS: &str = "a program with its arguments has up to 228 bytes, and not blanks alone";
+
+/// What a configuration may be.
+const CONFIGURATIONS: &str =
+    "a path with a slash, or a name in /etc/booth, of at most 255 bytes with its folder and .conf";
+
+const _: () = prove!(PROGRAM_BYTES == 228);
+
+/// The most seconds of a margin or of a kill.
+const MOST_SECONDS: u64 = 4_294_967_295;
+
+/// An argument as it was given, and what the usage calls it.
+#[derive(Clone, Copy)]
+struct Argument<'a> {
+    name: &'a str,
+    text: &'a str,
+}
+
+/// An option with a number, and the numbers that it may have.
+#[derive(Clone, Copy)]
+struct Range {
+    letter: char,
+    name: &'static str,
+    least: u64,
+    most: u64,
+    allowed: &'static str,
+}
+
+const TURNS: Range = Range {
+    letter: 'n',
+    name: "-n",
+    least: 1,
+    most: MOST_TURNS,
+    allowed: "a whole number from 1 to 4611686018427387904, without leading zeros",
+};
+
+const EVENTS: Range = Range {
+    letter: 'e',
+    name: "-e",
+    least: 0,
+    most: MOST_EVENTS,
+    allowed: "a whole number from 0 to 10000000, without leading zeros",
+};
+
+const NUMBER: Range = Range {
+    letter: 'r',
+    name: "-r",
+    least: 0,
+    most: u64::MAX,
+    allowed: "a whole number from 0 to 18446744073709551615, without leading zeros",
+};
+
+const MARGIN: Range = Range {
+    letter: 'm',
+    name: "-m",
+    least: 1,
+    most: MOST_SECONDS,
+    allowed: "a whole number of seconds from 1 to 4294967295, without leading zeros",
+};
+
+const KILL: Range = Range {
+    letter: 'k',
+    name: "-k",
+    ..MARGIN
+};
+
+// The value of an option.
+fn option_of<'a>(words: &'a [String], letter: char, name: &'a str) -> Option<Argument<'a>> {
+    match option(words, letter) {
+        Some(text) => Some(Argument { name, text }),
+        None => None,
+    }
+}
+
+// The argument at a place.
+fn plain_of<'a>(words: &'a [String], place: usize, name: &'a str) -> Option<Argument<'a>> {
+    match plain(words, place) {
+        Some(text) => Some(Argument { name, text }),
+        None => None,
+    }
+}
+
+// What is said of an argument that is refused.
+fn refuse(argument: &Argument<'_>, allowed: &str) -> Cause {
+    let mut cause = Cause::new();
+    cause.put(argument.name);
+    cause.put(" ");
+    cause.put_quoted(argument.text.as_bytes());
+    cause.put(": ");
+    cause.put(allowed);
+    cause
+}
+
+// Of a name that is refused.
+fn bad_name(argument: Option<Argument<'_>>) -> Option<Cause> {
+    let argument = argument?;
+    match Name::read(argument.text.as_bytes()) {
+        Ok(_) => None,
+        Err(_) => Some(refuse(&argument, NAMES)),
+    }
+}
+
+// Of the ticket, which is an option of `geostore`.
+fn bad_ticket(program: Program, words: &[String]) -> Option<Cause> {
+    match program {
+        Program::Geostore => bad_name(option_of(words, 't', "-t")),
+        Program::Booth | Program::BoothFollow | Program::Boothd => {
+            bad_name(plain_of(words, 0, "TICKET"))
+        }
+    }
+}
+
+fn bad_value(argument: Option<Argument<'_>>) -> Option<Cause> {
+    let argument = argument?;
+    match AttrValue::read(argument.text.as_bytes()) {
+        Ok(_) => None,
+        Err(_) => Some(refuse(&argument, VALUES)),
+    }
+}
+
+// Of an argument that has to be an address.
+fn no_address(argument: Option<Argument<'_>>) -> Option<Cause> {
+    let argument = argument?;
+    match Address::read(argument.text.as_bytes()) {
+        Ok(_) => None,
+        Err(_) => Some(refuse(&argument, ADDRESSES)),
+    }
+}
+
+/// Says why this text, which is called so, is no address; nothing if it is one.
+pub fn bad_address(name: &str, text: &str) -> Option<Cause> {
+    no_address(Some(Argument { name, text }))
+}
+
+// Of the site that a ticket is moved to, and then of the one that is asked.
+fn bad_site(program: Program, words: &[String]) -> Option<Cause> {
+    let is_booth = matches!(program, Program::Booth);
+    if is_booth {
+        if let Some(cause) = no_address(plain_of(words, 1, "ADDRESS")) {
+            return Some(cause);
+        }
+    }
+    no_address(option_of(words, 's', "-s"))
+}
+
+// Whether a text is a number of a range, as it is written without a sign and without leading zeros.
+fn is_within(text: &str, range: &Range) -> bool {
+    if text.starts_with('+') || text.starts_with('0') && text != "0" {
+        return false;
+    }
+    match text.parse::<u64>() {
+        Ok(number) => range.least <= number && number <= range.most,
+        Err(_) => false,
+    }
+}
+
+fn bad_number_of(words: &[String], range: &Range) -> Option<Cause> {
+    let argument = option_of(words, range.letter, range.name)?;
+    if is_within(argument.text, range) {
+        return None;
+    }
+    Some(refuse(&argument, range.allowed))
+}
+
+// Of the first number that is refused.
+fn bad_number(words: &[String]) -> Option<Cause> {
+    for range in [TURNS, EVENTS, NUMBER, MARGIN, KILL] {
+        if let Some(cause) = bad_number_of(words, &range) {
+            return Some(cause);
+        }
+    }
+    None
+}
+
+fn bad_path_of(argument: Option<Argument<'_>>) -> Option<Cause> {
+    let argument = argument?;
+    if !argument.text.is_empty() && PathText::read(argument.text).is_ok() {
+        return None;
+    }
+    Some(refuse(&argument, PATHS))
+}
+
+// Of the lock, of the directory of records, and then of the first journals.
+fn bad_path(words: &[String]) -> Option<Cause> {
+    if let Some(cause) = bad_path_of(option_of(words, 'l', "-l")) {
+        return Some(cause);
+    }
+    if let Some(cause) = bad_path_of(option_of(words, 'd', "-d")) {
+        return Some(cause);
+    }
+    for place in 0..16 {
+        if let Some(cause) = bad_path_of(plain_of(words, place, "JOURNAL")) {
+            return Some(cause);
+        }
+    }
+    None
+}
+
+// Of what is refused whatever it is.
+fn refused(argument: Option<Argument<'_>>, allowed: &str) -> Option<Cause> {
+    let argument = argument?;
+    Some(refuse(&argument, allowed))
+}
+
+/// Says why an argument of this kind is refused. The arguments begin with the command, or with the program's name. It
+/// says nothing if no such argument is found that its reader refuses.
+pub fn bad_argument(program: Program, words: &[String], word: Word) -> Option<Cause> {
+    let words = words.get(1..).unwrap_or(&[]);
+    match word {
+        Word::Ticket => bad_ticket(program, words),
+        Word::Name => bad_name(plain_of(words, 0, "NAME")),
+        Word::Value => bad_value(plain_of(words, 1, "VALUE")),
+        Word::Site => bad_site(program, words),
+        Word::Number => bad_number(words),
+        Word::Path => bad_path(words),
+        Word::Program => refused(plain_of(words, 1, "PROGRAM"), PROGRAMS),
+        Word::Configuration => refused(option_of(words, 'c', "-c"), CONFIGURATIONS),
+    }
+}

@@ -1,0 +1,271 @@
+//! The line behind a refusal that says its cause, as far as it can be known: from the arguments, and from the files
+//! that they name, which are read once more. If there is none, the refusal stands alone.
+
+use crate::heard::Heard;
+use booth_base::{Address, MemberId, Name, PathText};
+use booth_causes::{
+    Answer, Cause, Refused, Request, bad_argument, bad_configuration, bad_key, members_of,
+    not_followed, refusal, sites_of,
+};
+use booth_cli::{Asked, Program, ask};
+use booth_conf::{ConfFault, Config};
+use booth_following::FollowFault;
+use booth_outcomes::Outcome;
+use booth_real::{Priority, Speaker, contents};
+use booth_talk::Order;
+use std::alloc::Global;
+
+/// A run that ended: its program, and its arguments, which begin with the command or with the program's name.
+#[derive(Clone, Copy)]
+pub(crate) struct Run<'a> {
+    pub program: Program,
+    pub words: &'a [String],
+}
+
+/// Says a line of this program.
+pub(crate) fn say(rt: HostRuntime, program: Program, text: &[u8]) {
+    Speaker::new(rt, program.name()).say(Priority::Failure, text);
+}
+
+/// The configuration at this path, if it can be read.
+pub(crate) fn config_at(rt: &HostRuntime, alloc: Global, path: &str) -> Option<Config> {
+    let text = contents(rt, alloc, path).ok()?;
+    Config::parse(alloc, &text).ok()
+}
+
+/// What a run asked for, the path of its configuration, and what was heard in it.
+#[derive(Clone, Copy)]
+struct Scene<'a> {
+    rt: &'a HostRuntime,
+    alloc: Global,
+    asked: &'a Asked,
+    path: &'a str,
+    heard: Option<Heard>,
+}
+
+// The path of the configuration that was asked for.
+fn conf_of(asked: &Asked) -> Option<&PathText> {
+    match asked {
+        Asked::Daemon(asked) => Some(&asked.conf),
+        Asked::Status(_) => None,
+        Asked::Simulation(asked) => asked.conf.as_ref(),
+        Asked::Audit(asked) => Some(&asked.conf),
+        Asked::Client(asked) => Some(&asked.conf),
+        Asked::Move(asked) => Some(&asked.conf),
+        Asked::Follow(asked) => Some(&asked.conf),
+    }
+}
+
+// The member that is asked if no answer came.
+fn first_site(config: &Config) -> Option<Address> {
+    for member in config.members() {
+        if member.site {
+            return Some(member.address);
+        }
+    }
+    None
+}
+
+// The address of the member with this id.
+fn address_of(config: &Config, id: MemberId) -> Option<Address> {
+    let place = config.member(id)?;
+    match config.members().get(place) {
+        Some(member) => Some(member.address),
+        None => None,
+    }
+}
+
+// What a member answered, or the address of the one that was asked.
+fn answer_of(config: &Config, site: Option<Address>, heard: Option<Heard>) -> Option<Answer> {
+    let Some(heard) = heard else {
+        let member = site.or(first_site(config))?;
+        return Some(Answer {
+            member,
+            holder: None,
+            seconds: 0,
+        });
+    };
+    Some(Answer {
+        member: heard.member,
+        holder: address_of(config, heard.holder),
+        seconds: heard.seconds,
+    })
+}
+
+/// What a request was about.
+#[derive(Clone, Copy)]
+struct About<'a> {
+    request: Request,
+    ticket: &'a Name,
+    attribute: Option<&'a Name>,
+    site: Option<Address>,
+}
+
+// What an order was about, and whom it was given to.
+fn about_order(order: &Order, site: Option<Address>) -> Option<About<'_>> {
+    let (request, ticket, attribute) = match order {
+        Order::List | Order::Peers => return None,
+        Order::Grant(ticket, options) => {
+            let immediate = options.immediate;
+            (Request::Grant { immediate }, ticket, None)
+        }
+        Order::Revoke(ticket, _) => (Request::Revoke, ticket, None),
+        Order::SetAttribute { ticket, name, .. } => (Request::Attribute, ticket, Some(name)),
+        Order::GetAttribute { ticket, name } => (Request::Attribute, ticket, Some(name)),
+        Order::DeleteAttribute { ticket, name } => (Request::Attribute, ticket, Some(name)),
+        Order::ListAttributes(ticket) => (Request::Attribute, ticket, None),
+    };
+    Some(About {
+        request,
+        ticket,
+        attribute,
+        site,
+    })
+}
+
+// What was refused: of a move the revoke, or the grant behind it.
+fn asked_about(asked: &Asked, is_stranded: bool) -> Option<About<'_>> {
+    match asked {
+        Asked::Client(asked) => about_order(&asked.order, asked.site),
+        Asked::Move(asked) => Some(About {
+            request: if is_stranded {
+                Request::Grant { immediate: false }
+            } else {
+                Request::Revoke
+            },
+            ticket: &asked.ticket,
+            attribute: None,
+            site: if is_stranded {
+                Some(asked.target)
+            } else {
+                asked.site
+            },
+        }),
+        Asked::Daemon(_) | Asked::Status(_) | Asked::Simulation(_) => None,
+        Asked::Audit(_) | Asked::Follow(_) => None,
+    }
+}
+
+impl<'a> Scene<'a> {
+    fn config(&self) -> Option<Config> {
+        config_at(self.rt, self.alloc, self.path)
+    }
+
+    // The cause of a configuration's fault.
+    fn of_configuration(&self, fault: ConfFault) -> Option<Cause> {
+        let text = contents(self.rt, self.alloc, self.path).ok()?;
+        bad_configuration(&text, fault)
+    }
+
+    // Why the file at this path has no key.
+    fn of_key(&self, path: Option<&PathText>) -> Option<Cause> {
+        let path = path?.as_str();
+        let bytes = contents(self.rt, self.alloc, path).ok()?;
+        bad_key(path, &bytes)
+    }
+
+    // Why the first of the key files that has no key has none.
+    fn of_keys(&self) -> Option<Cause> {
+        let config = self.config()?;
+        match self.of_key(config.authfile()) {
+            Some(cause) => Some(cause),
+            None => self.of_key(config.authfile_old()),
+        }
+    }
+
+    // The members that there are.
+    fn of_member(&self) -> Option<Cause> {
+        let config = self.config()?;
+        Some(members_of(self.path, &config))
+    }
+
+    // The sites that there are.
+    fn of_site(&self) -> Option<Cause> {
+        let config = self.config()?;
+        Some(sites_of(self.path, &config))
+    }
+
+    // Why a ticket is not followed.
+    fn of_following(&self, fault: FollowFault) -> Option<Cause> {
+        let config = self.config()?;
+        match self.asked {
+            Asked::Follow(asked) => not_followed(asked, &config, fault),
+            Asked::Daemon(_) | Asked::Status(_) | Asked::Simulation(_) => None,
+            Asked::Audit(_) | Asked::Client(_) | Asked::Move(_) => None,
+        }
+    }
+
+    // Why a member refused with this result: of a move the revoke, or the grant behind it.
+    fn of_refusal(&self, code: u32, is_stranded: bool) -> Option<Cause> {
+        let about = asked_about(self.asked, is_stranded)?;
+        let config = self.config()?;
+        let refused = Refused {
+            config: &config,
+            path: self.path,
+            request: about.request,
+            ticket: about.ticket,
+            attribute: about.attribute,
+            answer: answer_of(&config, about.site, self.heard)?,
+        };
+        refusal(&refused, code)
+    }
+
+    // The cause of an outcome.
+    fn of_outcome(&self, outcome: Outcome) -> Option<Cause> {
+        match outcome {
+            Outcome::ConfBad(fault) => self.of_configuration(fault),
+            Outcome::KeyBad(_) => self.of_keys(),
+            Outcome::NotMember => self.of_member(),
+            Outcome::NotSite => self.of_site(),
+            Outcome::NotFollowed(fault) => self.of_following(fault),
+            Outcome::Refused(code) => self.of_refusal(code, false),
+            Outcome::Stranded(code) => self.of_refusal(code, true),
+            Outcome::Done | Outcome::Report | Outcome::NotRunning | Outcome::Running => None,
+            Outcome::NoReply | Outcome::SendFault | Outcome::Usage(_) | Outcome::BadWord(_) => None,
+            Outcome::ConfUnread | Outcome::KeyUnread | Outcome::JournalUnread => None,
+            Outcome::AuditBad(_) | Outcome::LockFault | Outcome::OpenFault => None,
+            Outcome::RecordUnread | Outcome::TurnsSpent => None,
+            Outcome::PrintFault | Outcome::OutOfMemory => None,
+        }
+    }
+}
+
+// The cause of a run's outcome.
+fn cause_of(
+    rt: &HostRuntime,
+    alloc: Global,
+    run: Run<'_>,
+    outcome: Outcome,
+    heard: Option<Heard>,
+) -> Option<Cause> {
+    if let Outcome::BadWord(word) = outcome {
+        return bad_argument(run.program, run.words, word);
+    }
+    let mut cause = None;
+    if let Ok(asked) = &ask(alloc, run.program, run.words) {
+        if let Some(path) = conf_of(asked) {
+            let scene = Scene {
+                rt,
+                alloc,
+                asked,
+                path: path.as_str(),
+                heard,
+            };
+            cause = scene.of_outcome(outcome);
+        }
+    }
+    cause
+}
+
+/// Says the cause of a run's outcome, if it is a refusal whose cause is known.
+pub(crate) fn explain(
+    rt: HostRuntime,
+    alloc: Global,
+    run: Run<'_>,
+    outcome: Outcome,
+    heard: Option<Heard>,
+) {
+    if let Some(cause) = cause_of(&rt, alloc, run, outcome, heard) {
+        say(rt, run.program, cause.bytes());
+    }
+}

@@ -1,0 +1,115 @@
+//! The host of a client that remembers what it heard last: the member, and the holder that its answer names.
+ghost use Rattle.std.specs.Prelude.{None};
+
+use booth_base::{Address, ByteText, MemberId, NO_ONE, Name, Peer};
+use booth_host::{Arrival, Datagram, Failed, Host, Job, Place, ReadFault};
+use booth_rec::Record;
+use booth_wire::{Body, decode};
+use std::alloc::Global;
+
+/// What was heard last.
+#[derive(Clone, Copy)]
+pub(crate) struct Heard {
+    pub member: Address,
+    /// The holder that is named, or `NO_ONE`.
+    pub holder: MemberId,
+    /// How many seconds the holder's lease runs still.
+    pub seconds: u32,
+}
+
+/// A host that remembers what it heard last. It tells nothing of its calls.
+///
+/// A client ends with the first datagram that it accepts, so that is the last one of its run.
+#[derive(Drop)]
+pub(crate) struct HearingHost<H> {
+    host: H,
+    last: Option<Heard>,
+}
+
+// What a datagram of this member says.
+fn heard_of(member: &Peer, bytes: &[u8]) -> Heard {
+    let mut holder = NO_ONE;
+    let mut seconds = 0;
+    if let Ok(message) = &decode(bytes) {
+        if let Body::Ticket(part) = &message.body {
+            holder = part.leader;
+            seconds = part.valid_for;
+        }
+    }
+    Heard {
+        member: member.address,
+        holder,
+        seconds,
+    }
+}
+
+impl<H: Host> HearingHost<H> {
+    /// This host, which has heard nothing.
+    pub(crate) fn new(host: H) -> HearingHost<H> {
+        HearingHost { host, last: None }
+    }
+
+    /// What was heard last.
+    pub(crate) fn last(&self) -> Option<Heard> {
+        self.last
+    }
+
+    /// The host inside.
+    pub(crate) fn inner(&self) -> &H {
+        &self.host
+    }
+}
+
+impl<H: Host> Host for HearingHost<H> {
+    ghost past = { λ _. None };
+
+    ghost faults = { λ host. H.faults host.host };
+
+    fn open(&mut self, place: &Place) -> Result<(), Failed> {
+        self.host.open(place)
+    }
+
+    fn next(&mut self, wait_ms: u64, into: &mut Datagram) -> Result<Arrival, Failed> {
+        let answer = self.host.next(wait_ms, into);
+        if let Ok(Arrival::Datagram(member)) = &answer {
+            self.last = Some(heard_of(member, into.bytes()));
+        }
+        answer
+    }
+
+    fn now(&mut self) -> u64 {
+        self.host.now()
+    }
+
+    fn send(&mut self, to: &Peer, bytes: &[u8]) -> Result<(), Failed> {
+        self.host.send(to, bytes)
+    }
+
+    fn kept(&mut self, ticket: &Name) -> Result<Option<Record>, Failed> {
+        self.host.kept(ticket)
+    }
+
+    fn keep(&mut self, ticket: &Name, rec: &Record) -> Result<(), Failed> {
+        self.host.keep(ticket, rec)
+    }
+
+    fn start(&mut self, job: &Job) -> Result<(), Failed> {
+        self.host.start(job)
+    }
+
+    fn read_file(&mut self, alloc: Global, path: &str) -> Result<ByteText, ReadFault> {
+        self.host.read_file(alloc, path)
+    }
+
+    fn lock(&mut self, path: &str) -> Result<bool, Failed> {
+        self.host.lock(path)
+    }
+
+    fn out(&mut self, bytes: &[u8]) -> Result<(), Failed> {
+        self.host.out(bytes)
+    }
+
+    fn err(&mut self, bytes: &[u8]) -> Result<(), Failed> {
+        self.host.err(bytes)
+    }
+}

@@ -1,0 +1,70 @@
+//! By which transport a client asks: what its arguments say, or else its environment.
+
+use crate::unmade::Unmade;
+use crate::word_lists::push_word;
+use booth_links::Transport;
+use std::alloc::Global;
+use std::env;
+use std::env::VarError;
+
+/// The variable that names the transport of requests.
+const TRANSPORT: &str = "BOOTH_TRANSPORT";
+
+// Which transport the environment names.
+fn transport_named(rt: &HostRuntime) -> Result<Transport, Unmade> {
+    match env::var(rt, TRANSPORT) {
+        Ok(name) => Transport::named(name.as_str()).ok_or(Unmade::UnknownTransport),
+        Err(VarError::OutOfMemory) => Err(Unmade::OutOfMemory),
+        Err(VarError::NotPresent) => Ok(Transport::Either),
+        Err(VarError::NotUnicode) => Err(Unmade::UnknownTransport),
+    }
+}
+
+// Which transport an argument names.
+fn option_in(word: &str) -> Option<Transport> {
+    if word == "--tcp" {
+        return Some(Transport::Tcp);
+    }
+    if word == "--udp" {
+        return Some(Transport::Udp);
+    }
+    None
+}
+
+/// The arguments of a client without those that name a transport, and the transport that they name.
+#[derive(Drop)]
+pub(crate) struct Parted {
+    pub words: Vec<String>,
+    pub transport: Option<Transport>,
+}
+
+/// Takes `--tcp` and `--udp` out of arguments, up to `--`. They may not name both.
+pub(crate) fn part(alloc: Global, words: &[String]) -> Result<Parted, Unmade> {
+    let mut rest = Vec::new(alloc);
+    let mut named: Option<Transport> = None;
+    let mut takes_options = true;
+    for word in words {
+        takes_options = takes_options && word.as_str() != "--";
+        match option_in(word.as_str()) {
+            Some(transport) if takes_options => {
+                if named.unwrap_or(transport) != transport {
+                    return Err(Unmade::BothTransports);
+                }
+                named = Some(transport);
+            }
+            Some(_) | None => push_word(alloc, &mut rest, word.as_str())?,
+        }
+    }
+    Ok(Parted {
+        words: rest,
+        transport: named,
+    })
+}
+
+/// Returns the transport that the arguments named, or else the one of the environment.
+pub(crate) fn transport(rt: &HostRuntime, named: Option<Transport>) -> Result<Transport, Unmade> {
+    match named {
+        Some(transport) => Ok(transport),
+        None => transport_named(rt),
+    }
+}
