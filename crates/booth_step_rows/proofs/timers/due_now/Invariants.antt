@@ -1,4 +1,4 @@
-use Rattle.booth_parts_tests.proofs.tests.chain.due_now.Given as goal
+use Rattle.booth_step_rows.proofs.timers.due_now.Given as goal
 
 abbrev pub ghosts-due_counted : goal.ghosts-due_counted
 ghosts-due_counted a = record { name = a.blank.name; parts = a.blank.parts }

@@ -1,5 +1,0 @@
-//! Tests of the real host, in a crate of their own.
-#![tactic(auto)]
-
-#[cfg(test)]
-mod tests;
