@@ -13,7 +13,6 @@ import signal
 import stat
 import subprocess
 import sys
-import tempfile
 import time
 from typing import Callable, Dict, Iterator, List, NamedTuple, Tuple
 
@@ -22,6 +21,7 @@ TOP = os.path.dirname(HERE)
 sys.path[:0] = [HERE, f"{TOP}/tools"]
 
 from fake_members import FakeMember
+from scratch import scratch
 from serving import own_addresses
 from shells import need
 
@@ -39,6 +39,21 @@ if [ -e "$1.fails" ]; then cat "$1.fails"; exit 1; fi
 [ "$1" = move ] && echo "$last" >holder
 [ "$1" = grant ] && cat own >holder
 exit 0
+""",
+    # a site that is a Pacemaker cluster: its ticket, and its resource, which stops in standby
+    "crm_ticket": """
+[ ! -e ticket.fails ] || { echo 'no connection' >&2; exit 102; }
+case " $* " in
+  *" --standby "*) echo true >standby; [ -e stays ] || echo Stopped >role ;;
+  *" --activate "*) echo false >standby ;;
+esac
+""",
+    "crm_mon": """
+[ ! -e mon.fails ] || exit 102
+role=$(cat role)
+case $role in Stopped) active=false ;; *) active=true ;; esac
+echo "<pacemaker-result><resources><resource id='svc' role='$role' active='$active'/></resources><tickets>"
+echo "<ticket id='db8' status='$(cat status)' standby='$(cat standby)'/></tickets></pacemaker-result>"
 """,
     "systemctl": """
 case $1 in
@@ -110,6 +125,7 @@ class Room:
     def started(self, *words: str) -> "subprocess.Popen[str]":
         """A switchover with these words that runs."""
         path = {"PATH": f"{self.folder}/bin:{os.environ['PATH']}", "BOOTH_FOLLOW_RUN": f"{self.folder}/state"}
+        path["BOOTH_CIB"] = f"{self.folder}/cib.xml"
         command = [f"{TOP}/packaging/booth-switchover", "-c", f"{self.folder}/booth.conf", "-s", self.one, *words]
         streams = {"stdin": subprocess.DEVNULL, "stdout": subprocess.PIPE, "stderr": subprocess.STDOUT}
         return subprocess.Popen(command, env={**os.environ, **path}, text=True, **streams)
@@ -123,7 +139,20 @@ class Room:
     def calls(self) -> str:
         """The calls that change something, in order: the first words of each."""
         kept = [call for call in self.text("calls").splitlines() if " is-active " not in call]
+        kept = [call.replace(" --ticket db8", "") for call in kept if not call.startswith("crm_mon")]
         return ", ".join(" ".join(call.split()[:2]) for call in kept)
+
+    def is_cluster(self) -> None:
+        """This site is a Pacemaker cluster, whose ticket is granted."""
+        self.put(
+            "cib.xml",
+            "<cib><configuration><resources><primitive id='svc' class='ocf' type='Service'/></resources><constraints>"
+            "<rsc_location id='booth-lease.db8'><resource_set id='s'><resource_ref id='svc'/></resource_set>"
+            "<rule id='r'><date_expression id='booth-lease-end.db8' start='2026-12-01 02:00:00Z'/></rule>"
+            "</rsc_location></constraints></configuration></cib>",
+        )
+        for name, text in (("role", "Started"), ("status", "granted"), ("standby", "false")):
+            self.put(name, f"{text}\n")
 
     @contextlib.contextmanager
     def members(self, *silent: str) -> Iterator[None]:
@@ -271,9 +300,51 @@ def a_signal_leaves_a_follower(room: Room) -> None:
     need(room.calls() == ALL, room.calls())
 
 
+CLUSTER_ALL = "crm_ticket --standby, booth move, crm_ticket --revoke, crm_ticket --activate"
+
+
+@story
+def a_cluster_is_moved_by_standby(room: Room) -> None:
+    """at a Pacemaker site the standby stops the service, and ends once Pacemaker's ticket is revoked"""
+    room.is_cluster()
+    with room.members():
+        printed = ends_with(room, 0, f"ticket db8 moved to {room.two}", CLUSTER_ALL)
+        need("is stopped, after" in printed, printed)
+    moved = next(call for call in room.text("calls").splitlines() if call.startswith("booth move"))
+    need(" -f " in moved, moved)
+    need(room.text("standby") == "false\n", "the ticket stays in standby")
+
+
+@story
+def a_cluster_that_is_not_moved_has_its_service_back(room: Room) -> None:
+    """at a Pacemaker site a move that is refused ends the standby, and revokes nothing"""
+    room.is_cluster()
+    with room.members():
+        room.put("move.fails", "ticket is not granted\n")
+        back = "crm_ticket --standby, booth move, crm_ticket --activate"
+        ends_with(room, 1, f"is held by {room.one}, where its service is started again", back)
+        room.put("calls")
+        room.put("ticket.fails")
+        ends_with(room, 2, f"was not moved, and is held by {room.one}", "crm_ticket --standby, crm_ticket --activate")
+
+
+@story
+def a_cluster_that_could_not_be_moved_is_refused(room: Room) -> None:
+    """at a Pacemaker site nothing is done in a standby, without the ticket, or if Pacemaker says nothing"""
+    room.is_cluster()
+    with room.members():
+        room.put("standby", "true\n")
+        ends_with(room, 1, "is in standby already", "")
+        room.put("standby", "false\n")
+        room.put("status", "revoked\n")
+        ends_with(room, 1, "is not granted here", "")
+        room.put("mon.fails")
+        ends_with(room, 1, "this site's cluster says nothing", "")
+
+
 def outcome(told: Story) -> bool:
     """Whether a story passes, in a room of its own."""
-    with tempfile.TemporaryDirectory(prefix="booth-switchover-") as folder:
+    with scratch("booth-switchover-") as folder:
         try:
             told(Room(folder))
         except Exception as why:  # (whatever it is, the other stories are told)

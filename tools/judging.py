@@ -7,6 +7,7 @@ from typing import Dict, List, NamedTuple, Optional
 
 import changes
 import looking
+import pacemaker_status
 import service_problems
 import takeovers
 import ways
@@ -24,7 +25,7 @@ SAME_END = 3
 MOST_IN_A_LINE = 8
 # what may be so for a moment: it is told where a second look has it too
 FLEETING = {"two-owners", "differ", "ends-differ", "free", "unrenewed", "one-way", "no-way"}
-FLEETING |= {"service-down", "no-follower", "service-unknown"}
+FLEETING |= {"service-down", "no-follower", "service-unknown", "unheld", "rule-late", "agent-down", "no-guard"}
 # what a lost datagram may be
 LOST = {looking.SILENT, looking.NO_DAEMON, looking.UNREACHABLE, looking.PARTLY, looking.BAD}
 LOST |= {"silent-owner", "no-majority"}
@@ -132,6 +133,11 @@ def judged(configuration, answers, moment, took, before=None, may_be_free=(), he
         is_held_here = here.site is not None and here.site in (view.owner(), *view.owners())
         problems += of_ticket(view, answers, may_be_free, held.get(name), due.get(name), now)
         problems += service_problems.problems(here, view.ticket, is_held_here)
+        if here.cluster is not None:
+            left = next((seen.left for seen in view.seen if seen.owner == here.site), None)
+            problems += pacemaker_status.of_ticket(here.cluster, view.ticket, is_held_here, left)
+    if here.cluster is not None:
+        problems += pacemaker_status.of_site(here.cluster)
     problems.sort(key=lambda problem: -problem.severity)
     return View(configuration.path, moment, took, answers, tickets, changed, problems, due, here, held)
 

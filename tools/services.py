@@ -13,6 +13,7 @@ import subprocess
 from typing import Dict, Iterator, List, NamedTuple, Optional
 
 import configuration
+import pacemaker_status
 import service_state
 from configuration import Configuration, Unreadable
 from service_state import State
@@ -46,6 +47,8 @@ class Here(NamedTuple):
 
     site: Optional[str] = None
     services: Dict[str, Service] = {}
+    # the cluster of Pacemaker of which this machine is a node, if that has leases
+    cluster: Optional[pacemaker_status.ClusterSite] = None
 
 
 def systemctl() -> Optional[str]:
@@ -61,6 +64,7 @@ class Units:
         words = "list-units --all --full --plain --no-legend --no-pager booth-follow@*.service".split()
         streams = {"stdin": subprocess.DEVNULL, "stdout": subprocess.PIPE, "stderr": subprocess.DEVNULL}
         self.process: Optional["subprocess.Popen[bytes]"] = None
+        self.pacemaker = pacemaker_status.Asked()
         if found is not None:
             with contextlib.suppress(OSError):
                 self.process = subprocess.Popen([found, *words], **streams)
@@ -197,9 +201,12 @@ def followed(conf: Configuration, units: Optional[Dict[str, bool]]) -> Iterator[
 def look(conf: Configuration, asked: Units, seconds: float) -> Here:
     """What is known of the services here. Systemd may answer for so many seconds more."""
     units = asked.answer(seconds)
-    tickets = list(followed(conf, units))
+    cluster = asked.pacemaker.answer(conf, seconds)
+    ruled = cluster.services if cluster else {}
+    # (a service of the cluster is what Pacemaker says)
+    tickets = [ticket for ticket in followed(conf, units) if ticket not in ruled]
     if not tickets:
-        return Here()
+        return Here(cluster.address, {}, cluster) if cluster else Here()
     processes = followers()
     services = {}
     for ticket in tickets:
@@ -210,4 +217,4 @@ def look(conf: Configuration, asked: Units, seconds: float) -> Here:
             why = str(fault)
         lives = lives_here(ticket, units, processes)
         services[ticket] = Service(ticket, state, why, lives, ticket in (units or {}), service_state.since_boot())
-    return Here(own_site(conf, tickets), services)
+    return Here(cluster and cluster.address or own_site(conf, tickets), services, cluster)

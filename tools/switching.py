@@ -12,7 +12,7 @@ import signal
 import subprocess
 import sys
 import time
-from typing import List, NamedTuple, Optional
+from typing import Callable, List, NamedTuple, Optional
 
 import configuration
 import looking
@@ -46,12 +46,25 @@ class Ran(NamedTuple):
         return self.said or ended
 
 
+def why_silent(answers: List[looking.Answer], address: str) -> str:
+    """Returns why a member did not answer, as far as that is known, in brackets behind a blank."""
+    found = next((answer for answer in answers if answer.member.address == address), None)
+    if found is None:
+        return ""
+    hints = {
+        looking.NO_DAEMON: "no daemon listens there",
+        looking.SILENT: f"nothing came in {LOOK:g} s: is it up, its port open, its key the same and its clock right?",
+    }
+    why = ": ".join(part for part in (hints.get(found.state, ""), found.why) if part)
+    return f" ({why})" if why else ""
+
+
 def program(name: str) -> str:
     """The path of a program."""
     places = f"{os.environ.get('PATH', '')}{os.pathsep}{PLACES}"
     found = shutil.which(name, path=places)
     if found is None:
-        raise Refused(f"the program {name} is not here")
+        raise Refused(f"the program {name} is not in {places}")
     return found
 
 
@@ -105,11 +118,15 @@ class Switchover:
         self.ticket = options.ticket
         self.unit = f"booth-follow@{self.ticket}.service"
         self.seconds = options.timeout
-        self.own = address_of(options.site or own_address(self.ticket, self.conf_path), "this site's address")
+        self.own = address_of(options.site or self.own_address(), "this site's address")
         self.to = address_of(options.to, "SITE")
         self.systemctl, self.booth = program("systemctl"), program("booth")
 
     # ---- what is so
+
+    def own_address(self) -> str:
+        """The address of this site, if none is named."""
+        return own_address(self.ticket, self.conf_path)
 
     def check_words(self) -> None:
         """Refuses what cannot be moved by the words and the configuration alone."""
@@ -142,7 +159,7 @@ class Switchover:
         answers = self.answers()
         own, other = self.answer_of(answers, self.own), self.answer_of(answers, self.to)
         if own is None:
-            raise Refused(f"the daemon of this site, {self.own}, does not answer")
+            raise Refused(f"the daemon of this site, {self.own}, does not answer{why_silent(answers, self.own)}")
         holder = self.holder_by(own)
         if holder == self.to:
             return True
@@ -151,10 +168,15 @@ class Switchover:
         if holder != self.own:
             raise Refused(f"ticket {self.ticket} is held by {holder}: run this there")
         if other is None:
-            raise Refused(f"{self.to} does not answer, so it could not take the ticket")
+            why = why_silent(answers, self.to)
+            raise Refused(f"{self.to} does not answer, so it could not take the ticket{why}")
         live = sum(answer.held is not None for answer in answers)
         if 2 * live <= len(answers):
-            raise Refused(f"{live} of {len(answers)} members answer, and no majority could grant the ticket")
+            silent = [answer.member.address for answer in answers if answer.held is None]
+            raise Refused(
+                f"{live} of {len(answers)} members answer, and no majority could grant the ticket: silent are "
+                f"{', '.join(silent)}"
+            )
         return False
 
     def check_follower(self) -> None:
@@ -257,13 +279,13 @@ class Switchover:
         return ELSEWHERE
 
 
-def run(options: argparse.Namespace) -> int:
-    """The status of a switchover with these words."""
+def run(options: argparse.Namespace, made: Callable[[argparse.Namespace], Switchover] = Switchover) -> int:
+    """The status of a switchover with these words, which `made` makes."""
     # (a signal leaves each block as an interrupt does, so that the follower runs again)
     for number in (signal.SIGTERM, signal.SIGHUP):
         signal.signal(number, lambda *_: sys.exit(ELSEWHERE))
     try:
-        return Switchover(options).carry_out()
+        return made(options).carry_out()
     except Refused as why:
         complain(f"{why}; nothing was done")
         return UNCHANGED

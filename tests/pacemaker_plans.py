@@ -1,0 +1,263 @@
+#!/usr/bin/env python3
+"""Holds what booth-pacemaker changes in a CIB, and what booth-status says of a cluster, to their manual pages.
+
+Run it as `python3 tests/pacemaker_plans.py`. It needs no Pacemaker and nothing that is built: CIBs and what crm_mon
+prints are arranged. It takes a second, prints a line for each story, and has the status 1 where one failed.
+"""
+
+import os
+import sys
+import xml.etree.ElementTree as ElementTree
+from typing import Callable, Dict, List
+
+HERE = os.path.dirname(os.path.abspath(__file__))
+sys.path[:0] = [HERE, f"{HERE}/../tools"]
+
+import pacemaker_asking
+import pacemaker_checks
+import pacemaker_cib
+import pacemaker_fencing
+import pacemaker_margin
+import pacemaker_plan
+import pacemaker_status
+from configuration import Configuration, Member, Ticket
+from lease_holding import Now
+from pacemaker_cib import CLOSED, Cib, Times
+from pacemaker_plan import AgentWish, Step, Wish
+from pacemaker_room import CLONE, GROUP, date, same
+from shells import need
+
+END = "2026-12-01 02:00:00Z"
+TIMES = Times(60, 10, 2)
+WISH = Wish("db8", ("all",), TIMES, CLOSED)
+TICKET = Ticket("db8", False, 60, 0, 5, 10, 20.0, None)
+MEMBERS = [Member("site", "192.0.2.10"), Member("site", "192.0.2.20")]
+CONF = Configuration("/etc/booth/booth.conf", MEMBERS, [TICKET], 9929, 600, None)
+stories: List[Callable[[], None]] = []
+
+
+def story(function: Callable[[], None]) -> Callable[[], None]:
+    """Adds a story to those that are told."""
+    stories.append(function)
+    return function
+
+
+def cib(resources: str = GROUP, constraints: str = "", config: str = "", status: str = "") -> Cib:
+    """A CIB with these parts."""
+    text = f"<crm_config>{config}</crm_config><resources>{resources}</resources><constraints>{constraints}</constraints>"
+    return pacemaker_cib.parsed(f"<cib><configuration>{text}</configuration>{status}</cib>".encode())
+
+
+def after(before: str, steps: List[Step]) -> Cib:
+    """The CIB after steps that put constraints and the times there."""
+    elements, config = [], ""
+    for step in steps:
+        if step.words[0] == "cibadmin":
+            elements.append(step.words[-1])
+        else:
+            name, value = step.words[step.words.index("--name") + 1], step.words[-1]
+            pair = f'<nvpair id="n" name="{name}" value="{value}"/>'
+            config = f'<cluster_property_set id="s">{pair}</cluster_property_set>'
+    return cib(before, "".join(elements), config)
+
+
+@story
+def a_setup_is_whole_and_may_be_repeated() -> None:
+    """a setup writes times, rule and ticket, in this order, and a second one changes nothing"""
+    steps = pacemaker_plan.steps(cib(), WISH)
+    same([step.words[0] for step in steps], ["crm_attribute", "cibadmin", "cibadmin"], "the commands")
+    whole = after(GROUP, steps)
+    (lease,) = whole.leases()
+    same((lease.end, lease.times, lease.resources), (CLOSED, TIMES, ("all",)), "the lease")
+    same([each.id for each in lease.primitives], ["svc", "two"], "the primitives")
+    same(pacemaker_plan.steps(whole, WISH), [], "a second setup")
+    # the end that is in force stays, whatever else changes
+    moved = cib(GROUP, "".join(step.words[-1] for step in steps[1:]).replace(CLOSED, END))
+    (rule,) = [step for step in pacemaker_plan.steps(moved, WISH._replace(resources=("svc",))) if "rule" in step.what]
+    need(rule.words[1] == "--replace" and f'start="{END}"' in rule.words[-1], f"{rule}")
+
+
+@story
+def promoted_instances_have_a_lease_of_their_own() -> None:
+    """a promotable clone has a rule and a ticket of its promoted instances alone"""
+    resources = GROUP + CLONE
+    whole = after(resources, pacemaker_plan.steps(cib(resources), WISH._replace(resources=("all", "pg-clone"))))
+    same([(lease.key(), lease.resources) for lease in whole.leases()],
+         [("booth-lease.db8", ("all",)), ("booth-promoted.db8", ("pg-clone",))], "the leases")  # fmt: skip
+    rules = [each.get("role") for each in whole.root.iter("rule")]
+    sets = [(each, inside) for each in whole.root.iter("rsc_ticket") for inside in each.findall("resource_set")]
+    policies = [(each.get("loss-policy"), inside.get("role")) for each, inside in sets]
+    same((rules, policies), ([None, "Promoted"], [("stop", None), ("demote", "Promoted")]), "their roles")
+
+
+@story
+def constraints_that_are_there_count() -> None:
+    """an operator's own constraint on the ticket is left, and one that ends nothing is refused"""
+    own = '<rsc_ticket id="mine" rsc="all" ticket="db8" loss-policy="fence"/>'
+    need(not any("hang" in step.what for step in pacemaker_plan.steps(cib(constraints=own), WISH)), "a second ticket")
+    try:
+        pacemaker_plan.steps(cib(constraints=own.replace("fence", "freeze")), WISH)
+    except ValueError as why:
+        need("loss-policy=freeze: it ends nothing" in str(why), str(why))
+    else:
+        need(False, "a constraint that freezes was taken")
+
+
+@story
+def a_removal_leaves_the_ticket() -> None:
+    """a removal deletes rule and times, and the ticket's constraint only if that is asked for"""
+    whole = after(GROUP, pacemaker_plan.steps(cib(), WISH))
+    same([step.what for step in pacemaker_plan.removal(whole, "db8", False)],
+         ["delete booth-lease.db8", "delete the lease's times"], "a removal")  # fmt: skip
+    same(len(pacemaker_plan.removal(whole, "db8", True)), 3, "the steps of a whole one")
+    same(pacemaker_plan.removal(cib(), "db8", True), [], "of nothing")
+
+
+@story
+def an_agent_is_made_as_pcs_names_it() -> None:
+    """the agent and its address are a group as pcs names them, behind its storage; a known one is told its tickets"""
+    wish = AgentWish("/etc/booth/booth.conf", "booth", "192.0.2.10/24", "/srv/booth", ("fs",))
+    steps = pacemaker_plan.agent_steps(cib(), wish, ["db8"])
+    group = ElementTree.fromstring(steps[0].words[-1])
+    same([each.get("id") for each in group.iter("primitive")], ["booth-booth-ip", "booth-booth-service"], "the group")
+    same([step.words[1] for step in steps], ["--create", "--create", "--create", "--resource"], "the steps")
+    need('with-rsc="fs"' in steps[1].words[-1] and 'first="fs"' in steps[2].words[-1], f"{steps}")
+    known = cib(GROUP + steps[0].words[-1])
+    agent = pacemaker_plan.agents(known, wish.path, "booth")[0]
+    same(pacemaker_plan.parameter(agent, "tickets"), "db8", "its tickets")
+    same(pacemaker_plan.agent_steps(known, wish, ["db8"]), [], "a second setup")
+    same(pacemaker_plan.agent_steps(known, wish, ["db8", "mail"])[0].words[-1], "db8 mail", "another ticket")
+
+
+@story
+def margins_are_held_to_corosync() -> None:
+    """a margin is at least token, consensus, 2 s and the longest stop, and has to fit into the lease"""
+    wanted = pacemaker_margin.Need(pacemaker_margin.Corosync(3.0, 3.6), 2)
+    same(wanted.least(), 11, "the least margin")
+    same(pacemaker_margin.lasting(TICKET, Times(60, 11, 2), wanted), 44, "the least expire that outlives a node")
+    short = "the margin is 10 s, and token 3 s, consensus 3.6 s"
+    for expire, renewal, margin, text in ((60, 20.0, 11, ""), (60, 20.0, 10, short), (20, 10.0, 11, "are 23 s")):
+        told = pacemaker_margin.fault(TICKET._replace(expire=expire, renewal=renewal), Times(expire, margin, 2), wanted)
+        need(text in told if text else not told, f"{expire}, {renewal}, {margin}: {told!r}")
+    stops = [("svc", "stop", "0", "1200"), ("svc", "stop", "1", "90000")]
+    stops += [("two", "start", "0", "8000"), ("other", "stop", "0", "70000")]
+    history = "".join(
+        f'<lrm_resource id="{name}"><lrm_rsc_op operation="{word}" rc-code="{code}" exec-time="{took}"/></lrm_resource>'
+        for name, word, code, took in stops
+    )
+    same(pacemaker_margin.longest_stop(cib(status=f"<status>{history}</status>"), ["all"]), 3, "the longest stop")
+    same(pacemaker_margin.longest_stop(cib(), ["all"]), pacemaker_margin.NO_HISTORY, "without a history")
+
+
+def device(name: str, values: Dict[str, str]) -> str:
+    """A fencing device with these parameters."""
+    pairs = "".join(f'<nvpair id="{name}-{key}" name="{key}" value="{value}"/>' for key, value in values.items())
+    attributes = f'<instance_attributes id="{name}-values">{pairs}</instance_attributes>'
+    return f'<primitive id="{name}" class="stonith" type="fence_strip">{attributes}</primitive>'
+
+
+@story
+def two_nodes_need_unlike_delays() -> None:
+    """two nodes that fence one another are told apart by a delay: one of their own, or by priority"""
+    both = {"pcmk_host_list": "a1 a2"}
+    one, other = {"pcmk_host_list": "a1"}, {"pcmk_host_map": "a2:plug2"}
+    base, most = "pcmk_delay_base", "pcmk_delay_max"
+    rows = [
+        ([both], "", True),
+        ([{}], "", True),
+        ([{**both, base: "5s"}], "", True),
+        ([{**both, most: "3s"}], "", True),
+        ([{**both, base: "a1:0;a2:5s"}], "", False),
+        ([{**both, base: "a1:5;a2:5s"}], "", True),
+        ([{**both, base: "a1:100ms"}], "", False),
+        ([{**one, base: "5s"}, other], "", False),
+        ([{**one, base: "5s"}, {**other, base: "5s"}], "", True),
+        ([{**one, "delay": "5"}, other], "", False),
+        ([both], "15s", False),
+        ([both], "0", True),
+        ([], "", False),
+    ]
+    for devices, priority, is_wrong in rows:
+        resources = "".join(device(f"strip{at}", each) for at, each in enumerate(devices))
+        pair = f'<nvpair id="p" name="priority-fencing-delay" value="{priority}"/>' if priority else ""
+        found = cib(resources, config=f'<cluster_property_set id="s">{pair}</cluster_property_set>')
+        told = pacemaker_fencing.fault(found, ["a2", "a1"])
+        same(bool(told), is_wrong, f"{devices}, {priority!r}: {told!r}")
+        need(not told or "pcmk_delay_base='a1:0;a2:5s'" in told, told)
+        need(("random number" in told) == (is_wrong and any(most in each for each in devices)), told)
+        same(pacemaker_fencing.fault(found, ["a1", "a2", "a3"]), "", "three nodes")
+
+
+@story
+def a_clock_that_is_behind_is_told() -> None:
+    """a node whose wall clock is behind the one that set the last end is told of, and no other one"""
+    wall = 1_790_000_000.0
+    for ahead, says in ((50.0, 0), (20.0, 0), (49.0 + 40, 1), (-20.0, 0)):
+        whole = after(GROUP, pacemaker_plan.steps(cib(), WISH._replace(end=pacemaker_cib.end_at(wall + ahead))))
+        found = list(pacemaker_checks.of_clocks(whole, Now(100.0, wall), "/nowhere"))
+        same([problem.kind for problem in found], ["clock-behind"] * says, f"an end {ahead} s ahead")
+        need(not found or "at least 39 s behind" in found[0].text, f"{found}")
+    same(list(pacemaker_checks.of_clocks(after(GROUP, pacemaker_plan.steps(cib(), WISH)), Now(1.0, wall), "/nowhere")),
+         [], "a lease that is closed")  # fmt: skip
+
+
+MON = """<pacemaker-result><summary><cluster_options stonith-enabled="{fencing}" maintenance-mode="false"/></summary>
+<nodes><node name="a1" online="true"/><node name="a2" online="true"/></nodes><resources>
+<resource id="booth-booth-service" role="{agent}" active="{up}"/><group id="all">
+<resource id="svc" role="{role}" active="{active}"><node name="a2"/></resource>
+<resource id="two" role="{role}" active="{active}"><node name="a2"/></resource></group></resources>
+<node_attributes><node name="a1"><attribute name="booth-lease-guard" value="on"/></node>{guards}</node_attributes>
+<tickets><ticket id="db8" status="granted" standby="{standby}"/></tickets></pacemaker-result>"""
+GUARDS = '<node name="a2"><attribute name="booth-lease-guard" value="on"/></node>'
+WELL = {"fencing": "true", "agent": "Started", "up": "true", "role": "Started", "active": "true", "guards": GUARDS}
+
+
+def said(is_held: bool, lease_left: float, **more: str) -> List[str]:
+    """What is wrong where crm_mon prints this, and this site holds the ticket or does not."""
+    wish = AgentWish("/etc/booth/booth.conf", "booth", "192.0.2.10/24", None, ())
+    agent = pacemaker_plan.agent_steps(cib(), wish, ["db8"])[0].words[-1]
+    whole = after(GROUP + agent, pacemaker_plan.steps(cib(), WISH._replace(end=date(30))))
+    seen = pacemaker_asking.seen_in(MON.format(**{"standby": "false", **WELL, **more}))
+    site = pacemaker_status.site_of(CONF, whole, seen)
+    same(site.address, "192.0.2.10", "the site's address")
+    problems = [*pacemaker_status.of_ticket(site, TICKET, is_held, lease_left), *pacemaker_status.of_site(site)]
+    return [f"{problem.kind} {problem.severity}" for problem in problems]
+
+
+@story
+def a_cluster_is_judged() -> None:
+    """each thing that is wrong with a cluster is a problem, and nothing else is"""
+    down = {"role": "Stopped", "active": "false"}
+    rows = [
+        (True, {}, []),
+        (False, down, []),
+        (True, down, ["service-down 2"]),
+        (False, {}, ["unheld 2"]),
+        (True, {"standby": "true"}, ["paused 1"]),
+        (True, {"guards": ""}, ["no-guard 2"]),
+        (True, {"fencing": "false"}, ["no-fencing 1"]),
+        (True, {"agent": "Stopped", "up": "false"}, ["agent-down 2"]),
+    ]
+    for is_held, more, problems in rows:
+        same(said(is_held, 38.0, **more), problems, f"held {is_held}, {more}")
+    same(said(True, 60.0), [], "a lease that was renewed just now")
+    same(said(True, 75.0), ["rule-late 1"], "an end that is not renewed")
+
+
+def main() -> int:
+    """Tells the stories."""
+    failed = 0
+    for told in stories:
+        try:
+            told()
+        except Exception as why:  # (whatever it is, the other stories are told)
+            failed += 1
+            print(f"FAILED  {told.__doc__}: {type(why).__name__}: {why}", flush=True)
+        else:
+            print(f"ok      {told.__doc__}", flush=True)
+    print(f"pacemaker_plans: {len(stories) - failed} passed, {failed} failed")
+    return 1 if failed else 0
+
+
+if __name__ == "__main__":
+    sys.exit(main())

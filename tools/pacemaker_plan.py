@@ -1,0 +1,278 @@
+"""What booth-pacemaker setup changes in a CIB: elements, and the commands that put them there.
+
+It is imported by booth-pacemaker, and not run by itself. It asks nobody.
+"""
+
+import xml.etree.ElementTree as ElementTree
+from typing import Dict, Iterator, List, NamedTuple, Optional, Tuple
+
+import pacemaker_cib
+from pacemaker_cib import CLOSED, LEASE, PROMOTED, Cib, Times
+
+# the constraints by which resources hang on Pacemaker's ticket, that of promoted instances apart
+TICKET, PROMOTED_TICKET = "booth-ticket", "booth-ticket-promoted"
+ROLE = "Promoted"
+ENDS = ("stop", "fence", "demote")
+
+
+class Step(NamedTuple):
+    """A change: what it does, in words, and the command."""
+
+    what: str
+    words: Tuple[str, ...]
+
+
+class Wish(NamedTuple):
+    """What is asked for: a ticket, its resources and its times, and whether the ticket is granted already."""
+
+    ticket: str
+    resources: Tuple[str, ...]
+    times: Times
+    # the end that a rule has which is new
+    end: str
+
+
+def spelled(element: ElementTree.Element) -> str:
+    """An element as text."""
+    return ElementTree.tostring(element, encoding="unicode")
+
+
+def found(cib: Cib, tag: str, name: str) -> Optional[ElementTree.Element]:
+    """The element with this identifier, or None."""
+    return next((each for each in cib.root.iter(tag) if each.get("id") == name), None)
+
+
+def is_same(one: Optional[ElementTree.Element], other: ElementTree.Element) -> bool:
+    """Whether two elements say the same."""
+    if one is None or one.tag != other.tag or one.attrib != other.attrib or len(one) != len(other):
+        return False
+    return all(is_same(*pair) for pair in zip(one, other))
+
+
+def put(cib: Cib, scope: str, element: ElementTree.Element, what: str) -> Iterator[Step]:
+    """The step that has the CIB have this element, none if it has."""
+    there = found(cib, element.tag, element.get("id", ""))
+    if not is_same(there, element):
+        way = "--create" if there is None else "--replace"
+        yield Step(what, ("cibadmin", way, "--scope", scope, "--xml-text", spelled(element)))
+
+
+def kinds(cib: Cib, resources: Tuple[str, ...]) -> Dict[bool, List[str]]:
+    """The resources that are stopped at an end, and those whose promoted instances are demoted."""
+    parts: Dict[bool, List[str]] = {False: [], True: []}
+    for resource in resources:
+        parts[cib.is_promotable(resource)].append(resource)
+    return parts
+
+
+def set_of(parent: ElementTree.Element, name: str, resources: List[str], role: str = "") -> None:
+    """Adds a set of resources to a constraint."""
+    said = {"id": name, "role": role} if role else {"id": name}
+    inside = ElementTree.SubElement(parent, "resource_set", said)
+    for resource in resources:
+        ElementTree.SubElement(inside, "resource_ref", {"id": resource})
+
+
+def rule(cib: Cib, wish: Wish, is_promoted: bool, resources: List[str]) -> ElementTree.Element:
+    """The rule that ends these resources, with the end that the CIB has already."""
+    kind, ticket = (PROMOTED if is_promoted else LEASE), wish.ticket
+    constraint = ElementTree.Element("rsc_location", {"id": f"{kind}.{ticket}"})
+    set_of(constraint, f"{kind}-set.{ticket}", resources)
+    said = {"id": f"{kind}-rule.{ticket}", "score": "-INFINITY", **({"role": ROLE} if is_promoted else {})}
+    inside = ElementTree.SubElement(constraint, "rule", said)
+    name = pacemaker_cib.end_id(ticket, is_promoted)
+    before = found(cib, "date_expression", name)
+    end = wish.end if before is None else before.get("start", CLOSED)
+    ElementTree.SubElement(inside, "date_expression", {"id": name, "operation": "gt", "start": end})
+    return constraint
+
+
+def times(cib: Cib, wish: Wish) -> Iterator[Step]:
+    """The step that writes the lease's times."""
+    if cib.times(wish.ticket) == wish.times:
+        return
+    words = ("crm_attribute", "--type", "crm_config", "--set-name", pacemaker_cib.SET)
+    name = f"{pacemaker_cib.TIMES}{wish.ticket}"
+    text = wish.times.spelled()
+    yield Step(f"write the lease's times: {text}", (*words, "--name", name, "--update", text))
+
+
+def covered(cib: Cib, ticket: str, resources: List[str]) -> List[str]:
+    """Those of these resources that a constraint on the ticket has already. Raises `ValueError` if one ends nothing."""
+    names, own = [], (f"{TICKET}.", f"{PROMOTED_TICKET}.")
+    for constraint in cib.root.iter("rsc_ticket"):
+        if constraint.get("ticket") != ticket or constraint.get("id", "").startswith(own):
+            continue
+        inside = [each.get("id", "") for each in constraint.iter("resource_ref")] + [constraint.get("rsc", "")]
+        mine = [name for name in inside if name in resources]
+        policy = constraint.get("loss-policy", "stop")
+        if mine and policy not in ENDS:
+            raise ValueError(f"the constraint {constraint.get('id')} has loss-policy={policy}: it ends nothing")
+        names += mine
+    return names
+
+
+def tickets(cib: Cib, wish: Wish, is_promoted: bool, resources: List[str]) -> Iterator[Step]:
+    """The step that has these resources hang on the ticket."""
+    known = covered(cib, wish.ticket, resources)
+    left = [each for each in resources if each not in known]
+    if not left:
+        return
+    name = PROMOTED_TICKET if is_promoted else TICKET
+    policy = "demote" if is_promoted else "stop"
+    said = {"id": f"{name}.{wish.ticket}", "ticket": wish.ticket, "loss-policy": policy}
+    constraint = ElementTree.Element("rsc_ticket", said)
+    set_of(constraint, f"{name}-set.{wish.ticket}", left, ROLE if is_promoted else "")
+    yield from put(cib, "constraints", constraint, f"have {', '.join(left)} hang on the ticket, loss-policy={policy}")
+
+
+def steps(cib: Cib, wish: Wish) -> List[Step]:
+    """All steps for rule, times and ticket: what ends resources first."""
+    changes = list(times(cib, wish))
+    for is_promoted, resources in kinds(cib, wish.resources).items():
+        if not resources:
+            continue
+        what = "demote" if is_promoted else "stop"
+        text = f"have a rule {what} {', '.join(resources)} at the lease's end"
+        changes += put(cib, "constraints", rule(cib, wish, is_promoted, resources), text)
+        changes += tickets(cib, wish, is_promoted, resources)
+    return changes
+
+
+def removal(cib: Cib, ticket: str, with_ticket: bool) -> List[Step]:
+    """The steps that undo a setup. The constraint on the ticket goes only if that is asked for."""
+    kinds_of = [("rsc_location", LEASE), ("rsc_location", PROMOTED)]
+    kinds_of += [("rsc_ticket", TICKET), ("rsc_ticket", PROMOTED_TICKET)] if with_ticket else []
+    changes = []
+    for tag, kind in kinds_of:
+        if found(cib, tag, f"{kind}.{ticket}") is not None:
+            text = f'<{tag} id="{kind}.{ticket}"/>'
+            changes.append(Step(f"delete {kind}.{ticket}", ("cibadmin", "--delete", "--xml-text", text)))
+    if cib.times(ticket) is not None:
+        words = ("crm_attribute", "--type", "crm_config", "--set-name", pacemaker_cib.SET)
+        name = f"{pacemaker_cib.TIMES}{ticket}"
+        changes.append(Step("delete the lease's times", (*words, "--name", name, "--delete")))
+    return changes
+
+
+# ---- the agent
+
+
+class AgentWish(NamedTuple):
+    """What is asked for of the agent: the configuration's path and name, and what it needs."""
+
+    path: str
+    name: str
+    address: Optional[str]
+    records: Optional[str]
+    behind: Tuple[str, ...]
+
+
+def agents(cib: Cib, path: str, name: str) -> List[ElementTree.Element]:
+    """The resources that are the daemon of this configuration."""
+    found_ones = []
+    for primitive in cib.root.iter("primitive"):
+        kind = (primitive.get("provider"), primitive.get("type"))
+        if kind in (("booth", "boothd"), ("pacemaker", "booth-site")):
+            if parameter(primitive, "config") in (path, name, f"{name}.conf") or not parameter(primitive, "config"):
+                found_ones.append(primitive)
+    return found_ones
+
+
+def parameter(primitive: ElementTree.Element, name: str) -> str:
+    """The value of a parameter of a resource, nothing if it has none."""
+    pairs = (pair for each in primitive.findall("instance_attributes") for pair in each.findall("nvpair"))
+    return next((pair.get("value", "") for pair in pairs if pair.get("name") == name), "")
+
+
+def attributes(parent: ElementTree.Element, values: Dict[str, str]) -> None:
+    """Adds parameters to a resource."""
+    owner = parent.get("id", "")
+    inside = ElementTree.SubElement(parent, "instance_attributes", {"id": f"{owner}-params"})
+    for name, value in values.items():
+        ElementTree.SubElement(inside, "nvpair", {"id": f"{owner}-params-{name}", "name": name, "value": value})
+
+
+def operations(parent: ElementTree.Element, rows: Dict[str, Tuple[str, str]]) -> None:
+    """Adds operations to a resource: of each the interval and the timeout."""
+    owner, inside = parent.get("id", ""), ElementTree.SubElement(parent, "operations")
+    for name, (interval, timeout) in rows.items():
+        said = {"id": f"{owner}-{name}-{interval}", "name": name, "interval": interval, "timeout": timeout}
+        ElementTree.SubElement(inside, "op", said)
+
+
+def agent_steps(cib: Cib, wish: AgentWish, tickets_of: List[str]) -> List[Step]:
+    """The steps that make the agent with the site's address, as pcs names them, or that tell it its tickets."""
+    known = agents(cib, wish.path, wish.name)
+    if known:
+        return [*moved(known[0], wish.records), *retold(known[0], tickets_of)]
+    group = ElementTree.Element("group", {"id": f"booth-{wish.name}-group"})
+    if wish.address:
+        said = {"id": f"booth-{wish.name}-ip", "class": "ocf", "provider": "heartbeat", "type": "IPaddr2"}
+        primitive = ElementTree.SubElement(group, "primitive", said)
+        address, _, bits = wish.address.partition("/")
+        attributes(primitive, {"ip": address, **({"cidr_netmask": bits} if bits else {})})
+        operations(primitive, {"monitor": ("10s", "20s")})
+    said = {"id": f"booth-{wish.name}-service", "class": "ocf", "provider": "pacemaker", "type": "booth-site"}
+    primitive = ElementTree.SubElement(group, "primitive", said)
+    records = {"records": wish.records} if wish.records else {}
+    attributes(primitive, {"config": wish.path, "records_mode": "shared", **records, "tickets": " ".join(tickets_of)})
+    operations(primitive, {"start": ("0s", "90s"), "stop": ("0s", "90s"), "monitor": ("10s", "20s")})
+    # (a start that failed at each node is tried again later)
+    meta = ElementTree.SubElement(primitive, "meta_attributes", {"id": f"booth-{wish.name}-service-meta"})
+    said = {"id": f"booth-{wish.name}-service-meta-failure-timeout", "name": "failure-timeout", "value": "120s"}
+    ElementTree.SubElement(meta, "nvpair", said)
+    # (the constraints first would name what is not there; and the group starts only once it may)
+    return [*held(group, wish), *behind(cib, wish), *let_go(wish)] if wish.behind else [created(group)]
+
+
+def created(group: ElementTree.Element) -> Step:
+    """The step that makes the group."""
+    text = "make the resource of the daemon, with its address"
+    return Step(text, ("cibadmin", "--create", "--scope", "resources", "--xml-text", spelled(group)))
+
+
+def held(group: ElementTree.Element, wish: AgentWish) -> Iterator[Step]:
+    """The step that makes the group, stopped until its constraints are there."""
+    meta = ElementTree.SubElement(group, "meta_attributes", {"id": f"booth-{wish.name}-group-meta"})
+    said = {"id": f"booth-{wish.name}-group-meta-target-role", "name": "target-role", "value": "Stopped"}
+    ElementTree.SubElement(meta, "nvpair", said)
+    yield created(group)
+
+
+def let_go(wish: AgentWish) -> Iterator[Step]:
+    """The step that has the group start."""
+    words = ("crm_resource", "--resource", f"booth-{wish.name}-group", "--meta", "--delete-parameter", "target-role")
+    yield Step("have the daemon start", words)
+
+
+def behind(cib: Cib, wish: AgentWish) -> Iterator[Step]:
+    """The steps that put the group where other resources run, as its storage, and after them."""
+    group = f"booth-{wish.name}-group"
+    for resource in wish.behind:
+        role = {"with-rsc-role": ROLE} if cib.is_promotable(resource) else {}
+        said = {"id": f"{group}-with-{resource}", "rsc": group, "with-rsc": resource, "score": "INFINITY", **role}
+        together = ElementTree.Element("rsc_colocation", said)
+        yield from put(cib, "constraints", together, f"have it run where {resource} runs")
+        first = {"first-action": "promote", "then-action": "start"} if role else {}
+        said = {"id": f"{group}-after-{resource}", "first": resource, "then": group, "kind": "Mandatory", **first}
+        yield from put(cib, "constraints", ElementTree.Element("rsc_order", said), f"have it start after {resource}")
+
+
+def moved(primitive: ElementTree.Element, records: Optional[str]) -> Iterator[Step]:
+    """The step that tells an agent where its records are, if that is asked for."""
+    if records is None or parameter(primitive, "records") == records:
+        return
+    name = primitive.get("id", "")
+    words = ("crm_resource", "--resource", name, "--set-parameter", "records", "--parameter-value", records)
+    yield Step(f"have {name} keep its records in {records}", words)
+
+
+def retold(primitive: ElementTree.Element, tickets_of: List[str]) -> Iterator[Step]:
+    """The step that tells an agent its tickets."""
+    if parameter(primitive, "tickets").split() == tickets_of:
+        return
+    name, value = primitive.get("id", ""), " ".join(tickets_of)
+    words = ["crm_resource", "--resource", name]
+    words += ["--set-parameter", "tickets", "--parameter-value", value] if value else ["--delete-parameter", "tickets"]
+    yield Step(f"have {name} run the followers of: {value or 'no ticket'}", tuple(words))
