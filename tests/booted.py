@@ -1,8 +1,9 @@
 """Machines that systemd boots: each a root file system of its own over one image, on a network of their own.
 
-It is imported by tests/machines.py, and not run by itself. Machines are booted by systemd-nspawn as root. They are on a
-bridge in a network namespace that is made for them, so nothing that they send leaves this machine. The image has Debian
-12 with systemd and what IMAGE_PACKAGES names; it is made once, by debootstrap, below FOLDER.
+It is imported by tests/machines.py and tests/clusters.py, and not run by itself. Machines are booted by systemd-nspawn
+as root. They are on a bridge in a network namespace that is made for them, so nothing that they send leaves this
+machine. An image has Debian 12 with systemd and the packages that it names. It is made once, by debootstrap and
+apt-get, below FOLDER.
 """
 
 import contextlib
@@ -11,13 +12,10 @@ import shutil
 import signal
 import subprocess
 import time
-from typing import Dict, Iterable, Iterator, List, Optional
+from typing import IO, Dict, Iterable, Iterator, List, NamedTuple, Optional, Tuple
 
 FOLDER = "/var/tmp/booth-machines"
-IMAGE = f"{FOLDER}/image"
-IMAGE_PACKAGES = (
-    "systemd", "systemd-sysv", "dbus", "iproute2", "procps", "python3", "postgresql", "nftables", "libpam-systemd",
-)  # fmt: skip
+BASE_PACKAGES = ("systemd", "systemd-sysv", "dbus", "iproute2", "procps", "python3", "nftables", "libpam-systemd")
 SUITE = "bookworm"
 MIRROR = "http://deb.debian.org/debian"
 NEEDED = ("systemd-nspawn", "nsenter", "unshare", "ip", "mount")
@@ -29,6 +27,21 @@ BRIDGE = "booth0"
 GROUPS = ("/sys/fs/cgroup/systemd", "/sys/fs/cgroup/unified", "/sys/fs/cgroup")
 # the one that bounds how many processes there are, where it is one of its own
 PROCESSES = "/sys/fs/cgroup/pids"
+# Each boot of a machine has an id of its own, which systemd-nspawn mounts over that of the host. A unit whose /proc is
+# a mount of its own (ProtectProc=) sees that of the host, which no boot of the machine changes. So the id is kept early
+# in the boot, and such units have it mounted again. (The file that systemd-nspawn mounts has no name any more, and
+# nothing can be mounted over it.)
+BOOT_ID, KEPT_BOOT_ID = "/proc/sys/kernel/random/boot_id", "/run/own-boot-id"
+KEEPS_BOOT_ID = f"""\
+[Unit]
+DefaultDependencies=no
+Before=systemd-journald.service sysinit.target
+[Service]
+Type=oneshot
+RemainAfterExit=yes
+ExecStart=/bin/sh -c 'cat {BOOT_ID} >{KEPT_BOOT_ID} && umount {BOOT_ID} && mount --bind {KEPT_BOOT_ID} {BOOT_ID}'
+"""
+HAS_BOOT_ID = f"[Service]\nBindReadOnlyPaths={KEPT_BOOT_ID}:{BOOT_ID}\n"
 
 
 class NotBooted(Exception):
@@ -39,10 +52,32 @@ class NoImage(NotBooted):
     """The image cannot be made."""
 
 
-def missing() -> List[str]:
-    """Returns what is missing to boot machines here."""
+class Image(NamedTuple):
+    """A root file system that machines share: its name below FOLDER, and the packages that it has.
+
+    debootstrap resolves no alternatives among the packages that another one needs. So apt-get installs `more`, in the
+    image, without starting anything.
+    """
+
+    name: str
+    packages: Tuple[str, ...]
+    more: Tuple[str, ...] = ()
+
+    @property
+    def path(self) -> str:
+        """Returns where the image is."""
+        return f"{FOLDER}/{self.name}"
+
+
+POSTGRESQL = Image("image", (*BASE_PACKAGES, "postgresql"))
+# the same with needrestart, which one scenario needs
+NEEDRESTART = Image("needrestart", POSTGRESQL.packages, ("needrestart",))
+
+
+def missing(image: Image = POSTGRESQL) -> List[str]:
+    """Returns what is missing to boot machines over an image here."""
     lacks = [name for name in NEEDED if shutil.which(name) is None]
-    if not os.path.isdir(IMAGE) and shutil.which("debootstrap") is None:
+    if not os.path.isdir(image.path) and shutil.which("debootstrap") is None:
         lacks.append("debootstrap")
     if os.geteuid() != 0:
         return [*lacks, "the rights of root"]
@@ -53,22 +88,49 @@ def missing() -> List[str]:
     return lacks
 
 
-def make_image() -> None:
-    """Makes the image, unless it is there."""
-    if os.path.isdir(IMAGE):
+def make_image(image: Image = POSTGRESQL) -> None:
+    """Makes an image, unless it is there."""
+    if os.path.isdir(image.path):
         return
     os.makedirs(FOLDER, exist_ok=True)
-    begun = f"{IMAGE}.{os.getpid()}"
-    words = ["debootstrap", "--variant=minbase", "--include=" + ",".join(IMAGE_PACKAGES), SUITE, begun, MIRROR]
-    with open(f"{FOLDER}/image.log", "wb") as log:
-        done = subprocess.run(
-            words, stdin=subprocess.DEVNULL, stdout=log, stderr=log, timeout=SECONDS_OF_AN_IMAGE, check=False
-        )
-        if done.returncode != 0:
+    begun, at = f"{image.path}.{os.getpid()}", f"{FOLDER}/{image.name}.log"
+    words = ["debootstrap", "--variant=minbase", "--include=" + ",".join(image.packages), SUITE, begun, MIRROR]
+    with open(at, "wb") as log:
+        try:
+            _log_command(words, log)
+            if image.more:
+                _install(begun, image.more, log)
+        except NoImage as why:
             # (what it has mounted there stays as it is)
             subprocess.run(["rm", "-rf", "--one-file-system", begun], check=False)
-            raise NoImage(f"debootstrap failed: {FOLDER}/image.log")
-    os.rename(begun, IMAGE)
+            raise NoImage(f"{why}: {at}") from None
+    os.rename(begun, image.path)
+
+
+def _log_command(words: List[str], log: IO[bytes]) -> None:
+    """Runs a command that makes an image. Raises `NoImage` if it fails."""
+    done = subprocess.run(
+        words,
+        stdin=subprocess.DEVNULL,
+        stdout=log,
+        stderr=log,
+        timeout=SECONDS_OF_AN_IMAGE,
+        check=False,
+        env={**os.environ, **ENV, "DEBIAN_FRONTEND": "noninteractive"},
+    )
+    if done.returncode != 0:
+        raise NoImage(f"{words[0] if words[0] != 'chroot' else words[2]} failed")
+
+
+def _install(root: str, packages: Tuple[str, ...], log: IO[bytes]) -> None:
+    """Installs packages in an image whose services do not start meanwhile."""
+    policy = f"{root}/usr/sbin/policy-rc.d"
+    with open(policy, "w", encoding="ascii") as file:
+        file.write("#!/bin/sh\nexit 101\n")
+    os.chmod(policy, 0o755)
+    _log_command(["chroot", root, "apt-get", "install", "-qy", "--no-install-recommends", *packages], log)
+    _log_command(["chroot", root, "apt-get", "clean"], log)
+    os.remove(policy)
 
 
 class Network:
@@ -93,17 +155,23 @@ class Network:
 
 
 class Machine:
-    """A machine, which may be booted, cut off, killed and booted again. What it wrote to its disk stays."""
+    """A machine, which may be booted, cut off, killed and booted again. What it wrote to its disk stays.
 
-    def __init__(self, network: Network, folder: str, name: str, address: str) -> None:
+    Before a boot `bridge` may name another bridge of the network, and `options` more options of systemd-nspawn.
+    """
+
+    def __init__(self, network: Network, folder: str, name: str, address: str, image: Image = POSTGRESQL) -> None:
         self.network, self.name, self.address = network, name, address
+        self.bridge = BRIDGE
+        self.options: List[str] = []
+        self.is_cut = False
         self.folder = f"{folder}/{name}"
         self.root = f"{self.folder}/root"
         self.process: Optional["subprocess.Popen[bytes]"] = None
         self.leader = 0
         for part in ("upper", "work", "root"):
             os.makedirs(f"{self.folder}/{part}")
-        layers = f"lowerdir={IMAGE},upperdir={self.folder}/upper,workdir={self.folder}/work"
+        layers = f"lowerdir={image.path},upperdir={self.folder}/upper,workdir={self.folder}/work"
         subprocess.run(["mount", "-t", "overlay", "overlay", "-o", layers, self.root], check=True)
         self.write("/etc/systemd/network/10-host0.network", f"[Match]\nName=host0\n[Network]\nAddress={address}/24\n")
         self.write("/etc/hostname", f"{name}\n")
@@ -117,6 +185,11 @@ class Machine:
             file.write(text)
         os.chmod(self.root + path, mode)
 
+    def remove(self, path: str) -> None:
+        """Removes a file of the machine, if it is there."""
+        with contextlib.suppress(FileNotFoundError):
+            os.remove(self.root + path)
+
     def enable(self, unit: str) -> None:
         """Has systemd start a unit at each boot."""
         wants = f"{self.root}/etc/systemd/system/multi-user.target.wants"
@@ -124,12 +197,22 @@ class Machine:
         with contextlib.suppress(FileExistsError):
             os.symlink(f"/lib/systemd/system/{unit}", f"{wants}/{unit}")
 
+    def give_boot_id(self, *units: str) -> None:
+        """Has units see the id of the machine's own boot, whatever they are protected by. It takes the next boot."""
+        self.write("/etc/systemd/system/own-boot-id.service", KEEPS_BOOT_ID)
+        wants = f"{self.root}/etc/systemd/system/sysinit.target.wants"
+        os.makedirs(wants, exist_ok=True)
+        with contextlib.suppress(FileExistsError):
+            os.symlink("/etc/systemd/system/own-boot-id.service", f"{wants}/own-boot-id.service")
+        for unit in units:
+            self.write(f"/etc/systemd/system/{unit}.d/own-boot-id.conf", HAS_BOOT_ID)
+
     def boot(self, wait: bool = True) -> None:
         """Boots it, and by default waits until systemd has started its units."""
         words = ["nsenter", f"--net=/run/netns/{self.network.name}", "systemd-nspawn", "-q", "-D", self.root, "-b"]
-        words += [f"--machine={self.name}", "--register=no", "--keep-unit", f"--network-bridge={BRIDGE}"]
+        words += [f"--machine={self.name}", "--register=no", "--keep-unit", f"--network-bridge={self.bridge}"]
         words += ["--kill-signal=SIGRTMIN+3", "--console=passive", "--link-journal=no"]
-        words += ["--resolv-conf=off", "--timezone=off"]
+        words += ["--resolv-conf=off", "--timezone=off", *self.options]
         with open(f"{self.folder}/console.log", "ab") as log:
             self.process = subprocess.Popen(
                 words,
@@ -144,6 +227,8 @@ class Machine:
             if time.monotonic() > end or self.process.poll() is not None:
                 raise NotBooted(f"{self.name} did not boot: {self.folder}/console.log")
             time.sleep(0.05)
+        if self.is_cut:
+            self.cut()
         while wait and not self.is_booted():
             if time.monotonic() > end:
                 raise NotBooted(f"{self.name} did not boot in time: {self.folder}/console.log")
@@ -248,7 +333,8 @@ class Machine:
         return done.stdout.decode(errors="replace")
 
     def cut(self, is_cut: bool = True) -> None:
-        """Takes its cable out, or puts it in again."""
+        """Takes its cable out, or puts it in again. It stays out through boots."""
+        self.is_cut = is_cut
         if self.is_up():
             self.network.ip("link", "set", f"vb-{self.name}", "down" if is_cut else "up")
 
@@ -268,14 +354,16 @@ class Machine:
 
 
 @contextlib.contextmanager
-def machines(name: str, folder: str, addresses: Dict[str, str]) -> Iterator[Dict[str, Machine]]:
+def machines(
+    name: str, folder: str, addresses: Dict[str, str], image: Image = POSTGRESQL
+) -> Iterator[Dict[str, Machine]]:
     """Gives machines of these names and addresses, which are not booted yet, on a network of this name."""
-    make_image()
+    make_image(image)
     made: Dict[str, Machine] = {}
     with Network(name) as network:
         try:
             for each, address in addresses.items():
-                made[each] = Machine(network, folder, each, address)
+                made[each] = Machine(network, folder, each, address, image)
             yield made
         finally:
             for machine in made.values():
