@@ -9,7 +9,7 @@ import contextlib
 import time
 from typing import Callable, Dict, Iterator, NamedTuple, Optional
 
-from booted import Machine
+from booted import NEEDRESTART, POSTGRESQL, Image, Machine
 from machine_sites import (
     DAEMON,
     EXPIRE,
@@ -18,36 +18,38 @@ from machine_sites import (
     SECONDS_OF_A_TAKEOVER,
     TICKET,
     UNIT,
+    Unlike,
     World,
 )
 
 Story = Callable[[World, Machine], Optional[str]]
-SLOW_CLOCK = """\
-[Unit]
-Description=A clock that is not reached
-DefaultDependencies=no
-[Service]
-Type=oneshot
-RemainAfterExit=yes
-TimeoutStartSec=infinity
-ExecStart=/bin/sleep 180
-"""
 SLOW_STOP = """\
 [Service]
 ExecStop=
 ExecStop=/bin/sh -c 'sleep 4; exec pg_ctlcluster --skip-systemctl-redirect -m fast 15-main stop'
 """
-SLOW_CHRONYC = "#!/bin/sh\nsleep 180\nexit 1\n"
+# stands for a chrony that runs, and sets the clock once a file is there
+CHRONYC, CLOCK_IS_RIGHT = "/usr/local/bin/chronyc", "/run/clock-is-right"
+WAITING_CHRONYC = f"#!/bin/sh\n[ \"$1\" = tracking ] || [ -e {CLOCK_IS_RIGHT} ]\n"
+WAITS, WAITED = "waits until chrony has set the clock", "chrony has set the clock, after"
 UNITS = "/etc/systemd/system"
+# (the server is another package's, and is not what this looks at)
+NEEDRESTART_RUN = ("needrestart", "-r", "a")
+OWN_RC, SERVER_RC = "/etc/needrestart/conf.d/booth.conf", "/etc/needrestart/conf.d/zz-server.conf"
+SERVER_IS_LEFT = "$nrconf{override_rc}{qr(^postgresql)} = 0;\n"
 
 
 class Scenario(NamedTuple):
-    """A fault with its name, whether the gate runs it, and for how long no site may take writes at most."""
+    """A fault with its name, whether the gate runs it, and for how long no site may take writes at most.
+
+    It may need an image of its own.
+    """
 
     name: str
     is_for_gate: bool
     most_without: float
     story: Story
+    image: Image
 
     def title(self) -> str:
         """Returns what the scenario is, in words."""
@@ -59,12 +61,12 @@ SCENARIOS: Dict[str, Scenario] = {}
 NONE, SHORT, LONG = 3.0, 20.0 + EXPIRE, SECONDS_OF_A_TAKEOVER + EXPIRE
 
 
-def scenario(most_without: float, gate: bool = False) -> Callable[[Story], Story]:
+def scenario(most_without: float, gate: bool = False, image: Image = POSTGRESQL) -> Callable[[Story], Story]:
     """Makes a function a scenario, by the name of it."""
 
     def add(story: Story) -> Story:
         name = story.__name__.replace("_", "-")
-        SCENARIOS[name] = Scenario(name, gate, most_without, story)
+        SCENARIOS[name] = Scenario(name, gate, most_without, story, image)
         return story
 
     return add
@@ -119,21 +121,32 @@ def postmaster(holder: Machine) -> str:
 @scenario(LONG, gate=True)
 def crash_and_return(world: World, holder: Machine) -> Optional[str]:
     """The primary's machine loses its power and comes back, while no clock can be reached."""
-    holder.write(f"{UNITS}/chrony-wait.service", SLOW_CLOCK)
-    holder.write("/usr/local/bin/chronyc", SLOW_CHRONYC, 0o755)
+    holder.write(CHRONYC, WAITING_CHRONYC, 0o755)
     try:
         holder.lose_power()
         taken_over(world, holder)
+        began = time.monotonic()
         world.boot(holder, wait=False)
         told = await_replica(world, holder)
         # (what a system that boots does late is seen too)
         time.sleep(10)
+        told += f", and {waits_for_a_clock(world, holder, began)}"
     finally:
-        holder.must("rm", "-f", f"{UNITS}/chrony-wait.service", "/usr/local/bin/chronyc")
-        holder.must("systemctl", "daemon-reload")
-        holder.run("systemctl", "stop", "chrony-wait.service")
-        holder.must("systemctl", "restart", DAEMON, timeout=90)
+        holder.must("rm", "-f", CHRONYC)
     return told
+
+
+def waits_for_a_clock(world: World, machine: Machine, booted: float) -> str:
+    """Sees that a machine's daemon waits for a clock since its boot, has the clock be right, and returns what came."""
+    told = world.told(machine, DAEMON, booted)
+    if WAITS not in told or WAITED in told or world.leader(machine):
+        raise Unlike(f"the daemon of {machine.name} waits for no clock: {told.strip() or 'it said nothing'}")
+    machine.must("touch", CLOCK_IS_RIGHT)
+    took = world.await_that(f"the daemon of {machine.name} answers", lambda: world.leader(machine), PATIENCE)
+    told = world.told(machine, DAEMON, booted)
+    if WAITED not in told:
+        raise Unlike(f"the daemon of {machine.name} began without a clock: {told.strip()}")
+    return f"its daemon waited for a clock, and answered {took:.1f} s after it was right"
 
 
 @scenario(LONG)
@@ -405,6 +418,42 @@ def upgrade(world: World, holder: Machine) -> Optional[str]:
         world.await_that(f"{machine.name} answers", lambda machine=machine: world.leader(machine))
     stays(world, holder, EXPIRE)
     return None
+
+
+@scenario(NONE, image=NEEDRESTART)
+def needrestart_after_an_upgrade(world: World, holder: Machine) -> Optional[str]:
+    """A library of daemon and follower is upgraded, and needrestart runs with the package's file, and without it."""
+    units = (DAEMON, FOLLOWER)
+    replaced = replace_library(world, holder, *units)
+    holder.write(SERVER_RC, SERVER_IS_LEFT)
+    before = [world.pid(holder, unit) for unit in units] + [postmaster(holder)]
+    listed = holder.must("needrestart", "-b", "-r", "l", timeout=120)
+    if not all(f"NEEDRESTART-SVC: {unit}" in listed for unit in units):
+        raise Unlike(f"needrestart finds nothing old: {listed.strip()}")
+    holder.must(*NEEDRESTART_RUN, timeout=120)
+    stays(world, holder, EXPIRE)
+    if [world.pid(holder, unit) for unit in units] + [postmaster(holder)] != before:
+        raise Unlike("needrestart has restarted the daemon, its follower or the server")
+    holder.must("mv", OWN_RC, f"{OWN_RC}.away")
+    try:
+        holder.must(*NEEDRESTART_RUN, timeout=120)
+    finally:
+        holder.must("mv", f"{OWN_RC}.away", OWN_RC)
+        holder.remove(SERVER_RC)
+    if [unit for number, unit in zip(before, units) if world.pid(holder, unit) == number]:
+        raise Unlike("needrestart leaves them alone without the package's file too")
+    stays(world, holder, EXPIRE)
+    return f"{replaced} was replaced"
+
+
+def replace_library(world: World, machine: Machine, *units: str) -> str:
+    """Replaces a file that the first process of each unit has mapped, as an upgrade does, and returns its name."""
+    maps = [machine.must("cat", f"/proc/{world.pid(machine, unit)}/maps") for unit in units]
+    code = [{line.split()[-1] for line in text.splitlines() if " r-xp " in line and "/" in line} for text in maps]
+    name = min(set.intersection(*code), key=lambda path: (".so" not in path, path))
+    machine.must("cp", "-a", name, f"{name}.new")
+    machine.must("mv", "-f", f"{name}.new", name)
+    return name
 
 
 @scenario(SHORT)

@@ -29,7 +29,7 @@ sys.path[:0] = [HERE, f"{TOP}/tools"]
 import booted
 import machine_sites
 import machine_writers
-from booted import NoImage, NotBooted
+from booted import Image, NoImage, NotBooted
 from machine_scenarios import SCENARIOS, Scenario
 from machine_sites import Unlike, World
 
@@ -102,12 +102,12 @@ def lost_writes(world: World, began: float, ended: float) -> str:
     return "?" if holder is None else str(world.writers.lost(began, ended, world.rows(holder)))
 
 
-def try_all(package: str, chosen: List[Scenario], keeps: bool) -> bool:
-    """Runs these scenarios on machines of their own, and returns whether all went as they must."""
+def try_all(package: str, chosen: List[Scenario], keeps: bool, image: Image) -> bool:
+    """Runs these scenarios on machines of their own over an image, and returns whether all went as they must."""
     folder = tempfile.mkdtemp(prefix="machines-", dir=booted.FOLDER)
     began = time.monotonic()
     try:
-        with machine_sites.worlds(package, folder) as world:
+        with machine_sites.worlds(package, folder, image=image) as world:
             print(f"three machines are set up after {time.monotonic() - began:.0f} s", flush=True)
             results = [run(world, each) for each in chosen]
             print(f"{sum(results)} of {len(results)} scenarios in {time.monotonic() - began:.0f} s", flush=True)
@@ -126,7 +126,11 @@ def main(arguments: List[str]) -> int:
         for each in SCENARIOS.values():
             print(f"{each.name}{' (gate)' if each.is_for_gate else ''}: {each.title()}")
         return 0
-    lacks = booted.missing()
+    chosen = [SCENARIOS[name] for name in options.scenario] or [
+        each for each in SCENARIOS.values() if each.is_for_gate or not options.gate
+    ]
+    image = next((each.image for each in chosen if each.image is not booted.POSTGRESQL), booted.POSTGRESQL)
+    lacks = booted.missing(image)
     package = package_of(options)
     if package is None or not os.path.isfile(package):
         lacks.append(f"the package {package or 'out/booth-proved_*.deb (make deb)'}")
@@ -134,16 +138,13 @@ def main(arguments: List[str]) -> int:
         print(f"machines: not tried here, for want of {', '.join(lacks)}")
         return NOT_HERE
     assert package is not None
-    chosen = [SCENARIOS[name] for name in options.scenario] or [
-        each for each in SCENARIOS.values() if each.is_for_gate or not options.gate
-    ]
     try:
-        booted.make_image()
+        booted.make_image(image)
     except (NoImage, subprocess.TimeoutExpired) as why:
         print(f"machines: not tried here, since {why}")
         return NOT_HERE
     try:
-        return 0 if try_all(package, chosen, options.keep) else 1
+        return 0 if try_all(package, chosen, options.keep, image) else 1
     except (NotBooted, Unlike) as why:
         print(f"FAILED machines: {why}")
         return 1
