@@ -1,22 +1,35 @@
-# make try     runs a cluster in memory in a minute or two, with no proof, and leaves nothing
-# make build   proves boothd, booth, geostore and booth-follow, and leaves the programs below out/
-# make run     builds it, and shows three members on loopback and a service that follows its ticket: a crash, a takeover, a move
-# make check   the gate
-# make machines   as root, boots three machines with PostgreSQL and the package, and brings faults about on them
-# make install PREFIX=/usr/local DESTDIR=    programs, manual pages, completion, units, examples; and make uninstall
-# make deb     a Debian package of the same, at out/booth-proved_VERSION_amd64.deb
+# The targets. `make` and `make help` print them (each line of this comment that begins with `make`).
+#
+# make help      prints this list
+# make try       shows a cluster on loopback, with programs that are not proved: a crash, a takeover, a move. Three minutes
+# make run       the same with the proved programs, which it builds first
+# make build     proves boothd, booth, geostore and booth-follow, and leaves the programs in out/. Half an hour or more
+# make check     the gate: proves and tests every crate
+# make machines  as root: boots three machines with PostgreSQL and the package, and tests them through faults
+# make clusters  as root: boots two Pacemaker clusters and an arbitrator with the package, and tests them through faults
+# make deb       builds a Debian package, out/booth-proved_VERSION_amd64.deb
+# make install   installs the same files; PREFIX= is /usr/local by default, DESTDIR= puts them below another directory
+# make uninstall removes what make install has installed
 
-PROGRAMS := boothd booth geostore booth-follow
+# one file has all programs, and is the one that it is run as: these are links to it
+PROGRAM_LINKS := booth geostore booth-follow
+PROGRAMS := boothd $(PROGRAM_LINKS)
 # what is written in Python, the modules of it, and what is run as python3 MODULE
-TOOLS := booth-status booth-record booth-switchover booth-postgresql
-TOOL_MODULES := changes checking configuration ending exporting follow_checks frames judging key_file lists looking \
+TOOLS := booth-status booth-record booth-switchover booth-postgresql booth-setup booth-pacemaker booth-lease-guard
+TOOL_MODULES := changes checking configuration ending exporting follow_checks frames judging key_file \
+  lease_daemons lease_ending lease_guarding lease_holding lists looking \
+  pacemaker_asking pacemaker_checks pacemaker_cib pacemaker_clocks pacemaker_fencing pacemaker_following \
+  pacemaker_margin pacemaker_plan pacemaker_setup pacemaker_status pacemaker_switching \
   postgresql_finding postgresql_promotion postgresql_rebuilding postgresql_server postgresql_setup postgresql_showing \
-  postgresql_watching problems record_file service_problems service_state services showing state_file switching \
-  takeovers timeline ways wording
+  postgresql_watching problems record_file service_problems service_state services setup_bundle setup_cluster \
+  setup_commands setup_member setup_steps showing state_file switching takeovers timeline ways wording
 # what is written in the shell, for operators; and what units, followers and daemons run
 SCRIPTS := booth-keygen booth-service
-HELPERS := $(notdir $(wildcard packaging/follow-*)) handler-follow clock-wait
-SERVICES := booth@.service booth-follow@.service booth-postgresql@.service
+HELPERS := $(notdir $(wildcard packaging/follow-*)) handler-follow clock-wait site-keep service-runnable
+SERVICES := booth@.service booth-follow@.service booth-postgresql@.service booth-lease-guard.service \
+  booth-arbitrator.service
+# the resource agent of Pacemaker, under its own name and that of the C program's, by which pcs and crm know it
+AGENTS := booth/boothd pacemaker/booth-site
 VERSION := 0.2.0
 PREFIX ?= /usr/local
 SBIN := $(PREFIX)/sbin
@@ -26,8 +39,9 @@ USERS := $(PREFIX)/lib/sysusers.d
 COMPLETIONS := $(PREFIX)/share/bash-completion/completions
 DOCS := $(PREFIX)/share/doc/booth-proved
 MODULES := $(PREFIX)/share/booth-proved
-# (needrestart reads no other folder; below a prefix of one's own nothing is put there)
+# (needrestart and Pacemaker read no other folder; below a prefix of one's own nothing is put there)
 SYSCONF ?= $(if $(filter /usr /usr/local,$(PREFIX)),/etc,$(PREFIX)/etc)
+OCF ?= $(if $(filter /usr /usr/local,$(PREFIX)),/usr,$(PREFIX))/lib/ocf/resource.d
 PACKAGE := out/booth-proved_$(VERSION)_amd64.deb
 SOURCES := crates.txt HANDLES $(shell find crates/*/src crates/*/specs crates/*/proofs 2>/dev/null)
 # from the programs to the modules, so that what is installed below DESTDIR runs there too
@@ -37,7 +51,10 @@ NEEDS_RT := command -v rt >/dev/null || { echo 'make: $(NO_RT)' >&2; exit 1; }
 
 NEEDS_PYTHON := command -v python3 >/dev/null || { echo 'make: the command python3 is missing' >&2; exit 1; }
 
-.PHONY: try build run check machines install uninstall deb
+.PHONY: help try build run check machines clusters install uninstall deb
+
+help:
+	@sed -n 's/^# \(make .*\)/\1/p' Makefile
 
 build: $(PROGRAMS:%=out/%)
 
@@ -48,10 +65,9 @@ run:
 	@python3 tools/demo.py
 
 try:
+	@$(NEEDS_PYTHON)
 	@$(NEEDS_RT)
-	@echo 'building without a proof, which takes a minute or two'
-	@cd crates/boothd && rt try -- sim -e 1000 -r 7
-	@echo 'this was not proved: make run proves the programs, and shows them. docs/SIMULATION.md says what was printed'
+	@python3 tools/trying.py
 
 check:
 	@$(NEEDS_RT)
@@ -61,11 +77,15 @@ machines: $(PACKAGE)
 	@$(NEEDS_PYTHON)
 	@python3 tests/machines.py
 
+clusters: $(PACKAGE)
+	@$(NEEDS_PYTHON)
+	@python3 tests/clusters.py
+
 # documents for developers of Booth, which stay in the source tree
 DEVELOPER_DOCS := $(foreach name,README ARCHITECTURE DECISIONS DEFINITIONS,docs/$(name).md)
 
 # what is installed, as TARGET:SOURCE:MODE
-INSTALLED := $(foreach program,$(PROGRAMS),$(SBIN)/$(program):out/$(program):755) \
+INSTALLED := $(SBIN)/boothd:out/boothd:755 \
   $(foreach name,$(SCRIPTS) $(TOOLS),$(SBIN)/$(name):packaging/$(name):755) \
   $(foreach name,$(TOOL_MODULES),$(MODULES)/$(name).py:tools/$(name).py:644) \
   $(foreach name,$(HELPERS),$(MODULES)/$(name):packaging/$(name):755) \
@@ -80,7 +100,7 @@ INSTALLED := $(foreach program,$(PROGRAMS),$(SBIN)/$(program):out/$(program):755
   $(DOCS)/changelog:packaging/changelog:644 \
   $(foreach doc,$(filter-out $(DEVELOPER_DOCS),$(wildcard docs/*.md docs/*.svg)),$(DOCS)/$(notdir $(doc)):$(doc):644) \
   $(foreach file,$(wildcard examples/*.conf examples/*.py),$(DOCS)/examples/$(notdir $(file)):$(file):644) \
-  $(foreach file,$(wildcard examples/follow-*),$(DOCS)/examples/$(notdir $(file)):$(file):755)
+  $(foreach agent,$(AGENTS),$(OCF)/$(agent):packaging/boothd.ocf:755)
 
 install: build
 	@for each in $(INSTALLED); do \
@@ -89,11 +109,15 @@ install: build
 	  case $$target in \
 	    *.5 | *.8 | *.md) sed -i 's|/usr/share/doc/booth-proved|$(DOCS)|g; s|/usr/share/booth-proved|$(MODULES)|g' \
 	      "$(DESTDIR)$$target" || exit 1 ;; \
-	    $(SBIN)/booth-status | $(SBIN)/booth-record | $(SBIN)/booth-switchover | $(SBIN)/booth-postgresql) \
+	    $(SBIN)/booth-status | $(SBIN)/booth-record | $(SBIN)/booth-switchover | $(SBIN)/booth-postgresql | \
+    $(SBIN)/booth-setup | $(SBIN)/booth-pacemaker | $(SBIN)/booth-lease-guard) \
 	      sed -i 's|^MODULES = .*|MODULES = "$(TO_MODULES)"|' "$(DESTDIR)$$target" || exit 1 ;; \
 	    $(SBIN)/booth-service) sed -i 's|^SHARE=.*|SHARE="$(TO_MODULES)"|' "$(DESTDIR)$$target" || exit 1 ;; \
+    $(MODULES)/site-keep | $(OCF)/*) \
+      sed -i 's|@SBIN@|$(SBIN)|g; s|@SHARE@|$(MODULES)|g' "$(DESTDIR)$$target" || exit 1 ;; \
 	  esac; \
 	done
+	@for link in $(PROGRAM_LINKS); do ln -sf boothd "$(DESTDIR)$(SBIN)/$$link" || exit 1; done
 	@install -d -m 755 "$(DESTDIR)$(UNITS)"
 	@for unit in $(SERVICES); do \
 	  sed 's|@SBIN@|$(SBIN)|g; s|@SHARE@|$(MODULES)|g' packaging/$$unit > "$(DESTDIR)$(UNITS)/$$unit" && \
@@ -103,6 +127,7 @@ install: build
 uninstall:
 	@for each in $(INSTALLED); do rm -f "$(DESTDIR)$${each%%:*}"; done
 	@for unit in $(SERVICES); do rm -f "$(DESTDIR)$(UNITS)/$$unit"; done
+	@for link in $(PROGRAM_LINKS); do rm -f "$(DESTDIR)$(SBIN)/$$link"; done
 	@rmdir "$(DESTDIR)$(DOCS)/examples" "$(DESTDIR)$(DOCS)" "$(DESTDIR)$(MODULES)" 2>/dev/null || true
 
 deb: $(PACKAGE)
@@ -111,7 +136,7 @@ $(PACKAGE): build $(wildcard packaging/*)
 	@rm -rf out/deb out/booth-proved_*.deb
 	@$(MAKE) --no-print-directory install PREFIX=/usr DESTDIR=out/deb
 	@# (the code stays as it was proved: names alone go)
-	@strip $(PROGRAMS:%=out/deb/usr/sbin/%) 2>/dev/null || true
+	@strip out/deb/usr/sbin/boothd 2>/dev/null || true
 	@# (dpkg-deb takes no other modes, whatever the umask gave)
 	@install -d -m 755 out/deb/DEBIAN
 	@sed 's|@VERSION@|$(VERSION)|' packaging/control > out/deb/DEBIAN/control
@@ -122,24 +147,18 @@ $(PACKAGE): build $(wildcard packaging/*)
 	@dpkg-deb --root-owner-group --build out/deb $@
 
 out/boothd: crates/boothd/out/boothd
-out/booth: crates/booth/out/booth
-# (one program with booth, which does what the name says that it is run by)
-out/geostore: crates/booth/out/booth
-out/booth-follow: crates/booth_follow/out/booth_follow
-$(PROGRAMS:%=out/%):
 	@mkdir -p out
 	cp $< $@
+# (one file, which is the program that it is run as)
+$(PROGRAM_LINKS:%=out/%): out/boothd
+	ln -sf boothd $@
 
 # rt run proves, builds and then runs a program, here without words, which is a usage error: so the program that it leaves
 # tells whether it was proved, and not its status. rt ci leaves the programs too.
-crates/boothd/out/boothd crates/booth/out/booth crates/booth_follow/out/booth_follow: $(SOURCES)
+crates/boothd/out/boothd: $(SOURCES)
 	@$(NEEDS_RT)
 	@mkdir -p out
-	@echo "proving and building $(notdir $@), half an hour or more at first (out/build.log); make try shows something sooner"
+	@echo "proving and building $(notdir $@), half an hour or more at first (out/build.log); make try shows a cluster in three minutes"
 	@rm -f $@
 	@(cd crates/$(notdir $@) && rt run) 2>&1 </dev/null | tee out/build.log | tools/progress.sh; \
 	  test -x $@ || { tail -n 30 out/build.log; exit 1; }
-
-# one after the other
-crates/booth/out/booth: | crates/boothd/out/boothd
-crates/booth_follow/out/booth_follow: | crates/booth/out/booth

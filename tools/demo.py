@@ -1,14 +1,15 @@
 #!/usr/bin/env python3
-"""Shows the main job on loopback: three members and a service that follows its ticket, through a grant, a crash of the holder,
-a takeover, a restart of all, and a move.
+"""Shows the main job on loopback: three members and a service that follows its ticket, through a grant, a crash of
+the holder, a takeover, a restart of all, and a move.
 
-Run it as `python3 tools/demo.py`, or as `make run`, which builds the programs first. It takes a
-minute, makes its files in a folder of its own, and needs no rights but the use of port 9929.
+Run it as `python3 tools/demo.py`, or as `make run`, which builds the programs first. `make try` shows programs that
+are not proved. It takes a minute, makes its files in a folder of its own, and needs only the use of port 9929.
 """
 
 import sys
 import tempfile
 import time
+from typing import NamedTuple
 
 from following import Services
 from members import TICKET, Cluster, Times, now, run_booth, wait_for
@@ -17,7 +18,7 @@ from serving import NotServing, built_program, end_by_signals
 ADDRESSES = ("127.0.0.1", "127.0.0.2", "127.0.0.3")
 # how long the service is left to run before something happens
 SECONDS_TO_SERVE = 2
-# how long one waits for what has to come, on a machine that does much else
+# how long one waits for what must come, on a machine that does much else
 PATIENCE = 30
 
 
@@ -61,7 +62,7 @@ def restart_all(cluster, story, holder):
     story.tell("all three are back")
     require(wait_for(lambda: holder.record().until != until, PATIENCE), "the lease was not renewed")
     require(now() < until, "the lease ended meanwhile")
-    story.tell(f"{holder.address} holds {TICKET.decode()} on, and renewed its lease")
+    story.tell(f"{holder.address} still holds {TICKET.decode()}, and renewed its lease")
 
 
 def runs_at(services, story, site):
@@ -72,7 +73,7 @@ def runs_at(services, story, site):
 
 
 def tell_spells(services, story):
-    """When the service ran where, by its lines."""
+    """Prints when the service ran at which site, by its lines."""
     for spell in services.spells():
         first, last = spell.first - story.started, spell.last - story.started
         print(f"            {spell.site} wrote from {first:.2f} s to {last:.2f} s", flush=True)
@@ -83,7 +84,7 @@ def move_to(cluster, services, story, holder, target):
     """The service is stopped, the holder gives the ticket back, and the target acquires it, in one command."""
     services.kill(holder)
     require(services.run(holder, "stop") == 0, "the service does not stop")
-    story.tell(f"what follows the ticket at {holder.address} is stopped, and the service with it, as its unit does")
+    story.tell(f"the follower at {holder.address} is stopped, and the service with it, as its unit does")
     story.booth(cluster, "move", "-w", TICKET.decode(), target.address)
     require(wait_for(lambda: cluster.shown_by_all() == target.address, PATIENCE), "the move failed")
     list_all(cluster, story)
@@ -97,10 +98,10 @@ def show(cluster, services, story):
         story.tell(f"{member.role} {member.address} serves")
     started, name = now(), TICKET.decode()
     abstention = cluster.times.abstention()
-    story.tell(f"each has no record yet, and answers no round for {abstention:.3f} s after its first start")
+    story.tell(f"no member has a record yet, so each votes in no election for {abstention:.3f} s after its first start")
     for site in (one, two):
         services.follow(site)
-        story.tell(f"booth-follow has the service of {site.address} follow {name}")
+        story.tell(f"booth-follow runs the service at {site.address} only while that site holds {name}")
     time.sleep(max(0, started + abstention + 0.05 - now()))
 
     story.booth(cluster, "grant", name)
@@ -138,25 +139,38 @@ def show(cluster, services, story):
     wrong = cluster.watch.wrong
     require(not wrong, f"two members held {name} at one moment: {wrong}")
     require(cluster.watch.is_looking(), f"nobody looked on after {cluster.watch.looks} looks")
-    story.tell(f"at none of {cluster.watch.looks} moments did two members hold {name}, by their record files")
-    story.tell("no two sites' services ever overlapped, by their lines in one file:")
+    story.tell(f"{cluster.watch.looks} looks at the record files: two members never held {name} at the same time")
+    story.tell("the services of the two sites never ran at the same time, by their lines in one file:")
     tell_spells(services, story)
 
 
-def main():
-    end_by_signals()
-    program = built_program() or sys.exit("demo.py: boothd is not built: run make build")
-    client = built_program("booth") or sys.exit("demo.py: booth is not built: run make build")
-    follower = built_program("booth-follow") or sys.exit("demo.py: booth-follow is not built: run make build")
+class Programs(NamedTuple):
+    """The paths of the programs that are shown."""
+
+    daemon: str
+    client: str
+    follower: str
+
+
+def run(programs: Programs) -> None:
+    """Shows these programs, and ends this one with a message if they do not do what they should."""
     with tempfile.TemporaryDirectory(prefix="booth-demo-") as folder:
-        made = Cluster(program, folder, ADDRESSES, times=Times(expire=9), client=client)
-        with made as cluster, Services(follower, cluster) as services:
+        made = Cluster(programs.daemon, folder, ADDRESSES, times=Times(expire=9), client=programs.client)
+        with made as cluster, Services(programs.follower, cluster) as services:
             with open(cluster.conf, encoding="ascii") as file:
                 print("\n".join("    " + line for line in file.read().splitlines()), flush=True)
             try:
                 show(cluster, services, Story())
             except NotServing as why:
                 sys.exit(f"demo.py: {why}")
+
+
+def main() -> None:
+    """Shows the proved programs."""
+    end_by_signals()
+    names = ("boothd", "booth", "booth-follow")
+    paths = [built_program(name) or sys.exit(f"demo.py: {name} is not built: run make build") for name in names]
+    run(Programs(*paths))
 
 
 if __name__ == "__main__":
