@@ -3,7 +3,7 @@
 
 Run it as `python3 tests/allocations.py [TRIALS]`, TRIALS being the proved program that the gate leaves at
 crates/trials/out/trials. It runs `boothd daemon` over a host in memory that stores nothing (`trials play runs`), once
-for each allocation that the whole run makes, with that one refused. Each run has to end as tests/allocations.txt says.
+for each allocation that the whole run makes, with that one refused. Each run must end as tests/allocations.txt says.
 The status is 1 if one does not, and 77 if there is no C compiler, so that nothing was checked.
 
 The driver that plays the run allocates too, before the daemon's first allocation and behind its last one. So the table
@@ -14,13 +14,13 @@ import itertools
 import os
 import subprocess
 import sys
-import tempfile
 from typing import Dict, List, Optional, Tuple
 
 TOP = os.path.dirname(os.path.dirname(os.path.abspath(__file__)))
 sys.path.insert(0, f"{TOP}/tests")
 
 from row_driver import PROGRAM, run_line
+from scratch import scratch
 
 TABLE = f"{TOP}/tests/allocations.txt"
 NOTHING_CHECKED = 77
@@ -114,7 +114,7 @@ def built(folder: str) -> Optional[str]:
 def main(words: List[str]) -> int:
     """Makes the runs, prints their table if it is another one, and returns the status."""
     program = os.path.abspath(words[0] if words else PROGRAM)
-    with tempfile.TemporaryDirectory(prefix="booth-allocations-") as folder:
+    with scratch("booth-allocations-") as folder:
         shim = built(folder)
         if shim is None:
             print("tests/allocations.py: there is no C compiler, so nothing was checked")

@@ -14,7 +14,6 @@ import re
 import shutil
 import subprocess
 import sys
-import tempfile
 import time
 
 HERE = os.path.dirname(os.path.abspath(__file__))
@@ -22,6 +21,7 @@ TOP = os.path.dirname(HERE)
 sys.path[:0] = [HERE, f"{TOP}/tools"]
 
 from members import Cluster, Member, Times, now, remember, wait_for
+from scratch import scratch
 from serving import NotServing, built_program, end_by_signals, own_addresses
 
 RECORD = b"ticket-db8".hex() + ".rec"
@@ -365,7 +365,7 @@ def main(words):
     wrong = 0
     for check in CHECKS:
         name = check.__name__.replace("_", " ")
-        with tempfile.TemporaryDirectory(prefix="booth-devices-") as folder:
+        with scratch("booth-devices-") as folder:
             try:
                 print(f"ok: {name}: {check(folder, **programs)}", flush=True)
             except LeftOut as why:

@@ -9,7 +9,6 @@ import contextlib
 import os
 import subprocess
 import sys
-import tempfile
 import time
 from typing import Iterator, List
 
@@ -21,6 +20,7 @@ from host_lines import CHECKS as LINE_CHECKS
 from host_peers import CHECKS as PEER_CHECKS
 from real_host import FILE, Host, Wrong, first, plain, require
 from row_driver import Unplayed
+from scratch import scratch
 
 # an hour in milliseconds
 HOUR = 3_600_000
@@ -309,7 +309,7 @@ def main() -> int:
     wrong: List[str] = []
     for check in CHECKS + PEER_CHECKS + HANDLER_CHECKS + LINE_CHECKS:
         name = check.__name__.replace("_", " ")
-        with tempfile.TemporaryDirectory(prefix="booth-host-") as folder:
+        with scratch("booth-host-") as folder:
             try:
                 check(folder)
                 print(f"ok: {name}", flush=True)

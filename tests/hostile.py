@@ -24,7 +24,6 @@ import statistics
 import struct
 import subprocess
 import sys
-import tempfile
 import time
 
 HERE = os.path.dirname(os.path.abspath(__file__))
@@ -36,6 +35,7 @@ from auditing import AuditedCluster, LeftOut, Misjudged, audit, content, shown_a
 from gate import Station
 from hostile_frames import Foes
 from members import TICKET, Cluster, Times, now, wait_for
+from scratch import scratch
 from serving import NotServing, built_program, end_by_signals, own_addresses
 
 DATAGRAMS = 1_000_000
@@ -410,7 +410,7 @@ def journals_of_a_flood(program, folder, own):
 
 
 def journals_pass(program):
-    with tempfile.TemporaryDirectory(prefix="booth-hostile-") as folder:
+    with scratch("booth-hostile-") as folder:
         try:
             told = journals_of_a_flood(program, folder, own_addresses())
         except LeftOut as why:
@@ -426,7 +426,7 @@ def journals_pass(program):
 def run(program, count):
     """Runs the checks over one cluster. Says whether all passed."""
     started, own, passed = time.monotonic(), own_addresses(), []
-    with tempfile.TemporaryDirectory(prefix="booth-hostile-") as folder:
+    with scratch("booth-hostile-") as folder:
         with Cluster(program, folder, [next(own) for _ in range(3)], times=TIMES, key=KEY) as cluster:
             scene = Scene(cluster, count)
             try:

@@ -2,7 +2,7 @@
 """Has daemons write journals, ends one at any moment, and puts other things in the place of the file.
 
 Run it as `python3 tests/journal.py [BOOTHD]`, by default what `make build` leaves. It takes a minute at most, prints a
-line for each check, ends all that it started, and has the status 1 where a check failed. Where boothd is not built it
+line for each check, ends all that it started, and has the status 1 if a check failed. If boothd is not built it
 checks nothing, with status 0. What this machine has no program for is left out with a line.
 
 The lines are read by tools/journal_file.py, and the records by tools/record_file.py: neither asks the daemon.
@@ -20,7 +20,6 @@ import stat
 import struct
 import subprocess
 import sys
-import tempfile
 import threading
 import time
 
@@ -31,15 +30,16 @@ import frames
 import journal_file
 import record_file
 from members import TICKET, Cluster, Times, wait_for
+from scratch import scratch
 from serving import NotServing, built_program, end_by_signals, own_addresses
 
 TIMES = Times()
 LOST = "is not written any more"
-# how large a file of the daemon may get where the disk is full
+# how large a file of the daemon may get if the disk is full
 ROOM = 8192
 # kills inside keeps, each of which takes as long as this at least, and so long after a start at most
 KILLS, SLOW_MS, LATEST = 60, 8, 0.25
-# of so many kills one at least has to come within a keep
+# of so many kills one at least must come within a keep
 KILLS_OF_ONE_CUT = 20
 SEED = 9929
 SLOW = """
@@ -58,7 +58,7 @@ int fdatasync(int file)
 
 
 class Wrong(Exception):
-    """The journal is not what it has to be."""
+    """The journal is not what it must be."""
 
 
 class LeftOut(Exception):
@@ -331,7 +331,7 @@ def main(words):
     wrong = 0
     for check in CHECKS:
         name = check.__name__.replace("_", " ")
-        with tempfile.TemporaryDirectory(prefix="booth-journal-") as folder:
+        with scratch("booth-journal-") as folder:
             try:
                 print(f"ok: {name}: {check(folder, boothd)}", flush=True)
             except LeftOut as why:

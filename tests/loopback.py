@@ -1,19 +1,18 @@
 #!/usr/bin/env python3
 """Holds the proved boothd to docs/PROTOCOL.md over loopback, comparing replies byte for byte.
 
-Run it as `python3 tests/loopback.py [PROGRAM [WORD]]`, PROGRAM being what `make build` leaves where
+Run it as `python3 tests/loopback.py [PROGRAM [WORD]]`, PROGRAM being what `make build` leaves if
 it is left out; with WORD only the checks with it in their sentences run. It prints a line for each
-check, ends all that it started, and has the status 1 where a check failed. Where boothd is not
+check, ends all that it started, and has the status 1 if a check failed. If boothd is not
 built it checks nothing, with status 0. Its daemons have locks and directories of their own.
 
-The checks stand in replies.py and refusals.py. What they expect is written by hand or computed by
+The checks stand in replies.py and refusals.py. What they expect is written manually or computed by
 Python's standard library, and never the program's own output.
 """
 
 import os
 import subprocess
 import sys
-import tempfile
 import time
 
 HERE = os.path.dirname(os.path.abspath(__file__))
@@ -22,6 +21,7 @@ sys.path[:0] = [HERE, f"{HERE}/../tools"]
 import refusals
 import replies
 from room import Room, Wrong, checks
+from scratch import scratch
 from serving import built_program, end_by_signals, turn
 
 
@@ -40,7 +40,7 @@ def run(program, word):
     """Runs the checks that have this word in their sentences. Says how many failed."""
     chosen = [check for check in checks if word in check.__doc__]
     started = time.monotonic()
-    with tempfile.TemporaryDirectory(prefix="booth-loopback-") as folder:
+    with scratch("booth-loopback-") as folder:
         room = Room(os.path.abspath(program), folder)
         passed = sum([passes(check, room) for check in chosen])
     failed, took = len(chosen) - passed, time.monotonic() - started

@@ -2,10 +2,10 @@
 """Holds boothd and booth-follow to what systemd reads of them: lines with priorities, and notifications.
 
 Run it as `python3 tests/manager.py [BOOTHD BOOTH-FOLLOW]`, which are what `make build` leaves where they are left out.
-It takes some ten seconds, prints a line for each check, ends all that it started, and has the status 1 where a check
-failed. Where a program is not built it checks nothing, with status 0.
+It takes some ten seconds, prints a line for each check, ends all that it started, and has the status 1 if a check
+failed. If a program is not built it checks nothing, with status 0.
 
-Nobody listens where booth-follow asks a daemon: it runs its program with the first word, and goes on.
+Nobody listens if booth-follow asks a daemon: it runs its program with the first word, and goes on.
 """
 
 import contextlib
@@ -13,7 +13,6 @@ import os
 import signal
 import subprocess
 import sys
-import tempfile
 import time
 from typing import Callable, Dict, IO, Iterator, List, Optional, Tuple
 
@@ -24,6 +23,7 @@ from follow import NAME, TIMES, keep_clock
 from host_handlers import content, write_script
 from host_lines import Manager, manager, surroundings
 from members import Cluster
+from scratch import scratch
 from serving import built_program, end_by_signals, own_addresses
 from stories import PATIENCE, Wrong, passed, require
 
@@ -90,11 +90,12 @@ def daemon_lines(programs: Tuple[str, str], place: Place) -> None:
 
 def daemon_failures(programs: Tuple[str, str], place: Place) -> None:
     """a daemon that does not start says why with the priority of a failure"""
-    for words, text in ((["-s", "1.2.3"], "bad site"), (["-s", "127.0.0.9"], "127.0.0.9 is not a member")):
+    refusals = {"1.2.3": "bad site\n<3>-s ", "127.0.0.9": "127.0.0.9 is not a member\n<3>members of "}
+    for address, text in refusals.items():
         lock = ["-l", f"{place.folder}/lock"]
-        with place.running([programs[0], "daemon", "-c", place.conf, *lock, *words], True) as process:
+        with place.running([programs[0], "daemon", "-c", place.conf, *lock, "-s", address], True) as process:
             require(process.wait(PATIENCE) == 1, "another status")
-        require(content(place.errors) == f"<3>{text}\n", content(place.errors))
+        require(content(place.errors).startswith(f"<3>{text}"), content(place.errors))
 
 
 def told_until(systemd: Manager, text: str) -> List[str]:
@@ -175,7 +176,7 @@ def run(programs: Tuple[str, str]) -> int:
     failed = 0
     addresses = own_addresses()
     for check in CHECKS:
-        with tempfile.TemporaryDirectory(prefix="booth-manager-") as folder:
+        with scratch("booth-manager-") as folder:
             with Cluster("", folder, [next(addresses) for _ in range(3)], times=TIMES) as cluster:
                 place = Place(folder, cluster.conf, cluster.members[0].address)
                 try:

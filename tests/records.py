@@ -15,12 +15,12 @@ import resource
 import signal
 import subprocess
 import sys
-import tempfile
 import time
 
 TOP = os.path.dirname(os.path.dirname(os.path.abspath(__file__)))
-sys.path.insert(0, f"{TOP}/tools")
+sys.path[:0] = [f"{TOP}/tests", f"{TOP}/tools"]
 
+from scratch import scratch
 from serving import end_by_signals
 
 PROGRAM = f"{TOP}/crates/trials/out/trials"
@@ -214,7 +214,7 @@ def main(words):
         print(f"tests/records.py: {program} is not built, so nothing was checked")
         return NOTHING_CHECKED
     wrong = 0
-    with tempfile.TemporaryDirectory(prefix="booth-records-") as folder:
+    with scratch("booth-records-") as folder:
         for check in CHECKS:
             name = check.__name__.replace("_", " ")
             try:

@@ -13,7 +13,6 @@ import re
 import signal
 import subprocess
 import sys
-import tempfile
 import time
 from typing import List
 
@@ -21,6 +20,7 @@ HERE = os.path.dirname(os.path.abspath(__file__))
 sys.path[:0] = [HERE, f"{HERE}/../tools"]
 
 import service_around
+from scratch import scratch
 from service_room import ENDS, KILL, LEFT, PACKAGING, SLACK, TICKET, UNIT, Room, Story, same, since_boot, stories, story
 from shells import Wrong, need
 
@@ -469,7 +469,7 @@ def the_switch_kills(room: Room) -> None:
 
 def outcome(told: Story) -> bool:
     """Whether a story passes, in a room of its own."""
-    with tempfile.TemporaryDirectory(prefix="booth-words-") as folder:
+    with scratch("booth-words-") as folder:
         begun = time.monotonic()
         try:
             told(Room(folder))

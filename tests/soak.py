@@ -3,7 +3,7 @@
 
 Run it as `python3 tests/soak.py [TAKEOVERS [CLUSTERS [SEED]]] [BOOTHD BOOTH BOOTH-FOLLOW]`, by default 200 takeovers
 in 8 clusters side by side, of the programs that `make build` leaves. It takes some ten minutes, in which it mostly
-sleeps, and is not in the gate. It prints a line for each fault, ends all that it started, and has the status 1 where
+sleeps, and is not in the gate. It prints a line for each fault, ends all that it started, and has the status 1 if
 two services overlapped, or one ran past its lease's end.
 
 The services of both sites write a line with its time into one file, ten times a second. A fault has two parts, which
@@ -16,7 +16,6 @@ import os
 import random
 import signal
 import sys
-import tempfile
 import threading
 import time
 from typing import NamedTuple
@@ -29,6 +28,7 @@ from cut_ways import cut
 from follow import begun
 from following import Services
 from members import Cluster, Times, now, wait_for
+from scratch import scratch
 from serving import built_program, end_by_signals, own_addresses
 from stories import PATIENCE, require
 
@@ -170,7 +170,7 @@ def soaked(place, count, seed, programs):
     """So many takeovers of one cluster, and what was wrong, if anything was."""
     done, draw = [], random.Random(seed * 1_000 + place)
     try:
-        with tempfile.TemporaryDirectory(prefix="booth-soak-") as folder, contextlib.ExitStack() as stack:
+        with scratch("booth-soak-") as folder, contextlib.ExitStack() as stack:
             made = Cluster(programs[0], folder, own_addresses(), times=TIMES, client=programs[1])
             cluster = stack.enter_context(made)
             services = stack.enter_context(Services(programs[2], cluster))

@@ -10,7 +10,6 @@ import os
 import signal
 import subprocess
 import sys
-import tempfile
 import time
 
 HERE = os.path.dirname(os.path.abspath(__file__))
@@ -23,6 +22,7 @@ import look_stories
 import record_stories
 import service_stories
 import way_stories
+from scratch import scratch
 from serving import NotServing, built_program, end_by_signals
 from status_runs import Wrong, in_time, stories
 
@@ -58,7 +58,7 @@ def alone(story):
     """A story in a folder of its own. What it looks at it arranges itself, so on a busy machine it is told again."""
 
     def once():
-        with tempfile.TemporaryDirectory(prefix="booth-status-") as folder:
+        with scratch("booth-status-") as folder:
             return story(folder)
 
     return in_time(once)
@@ -71,7 +71,7 @@ def run(program):
     if program is None:
         print("status: boothd is not built (make build), so no real cluster is looked at")
     else:
-        with tempfile.TemporaryDirectory(prefix="booth-status-") as folder:
+        with scratch("booth-status-") as folder:
             outcomes += [passes(story, call) for story, call in cluster_looks.looks(program, folder)]
     failed = outcomes.count(False)
     print(f"status: {len(outcomes) - failed} passed, {failed} failed, in {time.monotonic() - started:.1f} s")

@@ -1,0 +1,20 @@
+"""The folder in which a test runs its programs.
+
+It is imported by the programs in tests/, and not run by itself.
+"""
+
+import contextlib
+import shutil
+import tempfile
+from typing import Iterator
+
+
+@contextlib.contextmanager
+def scratch(prefix: str) -> Iterator[str]:
+    """A new folder that is removed at the end. A program that is still running may write into it then: what it leaves
+    fails no test."""
+    folder = tempfile.mkdtemp(prefix=prefix)
+    try:
+        yield folder
+    finally:
+        shutil.rmtree(folder, ignore_errors=True)
