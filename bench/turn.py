@@ -1,31 +1,45 @@
 #!/usr/bin/env python3
-"""Counts the instructions of a turn in which nothing is due, at 1, 64 and 4,096 tickets.
+"""Counts the instructions of a turn in which nothing is due, at 1, 64 and 4,096 tickets, and of one in which all are.
 
-Run it as `python3 bench/turn.py [PROGRAM]`, PROGRAM being what `make build` leaves where it is left out. It needs
-valgrind, whose callgrind counts the daemon's own instructions, and takes a minute. Each turn drops an empty datagram; a
-request for the list of members after every 50 waits until they are read. A value is what 10,000 such turns more cost.
-The status is 1 where more tickets cost more than one by a fifth.
+Run it as `python3 bench/turn.py [PROGRAM]`, PROGRAM being what `make build` leaves if it is left out. It needs
+valgrind, whose callgrind counts the daemon's own instructions, and takes some minutes. In a turn in which nothing is
+due an empty datagram is dropped; a request for the list of members after every 50 waits until they are read. A value
+is what 10,000 such turns more cost. A turn in which all tickets are due is the first one of a site whose records have
+a lease of each: it asks for all of them again. Its instructions are those of three functions of booth_node: the search
+for the tickets that are due (`deadlines::drain`, with the timer's walk), what each does then, and its next deadline.
+At last it measures the processor time of a start. The status is 1 if a mark is missed by more than a tenth.
 """
 
 import os
 import re
 import signal
 import socket
+import statistics
 import subprocess
 import sys
 import tempfile
 import time
+from typing import Iterator, List, NamedTuple
 
 HERE = os.path.dirname(os.path.abspath(__file__))
 sys.path[:0] = [HERE, f"{HERE}/../tools"]
 
 import frames
+import record_file
+from backlog import lease_record
+from members import path_in
 from rows import Row, below, print_table
 from serving import NotServing, built_program, end_by_signals, own_addresses
 from texts import MEMBERS
 
 FEW, MANY, EACH = 1_000, 11_000, 50
 TICKETS = (1, 64, 4_096)
+DUE = (64, 1_024, 4_096)
+# the functions of a turn in which tickets are due, as the program names them, the search first
+WORK = ("booth_node::deadlines::drain", "booth_node::tickets::TicketTable::act", "booth_node::deadlines::set_deadline")
+STARTS = 5
+# (under callgrind a start whose thousands of tickets are due takes minutes)
+SECONDS_TO_COUNT, SECONDS_OF_LEASE = 400, 500
 # (under callgrind a start with thousands of tickets takes long)
 SECONDS_TO_START = 120
 
@@ -82,20 +96,95 @@ def a_turn(program, tickets):
     return more / (MANY - FEW)
 
 
+class Counted(NamedTuple):
+    """The instructions for the tickets that are due in a turn, and those of the search for them."""
+
+    total: int
+    search: int
+
+
+def names(count: int) -> List[bytes]:
+    """Returns the names of so many tickets."""
+    return [b"ticket-%04d" % number for number in range(count)]
+
+
+def words_of(program: str, folder: str, tickets: int, record: bytes) -> List[str]:
+    """Returns the command of a daemon that makes one turn, with a record of each ticket."""
+    address, conf = next(ADDRESSES), os.path.join(folder, "booth.conf")
+    with open(conf, "wb") as file:
+        file.write(MEMBERS.replace(b"@", address.encode()))
+        file.writelines(b'ticket = "%s"\n' % name for name in names(tickets))
+    for name in names(tickets):
+        with open(path_in(folder, name), "wb") as file:
+            file.write(record)
+    words = [program, "daemon", "-c", conf, "-s", address, "-l", f"{folder}/lock", "-d", folder]
+    return [*words, "-n", "1"]
+
+
+def counted_turn(program: str, tickets: int) -> Counted:
+    """Counts the first turn of a site whose records have a lease of each ticket."""
+    with tempfile.TemporaryDirectory(prefix="booth-bench-") as folder:
+        words = words_of(program, folder, tickets, lease_record(time.time() + SECONDS_OF_LEASE))
+        counting = ["valgrind", "--tool=callgrind", f"--callgrind-out-file={folder}/callgrind.out", *words]
+        ran = subprocess.run(counting, capture_output=True, text=True, timeout=SECONDS_TO_COUNT, check=False)
+        if ran.returncode != 0:
+            raise NotServing(f"status {ran.returncode}: {ran.stderr}")
+        annotate = ["callgrind_annotate", "--inclusive=yes", "--threshold=100", f"{folder}/callgrind.out"]
+        shown = subprocess.run(annotate, capture_output=True, text=True, check=True).stdout
+    found = [re.search(rf"([\d,]+) \(.*{name}", shown) for name in WORK]
+    if None in found:
+        raise NotServing(f"the program has none of these functions: {', '.join(WORK)}")
+    counts = [int(each[1].replace(",", "")) for each in found]
+    return Counted(sum(counts), counts[0])
+
+
+def due_rows(program: str) -> Iterator[Row]:
+    """Measures a turn in which all tickets are due."""
+    turns = [counted_turn(program, tickets) for tickets in DUE]
+    counts = "; ".join(f"{tickets:,}" for tickets in DUE)
+    yield Row(f"instructions of a turn in which {counts} are due", "; ".join(f"{turn.total:,}" for turn in turns))
+    parts = "; ".join(f"{turn.search / turn.total * 100:.0f} %" for turn in turns)
+    yield Row("the search for what is due, as a part of it", parts)
+    ratio = turns[-1].total / turns[0].total
+    yield below(f"{DUE[-1]:,} due to {DUE[0]}", ratio, f"{ratio:.0f}", 80, "times")
+
+
+def start_rows(program: str) -> Iterator[Row]:
+    """Measures the processor time of a start."""
+    for tickets in DUE:
+        took = []
+        for _ in range(STARTS):
+            with tempfile.TemporaryDirectory(prefix="booth-bench-") as folder:
+                words = words_of(program, folder, tickets, record_file.NOTHING_PLEDGED)
+                process = subprocess.Popen(words, stdout=subprocess.DEVNULL, stderr=subprocess.DEVNULL)
+                _, status, used = os.wait4(process.pid, 0)
+                if status != 0:
+                    raise NotServing(f"the program ended with status {status}")
+                took.append((used.ru_utime + used.ru_stime) * 1000)
+        shown = f"{statistics.median(took):.1f} ms (lowest: {min(took):.1f})"
+        name = f"processor time of a start, {tickets:,} tickets"
+        yield below(name, statistics.median(took), shown, 80, "ms") if tickets == DUE[-1] else Row(name, shown)
+
+
+def quiet_rows(program: str) -> Iterator[Row]:
+    """Measures a turn in which nothing is due."""
+    counted = [a_turn(program, tickets) for tickets in TICKETS]
+    yield Row("instructions of a turn, 1; 64; 4,096 tickets", "; ".join(f"{count:,.0f}" for count in counted))
+    for tickets, count in zip(TICKETS[1:], counted[1:]):
+        ratio = count / counted[0]
+        yield below(f"{tickets:,} tickets to 1", ratio, f"{ratio:.3f}", 1.1, "")
+
+
 def main(words):
     end_by_signals()
     program = words[0] if words else built_program()
     if program is None:
         sys.exit("turn.py: boothd is not built: run make build")
+    program = os.path.abspath(program)
     try:
-        counted = [a_turn(os.path.abspath(program), tickets) for tickets in TICKETS]
+        return print_table([*quiet_rows(program), *due_rows(program), *start_rows(program)])
     except (NotServing, OSError, subprocess.SubprocessError) as why:
         sys.exit(f"turn.py: {why}")
-    rows = [Row("instructions of a turn, 1; 64; 4,096 tickets", "; ".join(f"{count:,.0f}" for count in counted))]
-    for tickets, count in zip(TICKETS[1:], counted[1:]):
-        ratio = count / counted[0]
-        rows.append(below(f"{tickets:,} tickets to 1", ratio, f"{ratio:.3f}", 1.1, ""))
-    return print_table(rows)
 
 
 if __name__ == "__main__":
