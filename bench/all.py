@@ -3,7 +3,7 @@
 
 Run it as `python3 bench/all.py [--write] [NAME..]` on a machine that does nothing else, over what `make build` and the
 gate leave; NAME is that of a bench, as `links`, and without one all are run, in some 15 minutes. With --write the table
-takes the place of the one in bench/README.md. The status is 1 where a mark is missed by more than a tenth, or a bench
+takes the place of the one in bench/README.md. The status is 1 if a mark is missed by more than a tenth, or a bench
 failed.
 """
 

@@ -1,7 +1,7 @@
 #!/usr/bin/env python3
 """Measures what a burst of answers loses at a proved boothd whose sockets have the room of Linux's defaults.
 
-Run it as `python3 bench/backlog.py [BOOTHD [WITHOUT [TICKETS]]]`, BOOTHD being what `make build` leaves where it is
+Run it as `python3 bench/backlog.py [BOOTHD [WITHOUT [TICKETS]]]`, BOOTHD being what `make build` leaves if it is
 left out, and WITHOUT a boothd whose host has no backlog: one in which `Socket::drain` of crates/booth_real takes
 nothing. It prints one table, and takes half a minute for each program.
 
@@ -31,7 +31,7 @@ from thousands import names
 
 TICKETS = 4_096
 TIMES = Times(expire=600, timeout=5, retries=10, renewal=300)
-# net.core.rmem_max, where nobody changed it
+# net.core.rmem_max, if nobody changed it
 ROOM = 212_992
 # how long the renewal of all may take, on a slow disk
 PATIENCE = 300

@@ -28,7 +28,7 @@ from serving import NotServing, built_program, end_by_signals, own_addresses
 TRIES = 20
 # as many clients as may wait, each for a ticket of its own
 MANY = tuple(b"ticket-%02d" % number for number in range(64))
-# how long the clients have to come before the members that were stopped go on, in seconds
+# how long the clients must come before the members that were stopped go on, in seconds
 SECONDS_TO_COME = 1.5
 # as many attributes as a member has room for, of eight tickets, as one ticket has
 NAMES, TICKETS = 64, 8

@@ -1,8 +1,8 @@
 #!/usr/bin/env python3
 """Measures what a journal costs a proved boothd on loopback, and what an audit of a million lines takes.
 
-Run it as `python3 bench/journals.py [PROGRAM]`, PROGRAM being what `make build` leaves where it is left out. It prints
-one table, has the status 1 where a mark is missed by more than a tenth, and takes half a minute. The turns with and
+Run it as `python3 bench/journals.py [PROGRAM]`, PROGRAM being what `make build` leaves if it is left out. It prints
+one table, has the status 1 if a mark is missed by more than a tenth, and takes half a minute. The turns with and
 without a journal are taken in rounds by turns, so that other work on the machine spoils both alike.
 """
 

@@ -1,8 +1,8 @@
 #!/usr/bin/env python3
 """Measures lists over TCP at a proved boothd on loopback, on one open link and on sixteen, beside UDP in the same run.
 
-Run it as `python3 bench/links.py [BOOTHD [BEFORE]]`, BOOTHD being what `make build` leaves where it is left out. It prints one
-table in some seconds, and has the status 1 where a mark is missed by more than a tenth. With BEFORE, a boothd that serves no
+Run it as `python3 bench/links.py [BOOTHD [BEFORE]]`, BOOTHD being what `make build` leaves if it is left out. It prints one
+table in some seconds, and has the status 1 if a mark is missed by more than a tenth. With BEFORE, a boothd that serves no
 links, it also counts the instructions of a turn of both, as bench/turn.py does, which needs valgrind and a minute.
 """
 
@@ -27,7 +27,7 @@ from texts import one_ticket
 from turn import a_turn
 
 LINKS, ROUNDS, LISTS = 16, 20, 500
-# how many of a thousand have to come in time, which is less than the wait of a turn
+# how many of a thousand must come in time, which is less than the wait of a turn
 MOST, OF, MILLIS = 999, 1000, 5
 
 

@@ -28,7 +28,7 @@ from serving import NotServing, built_program, end_by_signals, own_addresses
 TRIES = 40
 # nobody holds for so long at most, in milliseconds
 MARK = 50
-# how long the old holder and the new one are looked at, in seconds, where a move does not end
+# how long the old holder and the new one are looked at, in seconds, if a move does not end
 SECONDS_OF_A_LOOK = 20
 
 ADDRESSES = own_addresses()

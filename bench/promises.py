@@ -2,7 +2,7 @@
 """Measures what kept promises cost: keeps of an election and a renewal, votes a second, and a voter's restart.
 
 Run it as `python3 bench/promises.py [BOOTHD TRIALS]`, the programs being what `make build` and rt leave where they are
-left out. It prints one table, has the status 1 where a mark is missed by more than a tenth, and takes two minutes. All
+left out. It prints one table, has the status 1 if a mark is missed by more than a tenth, and takes two minutes. All
 of it is on one disk, in the folder for temporary files: what else writes to that spoils it. A voter is asked by a site
 that is none: this program has its address.
 """

@@ -1,8 +1,8 @@
 #!/usr/bin/env python3
 """Measures keeps of the real host beside a bare loop in C, and a start with many record files.
 
-Run it as `python3 bench/records.py [TRIALS [BOOTHD]]`, the programs being what rt and `make build` leave where
-they are left out; without boothd nothing is said of starts. It prints one table, and has the status 1 where a
+Run it as `python3 bench/records.py [TRIALS [BOOTHD]]`, the programs being what rt and `make build` leave if
+they are left out; without boothd nothing is said of starts. It prints one table, and has the status 1 if a
 mark is missed by more than a tenth. Host and loop take turns on one disk, in the folder for temporary files,
 and a speed is that of the best round: what else writes to the disk spoils most of them.
 """

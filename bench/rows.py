@@ -17,7 +17,7 @@ class Row(NamedTuple):
     name: str
     value: str
     mark: str = ""
-    # the value over the mark, or the mark over the value where it is to be reached: at most 1
+    # the value over the mark, or the mark over the value if it is to be reached: at most 1
     part: Optional[float] = None
 
     def met(self):
@@ -48,7 +48,7 @@ def noted(row):
 
 
 def told(rows):
-    """Prints each row as it comes. Gives the status: 1 where a mark is missed by more than a tenth."""
+    """Prints each row as it comes. Gives the status: 1 if a mark is missed by more than a tenth."""
     status = 0
     for row in map(noted, rows):
         words = [word.ljust(width) for word, width in zip(row[:3], WIDTHS)]

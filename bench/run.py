@@ -1,8 +1,8 @@
 #!/usr/bin/env python3
 """Measures the proved boothd on loopback, beside a bare echo and a counter of lines in C.
 
-Run it as `python3 bench/run.py [--quick] [PROGRAM]`, PROGRAM being what `make build` leaves where
-it is left out. It prints one table, and has the status 1 where a mark is missed by more than a
+Run it as `python3 bench/run.py [--quick] [PROGRAM]`, PROGRAM being what `make build` leaves if
+it is left out. It prints one table, and has the status 1 if a mark is missed by more than a
 tenth. It builds four programs in C with cc, needs Linux's /proc, and takes half a minute;
 --quick takes some seconds. A speed is that of the best of many short rounds, since other work on
 the machine spoils some of them; for the same reason the lowest start may tell more than the median.

@@ -1,8 +1,8 @@
 #!/usr/bin/env python3
 """Measures sealed frames of members, by either hash, beside OpenSSL's HMAC of the same bytes.
 
-Run it as `python3 bench/seals.py [--quick] [PROGRAM]`, PROGRAM being what `make build` leaves where it is left out. It
-prints one table, and has the status 1 where a mark is missed by more than a tenth. It builds two programs in C with cc,
+Run it as `python3 bench/seals.py [--quick] [PROGRAM]`, PROGRAM being what `make build` leaves if it is left out. It
+prints one table, and has the status 1 if a mark is missed by more than a tenth. It builds two programs in C with cc,
 one of them over OpenSSL's headers and libcrypto. The daemon gets the frames over loopback, counts each and answers
 none. A loop in C receives the same frames and makes the MAC of each with OpenSSL; and OpenSSL makes their MACs alone,
 without a socket. A speed is that of the best of many short rounds, which take turns.

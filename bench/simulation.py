@@ -3,7 +3,7 @@
 
 Run it as `python3 bench/simulation.py [PROGRAM]`, PROGRAM being the built boothd (out/boothd). It prints one table and takes half
 a minute. Both programs run in turns; a value is the processor's time of the best round, less that of a run of no events. Its
-status is 1 where a mark is missed by more than a tenth.
+status is 1 if a mark is missed by more than a tenth.
 """
 
 import os

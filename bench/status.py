@@ -1,8 +1,8 @@
 #!/usr/bin/env python3
 """Measures booth-status over three proved boothd on loopback that hold 64 tickets, from exec to exit.
 
-Run it as `python3 bench/status.py [BOOTHD]`, BOOTHD being what `make build` leaves where it is left out. It prints
-one table, has the status 1 where the mark is missed by more than a tenth, and takes half a minute.
+Run it as `python3 bench/status.py [BOOTHD]`, BOOTHD being what `make build` leaves if it is left out. It prints
+one table, has the status 1 if the mark is missed by more than a tenth, and takes half a minute.
 """
 
 import itertools
@@ -31,7 +31,7 @@ FORMS = (("the table", []), ("--brief", ["-b"]), ("--json", ["-j"]), ("--metrics
 
 
 def millis_of(words):
-    """How long a run takes, which has to find that all is well."""
+    """How long a run takes, which must find that all is well."""
     started = time.perf_counter()
     done = subprocess.run(words, stdin=subprocess.DEVNULL, stdout=subprocess.PIPE, check=False)
     took = time.perf_counter() - started

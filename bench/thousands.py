@@ -1,8 +1,8 @@
 #!/usr/bin/env python3
 """Measures three proved boothd on loopback with 4,096 tickets: starts, memory, lists, renewals, a takeover of all.
 
-Run it as `python3 bench/thousands.py [BOOTHD BOOTH [TICKETS]]`, the programs being what `make build` leaves where they
-are left out. It prints one table, has the status 1 where a mark is missed by more than a tenth, and takes four minutes.
+Run it as `python3 bench/thousands.py [BOOTHD BOOTH [TICKETS]]`, the programs being what `make build` leaves if they
+are left out. It prints one table, has the status 1 if a mark is missed by more than a tenth, and takes four minutes.
 The members share this machine and its disk with each other and with what else it does.
 
 What the system drops at a member's socket is counted, so a boothd whose host has no backlog can be measured beside.

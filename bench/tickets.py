@@ -1,8 +1,8 @@
 #!/usr/bin/env python3
 """Measures a cluster of three proved boothd on loopback: grants, renewals, idle time, takeovers.
 
-Run it as `python3 bench/tickets.py [PROGRAM]`, PROGRAM being what `make build` leaves where it is left
-out. It prints one table, has the status 1 where a mark is missed by more than a tenth, and takes two
+Run it as `python3 bench/tickets.py [PROGRAM]`, PROGRAM being what `make build` leaves if it is left
+out. It prints one table, has the status 1 if a mark is missed by more than a tenth, and takes two
 minutes. The members share this machine and its disk with each other and with what else it does.
 """
 

@@ -1,4 +1,5 @@
-# Completion in bash for boothd, booth, geostore, booth-follow, booth-status, booth-record, booth-service and booth-switchover.
+# Completion in bash for boothd, booth, geostore, booth-follow, booth-status, booth-record, booth-service, booth-setup,
+# booth-switchover, booth-pacemaker and booth-lease-guard.
 
 # the file that -c names on this command line
 _booth_conf() {
@@ -114,6 +115,30 @@ _booth_offer_service() {
   fi
 }
 
+# What is offered for a word of booth-setup: a command, its options, and the bundle of a join.
+_booth_offer_setup() {
+  local word=${words[cword]} before=${words[cword - 1]} options
+  options=$'--postgresql\n--keep-records\n--root\n-n\n--dry-run\n-h\n--help\n-V\n--version'
+  if [[ ${words[1]} == init ]]; then
+    options=$'--site\n--arbitrator\n--ticket\n--expire\n--acquire-after\n--timeout\n--retries\n--renewal-freq\n--port\n--name\n'
+    options+=$'--address\n--bundle\n--hand-over\n--no-journal\n--restart\n--synchronous\n--allow-basebackup\n'
+    options+=$'--postgresql\n--keep-records\n--root\n-n\n--dry-run\n-h\n--help\n-V\n--version'
+  fi
+  case $before in
+    --bundle) _booth_files -f -- "$word"; return ;;
+    --root) _booth_files -d -- "$word"; return ;;
+    --site | --arbitrator | --ticket | --name | --address | --postgresql | --port | --expire | --acquire-after | --timeout) return ;;
+    --retries | --renewal-freq) return ;;
+  esac
+  if ((cword == 1)) && [[ $word != -* ]]; then
+    _booth_reply $'init\njoin' "$word"
+  elif [[ $word == -* ]]; then
+    _booth_reply "$options" "$word"
+  elif ((cword == 2)) && [[ ${words[1]} == join ]]; then
+    _booth_files -f -- "$word"
+  fi
+}
+
 # What is offered for a word of booth-switchover: a ticket, and behind it a site.
 _booth_offer_switchover() {
   local i plain=0 word=${words[cword]} before=${words[cword - 1]}
@@ -137,6 +162,50 @@ _booth_offer_switchover() {
     0) _booth_reply "$(_booth_values ticket)" "$word" ;;
     1) _booth_reply "$(_booth_values site)" "$word" ;;
   esac
+}
+
+# What is offered for a word of booth-pacemaker: a command, and behind it a ticket and resources of the cluster.
+_booth_offer_pacemaker() {
+  local i plain=0 word=${words[cword]} before=${words[cword - 1]} options=$'-c\n--conf\n-n\n--dry-run\n'
+  case $before in
+    -c | --conf) _booth_configurations "$word"; return ;;
+    --records) _booth_files -d -- "$word"; return ;;
+    --margin | --stop | --address) return ;;
+    --with) _booth_reply "$(_booth_resources)" "$word"; return ;;
+  esac
+  if [[ $word == -* ]]; then
+    [[ ${words[1]} == setup ]] && options+=$'--margin\n--stop\n--agent\n--address\n--records\n--with\n--shared\n'
+    [[ ${words[1]} == remove ]] && options+=$'--all\n'
+    _booth_reply "$options"$'-h\n--help\n-V\n--version' "$word"
+    return
+  fi
+  for ((i = 1; i < cword; i++)); do
+    case ${words[i]} in
+      -c | --conf | --records | --margin | --stop | --address | --with) ((i++)) ;;
+      -*) ;;
+      *) ((plain++)) ;;
+    esac
+  done
+  case $plain in
+    0) _booth_reply $'setup\ncheck\nremove' "$word" ;;
+    1) _booth_reply "$(_booth_values ticket)" "$word" ;;
+    *) [[ ${words[1]} == setup ]] && _booth_reply "$(_booth_resources)" "$word" ;;
+  esac
+}
+
+# the resources of this node's cluster
+_booth_resources() {
+  timeout -s KILL 3 crm_resource --list-raw 2>/dev/null
+}
+
+# What is offered for a word of booth-lease-guard.
+_booth_offer_guard() {
+  local word=${words[cword]}
+  if [[ ${words[cword - 1]} == --cib ]]; then
+    _booth_files -f -- "$word"
+  else
+    _booth_reply $'--cib\n--look\n-h\n--help\n-V\n--version' "$word"
+  fi
 }
 
 # What the next word of a move is, by the words between its command and the cursor.
@@ -169,11 +238,11 @@ _booth_offer() {
     boothd:status) options=$'-l\n--help\n--version' ;;
     boothd:sim) options=$'-c\n-e\n-r\n--help\n--version' ;;
     boothd:audit) options=$'-c\n--help\n--version' ;;
-    geostore:*) options=$'-c\n-s\n-t\n--help\n--version' ;;
-    booth:grant) options=$'-c\n-s\n-w\n-C\n-F\n--help\n--version' ;;
-    booth:revoke) options=$'-c\n-s\n-w\n--help\n--version' ;;
-    booth:move) options=$'-c\n-s\n-w\n-f\n--force\n--help\n--version' ;;
-    *) options=$'-c\n-s\n--help\n--version' ;;
+    geostore:*) options=$'-c\n-s\n-t\n--tcp\n--udp\n--help\n--version' ;;
+    booth:grant) options=$'-c\n-s\n-w\n-C\n-F\n--tcp\n--udp\n--help\n--version' ;;
+    booth:revoke) options=$'-c\n-s\n-w\n--tcp\n--udp\n--help\n--version' ;;
+    booth:move) options=$'-c\n-s\n-w\n-f\n--force\n--tcp\n--udp\n--help\n--version' ;;
+    *) options=$'-c\n-s\n--tcp\n--udp\n--help\n--version' ;;
   esac
   if ((cword == 1)); then
     _booth_reply "$commands" "$word"
@@ -209,7 +278,10 @@ _booth_complete() {
     booth-status | booth-record) _booth_offer_tool "$1" ;;
     booth-follow) _booth_offer_follow ;;
     booth-service) _booth_offer_service ;;
+    booth-setup) _booth_offer_setup ;;
     booth-switchover) _booth_offer_switchover ;;
+    booth-pacemaker) _booth_offer_pacemaker ;;
+    booth-lease-guard) _booth_offer_guard ;;
     *) _booth_offer "$1" ;;
   esac
   # one goes on after a directory
@@ -218,4 +290,5 @@ _booth_complete() {
   return 0
 }
 
-complete -F _booth_complete boothd booth geostore booth-follow booth-status booth-record booth-service booth-switchover
+complete -F _booth_complete boothd booth geostore booth-follow booth-status booth-record booth-service booth-setup booth-switchover \
+  booth-pacemaker booth-lease-guard

@@ -2,11 +2,11 @@
 """Holds `boothd audit` to journals that real clusters wrote: whole, changed line by line, cut, joined, and forged.
 
 Run it as `python3 tests/audit.py [--every-byte] [BOOTHD]`, by default what `make build` leaves. It takes half a minute,
-prints a line for each check, ends all that it started, and has the status 1 where a check failed. Where boothd is not
+prints a line for each check, ends all that it started, and has the status 1 if a check failed. If boothd is not
 built, or has no auditor, only the rule by which changes are judged is checked, and the status is 77. With --every-byte
 journals are cut at each byte too, and not at three of each line alone, which takes two minutes more.
 
-Which changes leave a journal is said by tests/journal_changes.py, with which line is named where none is left, and what
+Which changes leave a journal is said by tests/journal_changes.py, with which line is named if none is left, and what
 an audit prints of one: it asks no auditor.
 """
 
@@ -65,7 +65,7 @@ FIRST_READ = 6
 # the sessions of the second site: its journal is rotated between them
 SESSIONS = 3
 
-# two sessions by hand, of which the form alone is looked at
+# two sessions that were written manually, of which only the form is checked
 BY_HAND = """\
 now 1000 open_10.0.0.1 ok kept_db8 none next quiet now 1100 next quiet now 1200
 now 1300 open_10.0.0.1 ok kept_db8 none next quiet now 1400"""
@@ -78,7 +78,7 @@ BY_HAND_DUE = (
 
 
 def the_rule_is_as_by_hand():
-    """the rule on changed lines says of a small journal what was worked out by hand"""
+    """the rule on changed lines says of a small journal what was worked out manually"""
     lines = [word.replace("_", " ") for word in BY_HAND.split()]
     for make, stay, found_later in BY_HAND_DUE:
         dues = {change.line: journal_changes.form(change.text) for change in make(lines)}
@@ -131,7 +131,7 @@ def whole_journals_pass(good):
 
 
 def some_of_the_journals(good):
-    """journals pass in any order; where one is missing, who heard it is named; and none is taken twice"""
+    """journals pass in any order; if one is missing, who heard it is named; and none is taken twice"""
     for places in itertools.permutations(range(len(good.paths))):
         for count in range(1, len(places) + 1):
             paths, texts = ([each[place] for place in places[:count]] for each in (good.paths, good.texts))

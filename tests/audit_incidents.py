@@ -35,7 +35,7 @@ from serving import own_addresses
 
 SEED = 9929
 KILLS = 60
-# of so many kills one at least has to come within a keep
+# of so many kills one at least must come within a keep
 KILLS_OF_ONE_CUT = 20
 # a long journal: so many lines, of each ten turns one that answers a client, and what an audit of it may take
 LINES, TURNS_OF_ONE_LIST = 1_000_000, 10

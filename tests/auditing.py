@@ -54,7 +54,7 @@ int clock_gettime(clockid_t clock, struct timespec *time)
 
 
 class Misjudged(Exception):
-    """An audit says something else than it has to, or a cluster's members did."""
+    """An audit says something else than it must, or a cluster's members did."""
 
 
 class LeftOut(Exception):
@@ -77,7 +77,7 @@ class Audit(NamedTuple):
         return self.status == 0 and not self.said
 
     def fault(self, paths):
-        """The place of the journal that is refused, the line or None, and the fault; or None where it says none."""
+        """The place of the journal that is refused, the line or None, and the fault; or None if it says none."""
         for place, path in enumerate(paths):
             begin = f"boothd: {path}: "
             if self.status != 1 or self.printed or not self.said.startswith(begin) or not self.said.endswith("\n"):
@@ -170,16 +170,16 @@ def live_through(cluster):
 
 
 class AuditedCluster(Cluster):
-    """A cluster whose members write journals. Where its program has an auditor, that is to let them pass.
+    """A cluster whose members write journals. If its program has an auditor, that is to let them pass.
 
     What `remember` gives other clusters no journal says was kept. So the members of this one live through their first
-    start, where they can.
+    start, if they can.
     """
 
     def __init__(self, program, *words, **more):
         super().__init__(program, *words, **more)
         self.has_auditor = can_audit(program)
-        # what an audit says of each of its journals, where it is not that they pass
+        # what an audit says of each of its journals, if it is not that they pass
         self.refused = None
         for member in self.members:
             member.journals = True
@@ -208,7 +208,7 @@ class AuditedCluster(Cluster):
         return groups, several
 
     def judged(self, refused=None):
-        """A sentence on what the audits said of the journals, with the fault that they have to find, where they do."""
+        """A sentence on what the audits said of the journals, with the fault that they must find, if they do."""
         if not self.has_auditor:
             return "not checked, since boothd has no auditor: what the journals say"
         groups, several = self.of_one_file()

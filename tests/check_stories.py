@@ -32,12 +32,12 @@ def key_in(folder, content=KEY, mode=0o600):
 class Checked:
     """Checks texts with a boothd of this folder: a program that says what a test wants, or the real one."""
 
-    def __init__(self, folder, says="boothd: $5 is not a member"):
+    def __init__(self, folder, says="boothd: $5 is not a member\nboothd: members of $3: ..."):
         self.path = os.path.join(folder, "checked.conf")
         self.programs = os.path.join(folder, "programs")
         os.makedirs(self.programs, exist_ok=True)
         with open(f"{self.programs}/boothd", "w", encoding="ascii") as file:
-            file.write(f'#!/bin/sh\necho "{says}" >&2\nexit 1\n')
+            file.write("#!/bin/sh\n" + "".join(f'echo "{line}" >&2\n' for line in says.split("\n")) + "exit 1\n")
         os.chmod(f"{self.programs}/boothd", 0o755)
 
     def of(self, text, *words, programs=None):
@@ -78,8 +78,8 @@ def a_file_without_faults(folder):
 def the_verdict_of_the_program(folder):
     """what boothd refuses is told in its words, and where there is no boothd that is said"""
     text = f"{PLAIN}authfile = {key_in(folder)}\n{TICKET}"
-    told = Checked(folder, says="boothd: ./x.conf: line 7: repeated").of(text)
-    require_same((told["status"], first_text(told)), (2, "./x.conf: line 7: repeated"))
+    told = Checked(folder, says="boothd: ./x.conf: line 7: repeated\nboothd: once alone").of(text)
+    require_same((told["status"], first_text(told)), (2, "./x.conf: line 7: repeated; once alone"))
     os.makedirs(f"{folder}/empty")
     unasked, refused = ("warning", "no-verdict", None), ("critical", "refused", None)
     require_same(Checked(folder).kinds(text, programs=f"{folder}/empty"), {unasked})
@@ -95,7 +95,8 @@ def the_verdict_of_the_program(folder):
         ("expire = 60\nrenewal-freq = 60\n", f"{checked.path}: ticket db8: renewal-freq is not below expire"),
     ):
         told = checked.of(text + more, programs=real)
-        require_same((told["problems"][0]["kind"], first_text(told)), ("refused", said))
+        # (tests/causes.py looks at the cause behind it)
+        require_same((told["problems"][0]["kind"], first_text(told).partition("; ")[0]), ("refused", said))
     require_same(sorted(os.listdir(folder)), ["authkey", "checked.conf", "empty", "programs"])
 
 

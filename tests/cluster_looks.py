@@ -96,7 +96,7 @@ def addresses_of(cluster):
 
 
 def three_that_just_started(clusters):
-    """three members that just started hold nothing, which is no fault where the ticket may be free"""
+    """three members that just started hold nothing, which is no fault if the ticket may be free"""
     cluster = clusters.plain
     one, two, third = addresses_of(cluster)
     told = shows(["-c", cluster.path], warning("free", ticket=NAME))
@@ -287,7 +287,7 @@ def two_owners_of_a_manual_ticket(clusters):
     # (the third believes who spoke last)
     wanted = [[BY_HAND, "manual", one.address, "-", "-", "1"], [two.address, "-", "-", "2 3"]]
     in_time(lambda: require_same(tables_of(status("-c", cluster.path).printed)[2][2:], wanted))
-    # (where one of them gives it up, it knows of no other that holds it)
+    # (if one of them gives it up, it knows of no other that holds it)
     require_same(one.about("CRvk", MANUAL), "ok")
     shows(["-c", cluster.path], warning("differ", ticket=BY_HAND))
     require_same(two.about("CRvk", MANUAL), "ok")

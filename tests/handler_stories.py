@@ -1,4 +1,4 @@
-"""Clusters whose ticket has a handler, or is granted by hand.
+"""Clusters whose ticket has a handler, or is granted manually.
 
 It is imported by tests/cluster.py, and not run by itself.
 """
@@ -10,7 +10,7 @@ import time
 from members import MANUAL, SECONDS_OF_BOOTH, Ran, now, wait_for
 from stories import BY_HAND, NAME, PATIENCE, is_held_by, passed, require, says, slack, story
 
-# What a site's handler does: it notes each run and its descriptors, and then prints, sleeps or fails where a file says so.
+# What a site's handler does: it notes each run and its descriptors, and then prints, sleeps or fails if a file says so.
 HANDLER = """#!/bin/sh
 cd {folder}
 echo "$BOOTH_TICKET $BOOTH_TICKET_EXPIRES $1" >> "ran.$BOOTH_LOCAL"
@@ -164,7 +164,7 @@ def lists_by_hand(cluster, owner):
 
 @story
 def a_manual_ticket(cluster):
-    """a cluster with a ticket that is granted by hand"""
+    """a cluster with a ticket that is granted manually"""
     one, two, arbitrator = cluster.members
     cluster.start()
     says(one, ("revoke", BY_HAND), 1, "booth: ticket is not granted\n")
@@ -204,7 +204,7 @@ def a_manual_ticket(cluster):
 
 @story
 def a_manual_ticket_that_asks(cluster):
-    """a cluster with a ticket that is granted by hand and has a handler"""
+    """a cluster with a ticket that is granted manually and has a handler"""
     one, two, arbitrator = cluster.members
     first, second = Handler(cluster, one), Handler(cluster, two)
     cluster.start()
@@ -249,7 +249,7 @@ def a_manual_ticket_that_asks(cluster):
 
 @story
 def a_manual_ticket_that_asks_a_silent_site(cluster):
-    """a cluster with a ticket that is granted by hand, at a site whose standard error is closed"""
+    """a cluster with a ticket that is granted manually, at a site whose standard error is closed"""
     one = cluster.members[0]
     first = Handler(cluster, one)
     first.set("prints")

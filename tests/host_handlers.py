@@ -129,10 +129,10 @@ def process(folder: str, words: str) -> int:
 
 
 def runs(process_id: int) -> bool:
-    """Returns whether a process runs: one that was ended and not waited for has no words."""
+    """Returns whether a process runs. One that was ended is defunct until it is waited for."""
     try:
-        with open(f"/proc/{process_id}/cmdline", "rb") as file:
-            return file.read() != b""
+        with open(f"/proc/{process_id}/stat", "rb") as file:
+            return file.read().rpartition(b")")[2].split()[0] not in (b"Z", b"X")
     except OSError:
         return False
 

@@ -13,7 +13,6 @@ import signal
 import stat
 import subprocess
 import sys
-import tempfile
 import threading
 
 HERE = os.path.dirname(os.path.abspath(__file__))
@@ -33,13 +32,17 @@ from installed_pages import (
 from installed_parts import NEEDRESTART, PROGRAMS, SERVICES, files_below, make, on_loopback
 from installed_tools import TOOLS, pages_have_all_options_of_tools, run_alone
 from installed_units import unit_is_confined, unit_is_sound, unit_waits_for_an_answer
+from scratch import scratch
 from serving import built_program, end_by_signals, turn
 from shells import Wrong, need, read, run
 
-# what starts and stops a service that is no unit
-EXAMPLES = ("pacemaker",)
-# what units, followers and daemons run
-HELPERS = ("follow-service", "follow-unit", "follow-postgresql", "handler-follow", "clock-wait")
+# what units, followers, daemons and resources run
+HELPERS = ("follow-service", "follow-unit", "follow-postgresql", "follow-pacemaker", "handler-follow", "clock-wait")
+HELPERS += ("site-keep", "service-runnable")
+# the resource agent under its two names
+AGENTS = ("booth/boothd", "pacemaker/booth-site")
+# units that have no instances
+PLAIN_SERVICES = ("booth-lease-guard.service", "booth-arbitrator.service")
 # what an operator reads
 DOCUMENTS = ("OPERATING.md", "CHANGES.md", "SIZING.md", "MANUAL-TICKETS.md", "HANDLERS.md")
 # documents for developers of Booth, which stay in the source tree
@@ -57,11 +60,11 @@ def installs_and_uninstalls(room):
     named += ["usr/share/man/man5/booth.conf.5"]
     named += [f"usr/share/bash-completion/completions/{name}" for name in (*PROGRAMS, *TOOLS)]
     named += [f"usr/share/doc/booth-proved/{name}" for name in (*DOCUMENTS, "examples/manual.conf")]
-    named += [f"usr/lib/systemd/system/{name}" for name in SERVICES]
+    named += [f"usr/lib/systemd/system/{name}" for name in (*SERVICES, *PLAIN_SERVICES)]
+    named += [f"usr/lib/ocf/resource.d/{name}" for name in AGENTS]
     named += ["usr/share/booth-proved/journal.conf", "usr/share/booth-proved/timeline.py"]
     named += [f"usr/share/doc/booth-proved/{name}" for name in ("AUDIT.md", "JOURNAL.md", "incident.svg")]
     named += [NEEDRESTART, *(f"usr/share/booth-proved/{name}" for name in HELPERS)]
-    named += [f"usr/share/doc/booth-proved/examples/follow-{name}" for name in EXAMPLES]
     for name in (*named, "usr/lib/sysusers.d/booth.conf"):
         need(name in there, f"{name} is missing")
     for name in (*DEVELOPER_DOCS, "decisions"):
@@ -78,8 +81,10 @@ def installs_and_uninstalls(room):
     done = run(sys.executable, "-IB", f"{room}/root/usr/share/booth-proved/timeline.py", "/dev/null", cwd="/")
     need(done.returncode == 0 and done.stdout.startswith("<?xml"), f"the installed timeline.py: {done.stderr}")
     need(files_below(f"{room}/root") == there, "to run them left a file")
-    for name in SERVICES:
-        unit = read(f"{room}/root/usr/lib/systemd/system/{name}")
+    replaced = [f"lib/systemd/system/{name}" for name in (*SERVICES, *PLAIN_SERVICES)]
+    replaced += [*(f"lib/ocf/resource.d/{name}" for name in AGENTS), "share/booth-proved/site-keep"]
+    for name in replaced:
+        unit = read(f"{room}/root/usr/{name}")
         need(not re.search("@[A-Z]+@", unit), f"{name} has a word that is not replaced")
     for name in HELPERS:
         need(os.access(f"{room}/root/usr/share/booth-proved/{name}", os.X_OK), f"{name} is no program")
@@ -159,7 +164,7 @@ def examples_are_served(room):
         # an address that no example has is refused only after the whole file was read
         words = [built_program(), "daemon", "-l", f"{room}/{name}.lock", "-d", f"{room}/{name}.records", "-n", "3"]
         done = run(*words, "-c", path, "-s", "10.255.255.1")
-        need(done.stderr == "boothd: 10.255.255.1 is not a member\n", f"{name}: {done.stderr.strip()}")
+        need(done.stderr.startswith("boothd: 10.255.255.1 is not a member\n"), f"{name}: {done.stderr.strip()}")
         conf, address = on_loopback(path, f"{room}/examples")
         done = run(*words, "-c", conf, "-s", address, env={**os.environ, "BOOTH_LOG": "off"})
         told = done.returncode, done.stdout + done.stderr
@@ -258,7 +263,7 @@ def main():
     if built_program() is None:
         print("installed: boothd is not built (make build), so nothing is checked")
         return 0
-    with tempfile.TemporaryDirectory(prefix="booth-installed-") as room:
+    with scratch("booth-installed-") as room:
         outcomes = [outcome(check, room) for check in CHECKS]
     print("installed: " + ", ".join(f"{outcomes.count(each)} {each}" for each in ("passed", "left out", "failed")))
     return 1 if "failed" in outcomes else 0

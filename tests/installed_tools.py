@@ -12,9 +12,10 @@ from shells import need, read, run
 
 TOP = os.path.dirname(os.path.dirname(os.path.abspath(__file__)))
 # what is written in Python, and in the shell: all of it is there whatever is built
-TOOLS = ("booth-status", "booth-record", "booth-switchover", "booth-postgresql", "booth-service")
-# how many lines the help of each may have; that of booth-postgresql has the options of its setup
-LINES_OF_HELP, MOST_LINES = 24, {"booth-postgresql": 36}
+TOOLS = ("booth-status", "booth-record", "booth-switchover", "booth-postgresql", "booth-setup", "booth-service")
+TOOLS += ("booth-pacemaker", "booth-lease-guard")
+# how many lines the help of each may have; those of three programs have the options of a setup
+LINES_OF_HELP, MOST_LINES = 24, {"booth-postgresql": 36, "booth-setup": 37, "booth-pacemaker": 30}
 
 
 def pages_have_all_options_of_tools(room):

@@ -5,10 +5,10 @@ let in, as tests/gate.py reads docs/PROTOCOL.md, which reading a turn uses, and 
 
 **Which changes leave a journal.** By the form of the lines (`form`):
 
-- A line left out, doubled or swapped is a journal still where only a call lost its answer, and this call is the last of
-  its session: the end follows, or a start, which is `now` and then `open`, another start or the end. So it is where the
-  last line is left out, where the answer before a start is, and where a start's `now` is doubled. Else the first call
-  behind it that is no `now` is not demanded there, since a start has to go on by `open`.
+- A line left out, doubled or swapped is a journal still if only a call lost its answer, and this call is the last of
+  its session: the end follows, or a start, which is `now` and then `open`, another start or the end. So it is if the
+  last line is left out, if the answer before a start is, and if a start's `now` is doubled. Else the first call
+  behind it that is no `now` is not demanded there, since a start must go on by `open`.
 - A cut journal is one always. Others may have heard what it then does not say was sent.
 
 By whole calls, with their answers (`judged_call`): a call that is left out, doubled or swapped with the next is another
@@ -18,14 +18,14 @@ read its clock twice.
 By what a digit says (`judged_digit`):
 
 - A call's digit changed is none, since each call is demanded as it stands; and none is a record that a start read.
-- A reading is one still where each turn uses the same reading as before; and none where a turn that sends uses another,
+- A reading is one still if each turn uses the same reading as before; and none if a turn that sends uses another,
   since frames bear it. Any other is one or none, by what is due when.
-- Where a datagram came from is one still where it was a member's, since answers go to where that member listens; and
-  none where a client was answered there in that turn. Any other is one or none.
-- A datagram is one still where it is let in as the same message, or dropped for the same fault; and none where it was
+- Where a datagram came from is one still if it was a member's, since answers go to where that member listens; and
+  none if a client was answered there in that turn. Any other is one or none.
+- A datagram is one still if it is let in as the same message, or dropped for the same fault; and none where it was
   a client's that was answered in that turn, and is dropped now. Any other is one or none.
 
-Where one is none, the fault stands at the changed line or behind it.
+If one is none, the fault stands at the changed line or behind it.
 """
 
 import functools
@@ -68,7 +68,7 @@ class Change(NamedTuple):
 
 
 class Due(NamedTuple):
-    """What an audit has to say of a changed journal: one of these faults at a line from `first` to `last`; or, where it
+    """What an audit must say of a changed journal: one of these faults at a line from `first` to `last`; or, if it
     may pass, what it says of journals.
     """
 
@@ -180,7 +180,7 @@ def entries_of(text):
 
 
 def strays_behind(entries, place):
-    """The place of the call that is not demanded behind this one, which was cut, or None: a start has to follow."""
+    """The place of the call that is not demanded behind this one, which was cut, or None: a start must follow."""
     place += 1
     while place < len(entries) and entries[place].kind == "now":
         place += 1
@@ -333,7 +333,7 @@ def judged_digit(roster, good, changed, line) -> Due:
 
 
 def judged_reading(before, after, line):
-    """The same where a reading of the clock is another."""
+    """The same if a reading of the clock is another."""
     pairs = [(old, new) for old, new in zip(turns_of(before), turns_of(after)) if old.used != new.used]
     if not pairs:
         return VALID
@@ -342,7 +342,7 @@ def judged_reading(before, after, line):
 
 
 def judged_datagram(roster, before, after, place):
-    """The same where what came, or where it came from, is another."""
+    """The same if what came, or where it came from, is different."""
     old, new, line = before[place].came, after[place].came, before[place].line + 1
     either = Due(("differs", "unsent"), line, may_pass=True)
     if "hex" not in old:

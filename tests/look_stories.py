@@ -217,7 +217,7 @@ def every_field_of_the_document(folder):
     require_same([seen.pop("seconds_left") is None for seen in web["seen"]], [False, True])
     seen = [{"owner": one, "until": three.now + 50, "members": [one, third]}]
     seen.append({"owner": None, "until": None, "members": [two]})
-    unknown = {"takeover": None, "service": None}
+    unknown = {"takeover": None, "service": None, "cluster": None}
     require_same(web, {"name": "web", "mode": "auto", "owner": one, "owners": [one], "seen": seen, **unknown})
     seen = [{"owner": two, "until": None, "seconds_left": None, "members": [two, one, third]}]
     require_same(db, {"name": "db", "mode": "manual", "owner": two, "owners": [two], "seen": seen, **unknown})

@@ -1,9 +1,9 @@
 #!/usr/bin/env python3
 """Holds public functions to the names of their definitions.
 
-Run it as `python3 tests/names.py`. It reads the sources alone, in a second, and has the status 1 where a name is wrong.
+Run it as `python3 tests/names.py`. It reads the sources alone, in a second, and has the status 1 if a name is wrong.
 
-Where a clause of a public function says that its result is what one definition of its crate gives, or a field of
+If a clause of a public function says that its result is what one definition of its crate gives, or a field of
 that, the function bears that name: the same one, a word of it in any form (`print` and `printed`), or, of a value
 that is made of another, `of_status` and `service_of`. A name that has a reason to be another stands in OTHERS.
 

@@ -131,7 +131,7 @@ def print_requests():
 
 
 def print_moments(request):
-    """`CLst` where the clock reads this, and where the reading that is used is that."""
+    """`CLst` if the clock reads this, and if the reading that is used is that."""
     table = [
         ("back", "the first reading", 5, NOW),
         ("late", "a reading past the seconds of a frame", 4_294_967_296_005, 4_294_967_296_005),

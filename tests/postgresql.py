@@ -141,7 +141,9 @@ def a_pair_is_set_up(pair: Pair) -> None:
     need(os.path.exists(f"{two.data}.booth-old/PG_VERSION"), "what it had is gone")
     for site in pair.sites:
         path = f"/run/writer-{site.name}"
-        words = [PYTHON, f"{HERE}/machine_writer.py", site.name, f"{SOCKETS}/.s.PGSQL.{site.port}", path]
+        # (the user that it runs as may not read this folder)
+        with open(f"{HERE}/machine_writer.py", encoding="utf-8") as file:
+            words = [PYTHON, "-c", file.read(), site.name, f"{SOCKETS}/.s.PGSQL.{site.port}", path]
         site.must("install", "-o", OWNER, "/dev/null", path)
         as_owner = ["setpriv", "--reuid", OWNER, "--regid", OWNER, "--init-groups"]
         subprocess.Popen(site.entering(*as_owner, *words), stdin=subprocess.DEVNULL, env=site.environment())

@@ -29,14 +29,14 @@ HEAD = ["", "SLOT", "VERSION", "COMMIT", "NUMBER", "RECORD"]
 
 
 def first(number, term, lease=None, *, commit=1, version=1, flag=None, zeros=0):
-    """The 64 bytes of a slot of version 1; what has to be otherwise is given."""
+    """The 64 bytes of a slot of version 1; what must be otherwise is given."""
     flag = (1 if lease else 0) if flag is None else flag
     body = struct.pack(">IIIIQQ", version, term, flag, *(lease or (0, 0)), zeros)
     return (bytes([commit]) + bytes(7) + number.to_bytes(8, "big") + body).ljust(64, b"\0")
 
 
 def second(number, term, lease=None, bound=None, promise=None, abstain=0, **other):
-    """The 128 bytes of a slot of version 2; what has to be otherwise is given."""
+    """The 128 bytes of a slot of version 2; what must be otherwise is given."""
     has = (lease is not None) + 2 * (bound is not None) + 4 * (promise is not None)
     to, promise_term, promise_until = promise or (0, 0, 0)
     fields = (other.get("version", 2), term, other.get("flags", has), *(lease or (0, 0)), bound or 0)
@@ -177,7 +177,7 @@ def files_of_the_second_version(folder):
 def torn_files(folder):
     """a file with a slot that counts and holds no record is refused, whichever slot it is, and the cause is named"""
     fine, pad = first(9, 1), bytes(64)
-    not_zero = "a field that has to be 0 is not"
+    not_zero = "a field that must be 0 is not"
     cases = [
         (slot(2, 1, 7) + b"\1" + bytes(47), "40", "its version is 0, and not 1"),
         (first(1, 1, version=2) + fine, "00", "its version is 2, and not 1"),

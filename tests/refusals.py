@@ -437,7 +437,7 @@ def is_locked(path):
 
 
 def may_open(path):
-    """Whether this user may open a lock file, or make it where it is missing."""
+    """Whether this user may open a lock file, or make it if it is missing."""
     return os.access(path, os.R_OK) if os.path.exists(path) else os.access(os.path.dirname(path), os.W_OK)
 
 
@@ -518,7 +518,7 @@ def own_lock_files(room):
 
 @check
 def one_daemon_for_records(room):
-    """where another program has the directory of the records, nothing is opened"""
+    """if another program has the directory of the records, nothing is opened"""
     places = room.own_places("taken")
     with room.serving(options=places):
         pass
@@ -544,7 +544,7 @@ def special_files(room):
 
 @check
 def unread_standard_error(room):
-    """where nobody reads standard error, the run has its status all the same"""
+    """if nobody reads standard error, the run has its status all the same"""
     unread, into = os.pipe()
     os.close(unread)
     streams = {"stdin": subprocess.DEVNULL, "stdout": subprocess.DEVNULL, "stderr": into}
@@ -555,7 +555,7 @@ def unread_standard_error(room):
 
 @check
 def closed_standard_error(room):
-    """where standard error is closed, what is said goes nowhere, and not into the lock file"""
+    """if standard error is closed, what is said goes nowhere, and not into the lock file"""
     path, places = room.file(here(room, FILE) + SITE), room.own_places("closed")
     streams = {"stdin": subprocess.DEVNULL, "stdout": subprocess.DEVNULL, "timeout": SECONDS_TO_END}
     with socket.socket(socket.AF_INET, socket.SOCK_DGRAM) as holder:

@@ -113,7 +113,7 @@ class Shown:
         self.owner, self.first, self.valid_for = "none", 0, 0
 
     def hears(self, station, parts, since):
-        """A message that was let in is heard, by "What members say", while the daemon agrees to nothing."""
+        """A message that was let in is heard, by "What members send", while the daemon agrees to nothing."""
         leader, _, seconds = (int.from_bytes(parts.body[at : at + 4], "big") for at in (64, 68, 72))
         owner, sender = station.member(leader), station.member(parts.head.sender)
         tells = parts.letters in TELL_STATE and owner not in (None, station.address)
@@ -287,10 +287,11 @@ class Room:
         return ran.returncode, ran.stdout, ran.stderr
 
     def refuses(self, words, said, what=None):
-        """A run with these words has status 1, and says this on standard error, and nothing else. Of what cannot be
-        opened, locked or read a line before it says why."""
+        """A run with these words has status 1, and says this on standard error, and nothing else but perhaps a line
+        with its cause, which tests/causes.py looks at. Of what cannot be opened, locked or read a line before it says
+        why."""
         status, out, err = self.ended(words)
-        due = re.escape(b"boothd: " + said + b"\n")
+        due = re.escape(b"boothd: " + said + b"\n") + rb"(boothd: [ -~]+\n)?"
         if said.startswith(NOT_HAD):
             due = rb"boothd: [^\n]+: [^\n]+\n" + due
         is_refused = status == 1 and not out and re.fullmatch(due, err)

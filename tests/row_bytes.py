@@ -145,7 +145,7 @@ def signed(row: Row, rows: List[Row]) -> List[Play]:
 
 
 def changed(rows: List[Row], given: str) -> bytes:
-    """Returns the frame of `FRAME; WHAT: LENGTH, COUNT at PLACE to BYTE`, filled up with `x` where it is longer."""
+    """Returns the frame of `FRAME; WHAT: LENGTH, COUNT at PLACE to BYTE`, filled up with `x` if it is longer."""
     named, _, change = given.partition("; ")
     length, *runs = change.partition(": ")[2].split(", ")
     size = int(length)

@@ -1,6 +1,6 @@
 """Plays rows about texts of the configuration: their first faults, and what they say.
 
-Where a text is a configuration, the driver prints it, and a copy of it: the two are equal, and say the same again when
+If a text is a configuration, the driver prints it, and a copy of it: the two are equal, and say the same again when
 the printed text is read.
 
 It is imported by tests/rows.py, and not run by itself.

@@ -130,12 +130,12 @@ def signed_frame(row: Row, rows: List[Row]) -> List[Play]:
 
 
 def keyed(row: Row, rows: List[Row]) -> List[Play]:
-    """A datagram where there is the key."""
+    """A datagram if there is the key."""
     return judged(rows, KEYED, edited(rows, row.given), row.wanted)
 
 
 def unkeyed(row: Row, rows: List[Row]) -> List[Play]:
-    """A datagram where there is no key."""
+    """A datagram if there is no key."""
     return judged(rows, UNKEYED, edited(rows, row.given), row.wanted)
 
 
@@ -156,7 +156,7 @@ def cuts(row: Row, rows: List[Row]) -> List[Play]:
 
 
 def age(row: Row, rows: List[Row]) -> List[Play]:
-    """A datagram 600 seconds later where there is the key; without one it is taken."""
+    """A datagram 600 seconds later if there is the key; without one it is taken."""
     frame = edited(rows, row.given)
     return judged(rows, KEYED, frame, row.wanted, now=LATER) + judged(rows, UNKEYED, frame, "taken", now=LATER)
 

@@ -3,7 +3,7 @@
 A story is its sentence, the start of a core, and its lines. A core starts as `S1 at 5`, or from a record as `S1 at 5
 with 1`. `alone` is a site alone, and `15 of 16` the site of that place among so many. A call is `at`, the moment, and
 its name with what it is given: `hello`, `ask` and a reason, `hear` and a message, `kept` or `failed` for the keep
-that waits, `tick`, `renew`, `release` and a reason; its deed follows behind `: `. Where no term is left `ask` is
+that waits, `tick`, `renew`, `release` and a reason; its deed follows behind `: `. If no term is left `ask` is
 answered `spent`, and the whole view stays. Behind `note` and what is noted, fields of the view follow, as they do
 behind `view`. `as` and the names of parts play the lines of parts.txt. If blocks follow behind blank lines, each is
 an ending of its own: it is played behind the story's lines with a core of its own.

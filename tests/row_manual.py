@@ -1,7 +1,7 @@
 """Plays the stories of manual tickets at one member: tests/rows/rules/manual/.
 
 A story is its sentence, the record of its start, or `new`, and its lines. A call is `grant`, `again` or `revoke` with
-the record that is to be kept, or `none` where no term is left, `kept` or `failed` for that keep, `hear` and a
+the record that is to be kept, or `none` if no term is left, `kept` or `failed` for that keep, `hear` and a
 message, or `hello`, with what is said. `knows` tells of the first site between two calls: its record, whether it is
 sure of it, and who else is shown.
 """
@@ -58,7 +58,7 @@ def printed_made(answer: List[str], word: str) -> Optional[List[str]]:
 
 
 def keeping(answer: List[str]) -> Optional[Record]:
-    """Returns the record that is to be kept, or None where no term is left."""
+    """Returns the record that is to be kept, or None if no term is left."""
     if answer[:-1] == ["spent"]:
         return None
     return printed_record(printed_made(answer, "keep") or [])

@@ -22,7 +22,7 @@ class Malformed(Exception):
 
 
 class Row(NamedTuple):
-    """A row, with the lines of text that continue it. `wanted` is empty where the row has no `=>`."""
+    """A row, with the lines of text that continue it. `wanted` is empty if the row has no `=>`."""
 
     line: int
     sentence: str
@@ -98,7 +98,7 @@ def told(rows: List[Row]) -> Dict[str, List[str]]:
 
 
 def differences(row: Row, answer: List[str], wanted: List[str]) -> List[str]:
-    """Returns a line where an answer is not the one that is wanted, and else none."""
+    """Returns a line if an answer is not the one that is wanted, and else none."""
     if answer == wanted:
         return []
     pairs = [pair for pair in zip(answer, wanted) if pair[0] != pair[1]]
@@ -115,7 +115,7 @@ def check_rows(text: str, driver: Driver, player: str, plays: Dict[str, Plays]) 
     """Plays a file's rows with this player, and returns how many there are, and what is wrong with some.
 
     `plays` has for each kind what it plays: the driver's lines, each with the answer that is wanted. Rows `told` and
-    `let` say what others need, and are played by them: the text of a fault has to be met by a row.
+    `let` say what others need, and are played by them: the text of a fault must be met by a row.
     """
     try:
         rows = rows_of(text)

@@ -2,8 +2,8 @@
 """Holds the pool of linked nodes and the timer to their speed at large sizes.
 
 Run it as `python3 tests/sizes.py [PROGRAM]`, PROGRAM being the built `trials`, which rt leaves at
-crates/trials/out/trials. It takes some seconds, prints a line for each check, and has the status 1 where one failed
-or took more than a minute. Where `trials` is not built it checks nothing, with status 0.
+crates/trials/out/trials. It takes some seconds, prints a line for each check, and has the status 1 if one failed
+or took more than a minute. If `trials` is not built it checks nothing, with status 0.
 
 What the lists and the answers are is proved, and in how many counted looks a slot is found. Time is not: a pool that moves
 all later items, or a timer that looks without counting, would only be slow, and take hours here.

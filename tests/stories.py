@@ -8,9 +8,9 @@ import time
 
 from members import MANUAL, TICKET, Ran, now, wait_for
 
-# how much later than it may a thing happens at most, in seconds: where the machine has a processor for it, or has not
+# how much later than it may a thing happens at most, in seconds: if the machine has a processor for it, or has not
 SLACK, SLACK_LOADED = 0.5, 10
-# how long one waits for what has to come
+# how long one waits for what must come
 PATIENCE = 30
 NAME = TICKET.decode()
 BY_HAND = MANUAL.decode()
@@ -19,7 +19,7 @@ stories = []
 
 
 class Wrong(Exception):
-    """The cluster did not what it has to."""
+    """The cluster did not do what it must."""
 
 
 def require(holds, why):
@@ -49,7 +49,7 @@ def is_held_by(cluster, member):
 
 
 def grants(cluster, place, seconds=PATIENCE):
-    """A client asks this member for a grant, again where it is busy, and then the member holds."""
+    """A client asks this member for a grant, again if it is busy, and then the member holds."""
     member = cluster.members[place]
     result = wait_for(lambda: (answer := member.about("CGnt")) != "Busy" and answer, seconds)
     require(result in ("ok", "Asyn"), f"a grant is answered {result or 'Busy, or not at all'}")
@@ -57,18 +57,25 @@ def grants(cluster, place, seconds=PATIENCE):
     return member.record()
 
 
+def left(ran, wanted):
+    """Whether a run left what is wanted, and behind a refusal perhaps a line with its cause, as tests/causes.py has."""
+    more = ran.said[len(wanted.said) :]
+    is_cause = bool(wanted.said) and more.endswith("\n") and more.count("\n") == 1
+    return ran == wanted._replace(said=wanted.said + more) and (not more or is_cause)
+
+
 def says(member, words, status, text):
     """Runs booth at this member, and holds it to this status and this text, of which only one stream has some."""
     wanted = Ran(status, "", text) if status else Ran(status, text, "")
     ran = member.booth(*words)
-    require(ran == wanted, f"booth {' '.join(words)} at {member.address} left {ran}, and not {wanted}")
+    require(left(ran, wanted), f"booth {' '.join(words)} at {member.address} left {ran}, and not {wanted}")
 
 
 def keeps(member, words, status, text, ticket=TICKET):
     """Runs geostore at this member, and holds it to this status and this text."""
     wanted = Ran(status, "", text) if status else Ran(status, text, "")
     ran = member.geostore(*words, ticket=ticket)
-    require(ran == wanted, f"geostore {' '.join(words)} at {member.address} left {ran}, and not {wanted}")
+    require(left(ran, wanted), f"geostore {' '.join(words)} at {member.address} left {ran}, and not {wanted}")
 
 
 def date(moment):

@@ -1,7 +1,7 @@
 #!/usr/bin/env python3
 """Holds tools/timeline.py to what it draws: of leases that are drawn by chance, of each kind of line, and of no line.
 
-Run it as `python3 tests/timeline.py`. It takes some seconds, prints a line for each check, and has the status 1 where a
+Run it as `python3 tests/timeline.py`. It takes some seconds, prints a line for each check, and has the status 1 if a
 check failed. When two sites hold is found here moment by moment, and never by the tool's own way.
 """
 
@@ -25,7 +25,7 @@ SVG = "{http://www.w3.org/2000/svg}"
 
 
 class Wrong(Exception):
-    """The tool did not what it has to."""
+    """The tool did not do what it must."""
 
 
 def require(holds, why):
@@ -60,7 +60,7 @@ def covers(spans, moment):
 
 
 def red_is_where_two_sites_hold():
-    """a row has a bar where its site holds, and red where another one does too, at each moment"""
+    """a row has a bar if its site holds, and red if another one does too, at each moment"""
     chance, red = random.Random(SEED), 0
     for _ in range(DRAWN):
         holdings = []

@@ -3,7 +3,7 @@
 
 Run it as `python3 tools/ask.py [--peers | --grant TICKET | --revoke TICKET] [--key FILE] HOST [PORT]`,
 HOST being an address or a name that has one. With --key the request has the MAC of the key in FILE, and
-so must the reply. The status is 1 where the daemon refused, where no answer came in 5 seconds, or one
+so must the reply. The status is 1 if the daemon refused, if no answer came in 5 seconds, or one
 that is not as docs/PROTOCOL.md says.
 """
 

@@ -16,6 +16,7 @@ import configuration
 import follow_checks
 import key_file
 import looking
+import pacemaker_checks
 from problems import CRITICAL, NOTICE, WARNING, WORDS, Problem
 from wording import aligned, count, listed, span
 
@@ -42,6 +43,7 @@ def status_of(options):
         conf = configuration.read(path)
         found += [*defaults(conf), *families(conf), *times(conf, options.sync or SYNC_MILLIS), *key_file.problems(conf)]
         found += follow_checks.problems(conf)
+        found += pacemaker_checks.of_configuration(conf)
         if options.members:
             found += of_members(conf, options.timeout)
     except configuration.Unreadable as why:
@@ -98,10 +100,11 @@ def verdict(path, text):
         except OSError as why:
             yield Problem(WARNING, "no-verdict", f"{boothd} cannot be run: {why.strerror}")
             return
-    said = done.stderr.decode("ascii", "backslashreplace").strip()
-    if said != f"boothd: {address} is not a member":
-        refusal = re.sub("^boothd: ", "", said) or f"boothd ended with status {done.returncode}, and said nothing"
-        yield Problem(CRITICAL, "refused", refusal)
+    said = done.stderr.decode("ascii", "backslashreplace").splitlines()
+    # (the line behind the refusal says its cause)
+    if said[:1] != [f"boothd: {address} is not a member"]:
+        refusal = "; ".join(re.sub("^boothd: ", "", line) for line in said)
+        yield Problem(CRITICAL, "refused", refusal or f"boothd ended with status {done.returncode}, and said nothing")
 
 
 # ---- what is in the file
@@ -160,7 +163,7 @@ def times(conf, sync_millis):
 
 
 def syncs(automatic, sync_millis):
-    """Whether the disk has time for the renewals of all tickets, where one site holds them and they come at once."""
+    """Whether the disk has time for the renewals of all tickets, if one site holds them and they come at once."""
     one = SYNCS * sync_millis / 1000
     together, part = one * len(automatic), sum(one / ticket.renewal for ticket in automatic)
     counted = f"{count(len(automatic), 'ticket')}, {SYNCS} syncs a renewal of {sync_millis:g} ms each"

@@ -28,7 +28,7 @@ VALUE = re.compile(r"[\t -~]*")
 NUMBER = re.compile(r"[0-9]{1,10}")
 SECONDS = 10_000_000
 
-# each number with its range, and the value where no line has one
+# each number with its range, and the value if no line has one
 NUMBERS = {
     "port": (1, 65_535, frames.PORT),
     "maxtimeskew": (1, SECONDS, 600),
@@ -142,7 +142,7 @@ class Reading:
         self.top = {}
         self.defaults = {}
         self.tickets = []
-        # where a ticket's key goes to, or None before the first ticket
+        # the section of the ticket's keys that follow, or None before the first ticket
         self.section = None
 
     def take(self, number, line):
@@ -192,7 +192,7 @@ class Reading:
         return Unreadable(f"{self.path}: line {number}: {what}")
 
     def ticket(self, name, section):
-        """The ticket of a section, with what `__default__` says and what holds where nothing does."""
+        """The ticket of a section, with what `__default__` says and what holds if nothing does."""
         said = {**{key: default for key, (_, _, default) in NUMBERS.items()}, **self.defaults, **section}
         expire = said["expire"]
         renewal = expire / 2 if said["renewal-freq"] is None else said["renewal-freq"]

@@ -10,7 +10,7 @@ from configuration import Unreadable
 
 
 def status_of(name, call, failed):
-    """The status that the call gives, or `failed` where it cannot go on, which is said."""
+    """The status that the call gives, or `failed` if it cannot go on, which is said."""
     # (a stream that was closed takes everything, and nothing that is opened later gets in its place)
     for number, stream in ((0, "stdin"), (1, "stdout"), (2, "stderr")):
         if getattr(sys, stream) is None:

@@ -8,6 +8,7 @@ import json
 from typing import Any, Dict, Iterator, Optional, Tuple
 
 import looking
+from pacemaker_status import ClusterService
 from problems import NOTICE, WORDS
 from service_problems import seconds_to_kill, shown
 from service_state import RUNNING
@@ -58,7 +59,7 @@ def of_held(answer, held):
 
 
 def of_service(service: Optional[Service]) -> Optional[Dict[str, Any]]:
-    """The service of a ticket on this machine, or None where nothing follows it here."""
+    """The service of a ticket on this machine, or None if nothing follows it here."""
     if service is None:
         return None
     told = {"shown": shown(service), "follower": service.lives, "why": service.why or None}
@@ -74,6 +75,14 @@ def of_service(service: Optional[Service]) -> Optional[Dict[str, Any]]:
     }
 
 
+def of_cluster(service: Optional[ClusterService]) -> Optional[Dict[str, Any]]:
+    """The service of a ticket that this site's Pacemaker runs, or None."""
+    if service is None:
+        return None
+    told = {"shown": service.shown(), "nodes": service.nodes, "whole": service.is_whole, "granted": service.granted}
+    return {**told, "standby": service.standby, "seconds_to_end": seconds(service.left)}
+
+
 def of_takeover(takeover: Optional[Takeover]) -> Optional[Dict[str, Any]]:
     """The takeover of a ticket that may come, or None."""
     return takeover and {"free_at": takeover.free_at, "next": takeover.next, "due": takeover.is_due}
@@ -87,7 +96,9 @@ def of_ticket(view, whole):
     name, mode = view.ticket.name, "manual" if view.ticket.is_manual else "auto"
     told = {"name": name, "mode": mode, "owner": view.owner(), "owners": view.owners(), "seen": seen}
     told["takeover"] = of_takeover(whole.takeovers.get(name))
-    return {**told, "service": of_service(whole.here.services.get(name))}
+    told["service"] = of_service(whole.here.services.get(name))
+    cluster = whole.here.cluster.services.get(name) if whole.here.cluster else None
+    return {**told, "cluster": of_cluster(cluster)}
 
 
 def of_problem(problem):
@@ -114,30 +125,30 @@ def document(view, line):
 # ---- metrics
 
 HELP = {
-    "booth_status": ("gauge", "0 where all is well, 1 with a warning, 2 where something is critical"),
+    "booth_status": ("gauge", "0 if all is well, 1 with a warning, 2 if something is critical"),
     "booth_look_time_seconds": ("gauge", "When the look ended, in seconds since 1970"),
     "booth_look_seconds": ("gauge", "How long the look took"),
     "booth_problems": ("gauge", "How many problems there are of a severity"),
-    "booth_member_up": ("gauge", "1 where the member answers for its tickets and its peers"),
+    "booth_member_up": ("gauge", "1 if the member answers for its tickets and its peers"),
     "booth_member_clock_ahead_seconds": ("gauge", "How far the member's clock is ahead of this machine's"),
     "booth_member_answer_seconds": ("gauge", "How long the member took to answer"),
     "booth_member_dropped_total": ("counter", "Datagrams that the member dropped, by their fault"),
-    "booth_peer_received_total": ("counter", "Messages of another member that the member let in"),
+    "booth_peer_received_total": ("counter", "Messages of another member that the member accepted"),
     "booth_peer_sent_total": ("counter", "Messages that the member sent to another one"),
     "booth_peer_errors_total": ("counter", "Messages that the member could not send to another one"),
     "booth_peer_last_seconds_ago": ("gauge", "How long ago the member heard another one last"),
-    "booth_ticket_held": ("gauge", "1 where the members that answer name one holder of the ticket"),
-    "booth_ticket_owners": ("gauge", "How many sites hold the ticket as they see it themselves"),
-    "booth_ticket_views": ("gauge", "In how many ways the members that answer see the ticket"),
+    "booth_ticket_held": ("gauge", "1 if the members that answer name one holder of the ticket"),
+    "booth_ticket_owners": ("gauge", "How many sites hold the ticket by their own lists"),
+    "booth_ticket_views": ("gauge", "How many different views of the ticket the members that answer have"),
     "booth_ticket_holder": ("gauge", "1 for the holder that a member sees"),
-    "booth_ticket_left_seconds": ("gauge", "How long the lease runs on as a member sees it"),
-    "booth_ticket_takeover_seconds": ("gauge", "In how long another site may take over what is not renewed"),
-    "booth_ticket_problem": ("gauge", "1 for a warning about the ticket, 2 where it is critical, by what is wrong"),
-    "booth_follower_up": ("gauge", "1 where a follower of the ticket lives on this machine"),
-    "booth_service_running": ("gauge", "1 where the service of the ticket runs on this machine"),
+    "booth_ticket_left_seconds": ("gauge", "How long the lease still runs as a member sees it"),
+    "booth_ticket_takeover_seconds": ("gauge", "In how long another site may take over if it is not renewed"),
+    "booth_ticket_problem": ("gauge", "1 for a warning about the ticket, 2 if it is critical, by the kind of problem"),
+    "booth_follower_up": ("gauge", "1 if a follower of the ticket lives on this machine"),
+    "booth_service_running": ("gauge", "1 if the service of the ticket runs on this machine"),
     "booth_service_state": ("gauge", "1 for the state of the ticket's service on this machine"),
     "booth_service_state_seconds": ("gauge", "For how long the service has been in that state"),
-    "booth_service_paused": ("gauge", "1 where the service is paused on this machine"),
+    "booth_service_paused": ("gauge", "1 if the service is paused on this machine"),
     "booth_service_failed_starts": ("gauge", "How many starts of the service in a row have failed on this machine"),
     "booth_service_kill_seconds": ("gauge", "In how long the service is killed, unless the lease is renewed"),
 }

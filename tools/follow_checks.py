@@ -88,7 +88,7 @@ def margin_of(ticket: Ticket) -> float:
 
 
 def unit_of(ticket: str) -> Optional[str]:
-    """The unit that follows the ticket here, or None where that is another program's."""
+    """The unit that follows the ticket here, or None if that is another program's."""
     command = services.variable_of(ticket, "PROGRAM")
     if command is None:
         return f"{ticket}.service"
@@ -100,7 +100,7 @@ def unit_of(ticket: str) -> Optional[str]:
 
 
 def enabled(ticket: str) -> Iterator[Problem]:
-    """What is wrong where the system itself starts the unit at boot, as far as systemd says."""
+    """What is wrong if the system itself starts the unit at boot, as far as systemd says."""
     unit = unit_of(ticket)
     if unit is not None and state_of(unit) in ENABLED:
         text = f"{ticket}: {unit} is enabled, so the system starts it at boot, whoever holds the ticket"
@@ -108,7 +108,7 @@ def enabled(ticket: str) -> Iterator[Problem]:
 
 
 def state_of(unit: str) -> str:
-    """What systemd says of the unit's start at boot; nothing where it does not."""
+    """What systemd says of the unit's start at boot; nothing if it does not."""
     found = services.systemctl()
     if found is None:
         return ""

@@ -105,12 +105,12 @@ def ticket_body(ticket, leader, term, valid_for):
 
 
 def attribute_body(ticket, name, value):
-    """The body of an attribute. The name is empty where a list of attributes is asked for."""
+    """The body of an attribute. The name is empty if a list of attributes is asked for."""
     return field(ticket, 64) + field(name, 64) + field(value, 128)
 
 
 def frame(letters, body=b"", auth=b"", **fields):
-    """The frame of this command with this body, and with this authentication part where it is
+    """The frame of this command with this body, and with this authentication part if it is
     not empty. `fields` are those of its head that are not what they are at first."""
     opts = (AUTH if auth else 0) | (ATTR if BODY_OF[letters] == ATTRIBUTE else 0)
     length = HEAD_BYTES + len(body) + len(auth)
@@ -118,7 +118,7 @@ def frame(letters, body=b"", auth=b"", **fields):
 
 
 def key_in(text):
-    """The key of a key file's bytes: without the blanks at its ends, where it is all text."""
+    """The key of a key file's bytes: without the blanks at its ends, if it is all text."""
     if all(byte in range(0x09, 0x0E) or byte in range(0x20, 0x7F) for byte in text):
         text = text.strip(b"\t\n\v\f\r ")
     if len(text) not in KEY_BYTES:
@@ -159,7 +159,7 @@ def is_sealed(key, signed):
 
 
 def sealed(key, letters, body=b"", **fields):
-    """The frame of this command, with its MAC where there is a key."""
+    """The frame of this command, with its MAC if there is a key."""
     ring = ring_of(key)
     if ring is None:
         return frame(letters, body, **fields)

@@ -45,7 +45,7 @@ class BadLine(Exception):
 
 
 class Entry(NamedTuple):
-    """A call and its answer, or None where it has none. `line` is the number of the call's line."""
+    """A call and its answer, or None if it has none. `line` is the number of the call's line."""
 
     line: int
     kind: str
@@ -76,14 +76,14 @@ def are_fields(kind, fields):
 
 
 def read_call(line):
-    """The kind and the fields of a call's line, or None where it is none."""
+    """The kind and the fields of a call's line, or None if it is none."""
     kind = line.split(" ")[0]
     found = CALLS[kind].fullmatch(line) if kind in CALLS else None
     return (kind, found.groupdict()) if found and are_fields(kind, found.groupdict()) else None
 
 
 def read_answer(kind, line):
-    """The fields of the line of an answer to such a call, or None where it is none."""
+    """The fields of the line of an answer to such a call, or None if it is none."""
     found = ANSWERS[kind].fullmatch(line)
     if not found or not are_fields(kind, found.groupdict()):
         return None

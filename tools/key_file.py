@@ -14,6 +14,8 @@ from problems import CRITICAL, NOTICE, WARNING, Problem
 
 # whom the service runs the daemon as
 DAEMON = "booth"
+# whom pcs makes keys for, and where a node of Pacemaker keeps its CIB
+CLUSTER_USER, CLUSTER = "hacluster", "/var/lib/pacemaker/cib"
 
 READ, WRITE = 4, 2
 
@@ -58,8 +60,11 @@ def of_owner(path, about):
     try:
         daemon = pwd.getpwnam(DAEMON)
     except KeyError:
-        text = f"{path}: there is no user {DAEMON} here, so whether it may read the key is not told"
+        text = f"{path}: there is no user {DAEMON} here, so whether it may read the key is not known"
         yield Problem(NOTICE, "key-owner", text)
+        return
+    if name_of_user(about.st_uid) == CLUSTER_USER and os.path.isdir(CLUSTER):
+        # (on a node of Pacemaker the agent gives the daemon a copy)
         return
     mode = stat.S_IMODE(about.st_mode)
     if about.st_uid == daemon.pw_uid:
@@ -82,7 +87,7 @@ def of_content(path):
     except ValueError as why:
         yield Problem(CRITICAL, "key", f"{path}: has {why}")
     except Unreadable as why:
-        yield Problem(NOTICE, "key", f"{why}: whether it is a key is not told")
+        yield Problem(NOTICE, "key", f"{why}: whether it is a key is not known")
 
 
 def group_of_daemon():

@@ -64,7 +64,7 @@ class Parts:
             self.came.setdefault(head.options, (head.result != MORE, body))
 
     def text(self):
-        """The text of the whole list, or None where a part is missing."""
+        """The text of the whole list, or None if a part is missing."""
         texts = []
         for number in range(PARTS):
             is_last, body = self.came.get(number, (True, None))
@@ -77,7 +77,7 @@ class Parts:
 
 
 def read_reply(reply, letters, request, address, key, *, result=0):
-    """The head and the body of the reply, where the rest of it is as it has to be. With None as `result` any stands.
+    """The head and the body of the reply, if the rest of it is as it must be. With None as `result` any stands.
     The reply to `CLst` is a part of the list, of any number.
     """
     least = frames.HEAD_BYTES + (frames.AUTH_BYTES if key else 0)

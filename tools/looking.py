@@ -1,6 +1,6 @@
 """One look at all members: all are asked for list and peers at once, and none is waited for beyond the time.
 
-It is imported by booth-status and the tests, and not run by itself. What comes and is no answer is passed over.
+It is imported by booth-status and the tests, and not run by itself. What comes and is no answer is ignored.
 """
 
 import errno
@@ -27,10 +27,10 @@ ANSWERS, PARTLY, SILENT, NO_DAEMON, UNREACHABLE, BAD = "answers", "partly", "sil
 
 
 class Answer(NamedTuple):
-    """What came of one member. `held` and `counts` are None where that answer is missing.
+    """What came of one member. `held` and `counts` are None if that answer is missing.
 
     `why` is what was wrong. `clock` is the member's, in seconds since 1970, and `ahead` how far it is ahead of this
-    machine's; `took` is how long the first answer took. These are None where nothing came.
+    machine's; `took` is how long the first answer took. These are None if nothing came.
     """
 
     member: Member

@@ -17,10 +17,10 @@ import record_file
 from serving import NotServing, boothd
 
 TICKET = b"ticket-db8"
-# a ticket that is granted by hand, in a cluster that has one
+# a ticket that is granted manually, in a cluster that has one
 MANUAL = b"by-hand"
 
-# (of a daemon that runs; where none listens, that is told at once)
+# (of a daemon that runs; if none listens, that is told at once)
 SECONDS_TO_ANSWER = 10
 # how long booth may take, which waits 5 seconds for an answer, and for another where it is sent on
 SECONDS_OF_BOOTH = 15
@@ -104,8 +104,8 @@ def remember(directory, tickets):
 
 
 class Member:
-    """One daemon of the cluster, running or not. It prints its log where `logs` is set before it starts, and writes a
-    journal where `journals` is.
+    """One daemon of the cluster, running or not. It prints its log if `logs` is set before it starts, and writes a
+    journal if `journals` is.
     """
 
     logs = False
@@ -156,7 +156,7 @@ class Member:
         return path_in(self.records, ticket)
 
     def record(self, ticket=TICKET):
-        """The record that is kept of the ticket, or None where none is."""
+        """The record that is kept of the ticket, or None if none is."""
         try:
             with open(self.record_path(ticket), "rb") as file:
                 slot = record_file.in_force(record_file.slots_in(file.read(record_file.FILE_BYTES)))
@@ -177,7 +177,7 @@ class Member:
         return run_booth(self.store, self.conf, [*words, "-s", self.address])
 
     def ask(self, letters, body=b""):
-        """What the daemon answers to this request, or None where it does not in time."""
+        """What the daemon answers to this request, or None if it does not in time."""
         number = time.time_ns() // 1000 % 2**32
         family = socket.AF_INET6 if ":" in self.address else socket.AF_INET
         parts = lists.Parts()
@@ -204,7 +204,7 @@ class Member:
         return answer and answer.result
 
     def shown(self, ticket=TICKET):
-        """The owner's address in this member's list, or None where it lists none."""
+        """The owner's address in this member's list, or None if it lists none."""
         answer = self.ask("CLst")
         lines = answer.body.split(b"\n") if answer else []
         for line in lines:
@@ -256,7 +256,7 @@ class Watch(threading.Thread):
                 self.wrong.append((now(), holders))
 
     def is_looking(self):
-        """Whether it has looked and looks on: where a look failed, the thread is over."""
+        """Whether it has looked and looks on: if a look failed, the thread is over."""
         return self.looks > 0 and self.is_alive()
 
     def end(self):
@@ -267,8 +267,8 @@ class Watch(threading.Thread):
 class Cluster:
     """Two sites and an arbitrator with one file, which are killed when the `with` block ends.
 
-    `settings` are lines that the file has for each ticket, behind its times. Those in `manual` are granted by hand, and
-    have the lines `by_hand`.
+    `settings` are lines that the file has for each ticket, after its times. The tickets in `manual` are manual, and have
+    the lines `by_hand`.
     """
 
     def __init__(
@@ -343,13 +343,13 @@ class Cluster:
         self.watch.end()
 
     def shown_by_all(self):
-        """The owner that every running member lists, or None where they differ or list none."""
+        """The owner that every running member lists, or None if they differ or list none."""
         shown = {member.shown() for member in self.members if member.is_running()}
         return shown.pop() if len(shown) == 1 else None
 
 
 def wait_for(what, seconds):
-    """What the function gives once it is true, or None where it is not in that many seconds."""
+    """What the function gives once it is true, or None if it is not in that many seconds."""
     end = time.monotonic() + seconds
     while time.monotonic() < end:
         found = what()

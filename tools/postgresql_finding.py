@@ -78,7 +78,7 @@ def plain(wishes: Wishes) -> Found:
             version = file.read().strip()
         owner = pwd.getpwuid(os.stat(folder).st_uid).pw_name
     except OSError as why:
-        raise Failed(f"{folder} is no directory of a server: {why.strerror}: make it by initdb") from why
+        raise Failed(f"{folder} is no directory of a server: {why.strerror}: initdb makes one") from why
     unit = wishes.unit or f"postgresql-{name}.service"
     programs = wishes.bin or bin_of(version)
     return Found(name, folder, f"{folder}/postgresql.conf", programs, unit, wishes.unit is None, owner)

@@ -12,7 +12,7 @@ import postgresql_server as pg
 from postgresql_server import Failed, Place, Server
 
 SECONDS_TO_STOP, SECONDS_TO_REWIND, SECONDS_TO_COPY = 300, 21_600, 172_800
-# the configuration of a server that is in its directory, as where Debian did not make it
+# the configuration of a server that is in its directory, if Debian did not make it
 OWN_FILES = ("postgresql.conf", "pg_hba.conf", "pg_ident.conf")
 # what a server needs to follow a primary; what has parted is of no use until it is copied, and is not started
 WAIT, REWIND, COPY, PARTED = "wait", "rewind", "copy", "parted"
@@ -71,7 +71,7 @@ def has_checkpoint(server: Server, address: str, peer: Place) -> bool:
 
 
 def rewind(server: Server, address: str, say: Say) -> bool:
-    """Rewinds the directory to where it parted from the peer's, and returns whether that is done.
+    """Rewinds the directory to the point at which it parted from the peer's, and returns whether that is done.
 
     What cannot be done is found out before a file is changed, unless an earlier try has changed some.
     """
@@ -94,7 +94,7 @@ def rewind(server: Server, address: str, say: Say) -> bool:
 
 
 def read_own_files(folder: str) -> Dict[str, bytes]:
-    """Returns the configuration that is in a server's directory, as where Debian did not make the server."""
+    """Returns the configuration that is in a server's directory, if Debian did not make the server."""
     found = {}
     for name in OWN_FILES:
         try:

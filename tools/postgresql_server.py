@@ -215,6 +215,14 @@ def psql(server: Server, where: str, sql: str, seconds: float = SECONDS_TO_ANSWE
     return done.out.rstrip("\n") if done.status == 0 else None
 
 
+def why_unanswered(server: Server, where: str) -> str:
+    """Returns why a server does not answer, in the words of psql."""
+    words = (f"{server.bin}/psql", "-XAtqw", "-d", where, "-c", "SELECT 1")
+    done = as_owner(server, *words, seconds=SECONDS_TO_ANSWER, env={"PGCONNECT_TIMEOUT": "2"})
+    lines = [line.strip() for line in done.err.splitlines() if line.strip()]
+    return " ".join(lines) if lines else f"psql ended with status {done.status}"
+
+
 def spot(server: Server, peer: Optional[str] = None, replication: bool = False) -> str:
     """Returns how libpq finds the local server, or that of a peer."""
     if peer is None:

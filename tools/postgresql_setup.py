@@ -104,7 +104,7 @@ class Steps:
         try:
             with open(path, encoding="utf-8") as file:
                 if file.read() == text:
-                    self.note(f"{path} is as it has to be")
+                    self.note(f"{path} has this content already")
                     return False
         except OSError:
             pass
@@ -123,7 +123,7 @@ def settings_of(server: Server, at: Found, choices: Choices) -> str:
         "# a former primary can be rewound",
         "wal_log_hints = on",
         f"wal_keep_size = '{choices.keeps}'",
-        "# a peer that is gone is seen before the lease ends: a shutdown waits for it so long",
+        "# a shutdown waits this long for a peer that is gone: less than the margin less the kill time",
         "wal_sender_timeout = '5s'",
         "wal_receiver_timeout = '5s'",
         "wal_receiver_status_interval = '1s'",
@@ -261,7 +261,8 @@ def set_up_primary(server: Server, at: Found, choices: Choices) -> None:
     steps = Steps(choices.only_shows)
     recovers = pg.psql(server, pg.spot(server), "SELECT pg_is_in_recovery()")
     if recovers is None:
-        raise Failed(f"no server answers at {server.socket}, port {server.port}: systemctl start {server.unit}")
+        why = pg.why_unanswered(server, pg.spot(server))
+        raise Failed(f"no server answers at {server.socket}, port {server.port}: {why}: systemctl start {server.unit}")
     if recovers == "t":
         raise Failed("this server is a standby: run setup --primary where the primary runs, and --standby here")
     restart = needs_restart(server)
@@ -362,12 +363,13 @@ def primary_of(server: Server) -> Tuple[str, pg.Place]:
     """Returns the peer that is the primary, and how far it is."""
     primaries = [(address, place) for address, place in pg.answered(server) if not place.is_standby]
     if not primaries:
+        whys = [f"{peer}: {pg.why_unanswered(server, pg.spot(server, peer))}" for peer in server.peers]
         raise Failed(
-            f"no primary answers {server.role} at {' or '.join(server.peers)}, port {server.peer_port}: "
-            "is it set up, has it this site's address as its peer, and is the port open?"
+            f"no primary answers {server.role} at port {server.peer_port}: is it set up, has it this site's address "
+            f"as its peer, and is the port open? {'; '.join(whys)}"
         )
     if len(primaries) > 1:
-        raise Failed("more than one peer is a primary")
+        raise Failed(f"more than one peer is a primary: {', '.join(address for address, _ in primaries)}")
     return primaries[0]
 
 

@@ -11,7 +11,7 @@ WORDS = {NOTICE: "notice", WARNING: "warning", CRITICAL: "critical"}
 
 
 class Problem(NamedTuple):
-    """Something that an operator has to know. `kind` is one of those that booth-status(8) lists."""
+    """Something that an operator must know. `kind` is one of those that booth-status(8) lists."""
 
     severity: int
     kind: str

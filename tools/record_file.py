@@ -91,7 +91,7 @@ def first_record(fields):
     if flag not in (0, 1):
         raise Torn(f"its flag is {flag}, neither 0 nor 1")
     if zeros or not flag and (lease_term or until):
-        raise Torn("a field that has to be 0 is not")
+        raise Torn("a field that must be 0 is not")
     return Record(1, term, Lease(lease_term, until) if flag else None)
 
 
@@ -102,7 +102,7 @@ def second_record(fields):
         raise Torn(f"its flags are {flags}, more than 7")
     parts = {HAS_LEASE: (lease_term, lease_until), HAS_BOUND: (bound,), HAS_PROMISE: (to, promise_term, promise_until)}
     if zero or zeros or any(any(values) for flag, values in parts.items() if not flags & flag):
-        raise Torn("a field that has to be 0 is not")
+        raise Torn("a field that must be 0 is not")
     return Record(
         2,
         term,
@@ -136,7 +136,7 @@ def slots_in(content) -> List[Slot]:
 
 
 def in_force(slots):
-    """The slot that the file stands for, or None where it keeps no record, and where it is torn."""
+    """The slot that the file stands for, or None if it keeps no record, and if it is torn."""
     if any(slot.why for slot in slots):
         return None
     # (of equal numbers the first counts, as max takes it)

@@ -30,7 +30,7 @@ class State(NamedTuple):
     word: str = ""
     status: str = ""
     is_paused: bool = False
-    # the end that the next follower reads, or None where no file has one
+    # the end that the next follower reads, or None if no file has one
     armed: Optional[int] = None
 
 
@@ -45,14 +45,14 @@ def since_boot() -> float:
 
 
 def text_of(path: str) -> Optional[str]:
-    """What a file of the folder has, or None where it is missing."""
+    """What a file of the folder has, or None if it is missing."""
     if not os.path.lexists(path):
         return None
     return configuration.bytes_of(path, FILE_BYTES).decode("ascii", "backslashreplace")
 
 
 def variable_in(path: str, name: str) -> Optional[str]:
-    """The last value of this name in a file of NAME=VALUE lines, as systemd reads them; None where there is none."""
+    """The last value of this name in a file of NAME=VALUE lines, as systemd reads them; None if there is none."""
     if not os.path.exists(path):
         return None
     value = None
@@ -64,9 +64,9 @@ def variable_in(path: str, name: str) -> Optional[str]:
 
 
 def read(ticket: str) -> Optional[State]:
-    """The state of this ticket's service, or None where nothing is known of it in this boot.
+    """The state of this ticket's service, or None if nothing is known of it in this boot.
 
-    Raises `Unreadable` where a file is none that follow-service writes.
+    Raises `Unreadable` if a file is none that follow-service writes.
     """
     path = os.path.join(folder(), f"{ticket}.state")
     text = text_of(path)

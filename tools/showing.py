@@ -53,11 +53,13 @@ def tickets(view):
     numbers = {answer.member.address: str(place) for place, answer in enumerate(view.answers, 1)}
     there = [answer.member.address for answer in view.answers if answer.held is not None]
     # (a machine on which nothing follows a ticket has no column of services)
-    services = view.here.services
+    services = {name: shown(service) for name, service in view.here.services.items()}
+    if view.here.cluster is not None:
+        services.update({name: service.shown() for name, service in view.here.cluster.services.items()})
     rows = [("TICKET", "MODE", "HOLDER", "LEFT", "UNTIL (UTC)", "SEEN BY", *(["SERVICE"] if services else []))]
     for ticket_view in view.tickets:
         name, mode = ticket_view.ticket.name, "manual" if ticket_view.ticket.is_manual else "auto"
-        service = [shown(services.get(name))] if services else []
+        service = [services.get(name, shown(None))] if services else []
         if not ticket_view.seen:
             rows.append((name, mode, "?", "-", "-", "none", *service))
         for seen in ticket_view.seen:

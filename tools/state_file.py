@@ -16,7 +16,7 @@ STATE_BYTES = 4_194_304
 
 
 def load(path, configuration):
-    """What the file remembers of the last look at this configuration, or None where there is no such file.
+    """What the file remembers of the last look at this configuration, or None if there is no such file.
 
     A file that is something else is refused, and so never written over.
     """

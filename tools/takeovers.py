@@ -50,13 +50,13 @@ def members_now(answers: List[Answer], moment: float) -> float:
 
 
 def is_late(ticket: Ticket, left: float) -> bool:
-    """Whether a renewal did not come in its time, where the lease runs on for so many seconds."""
+    """Whether a renewal did not come in its time, if the lease runs on for so many seconds."""
     tries = ticket.timeout * (2 if ticket.handler is None else ticket.retries + 1)
     return left < ticket.expire - ticket.renewal - tries - SLACK
 
 
 def told(takeover: Optional[Takeover], now: float) -> str:
-    """When the ticket is free and who is next, behind what is wrong; nothing where that is not known."""
+    """When the ticket is free and who is next, behind what is wrong; nothing if that is not known."""
     if takeover is None:
         return ""
     when = date(takeover.free_at)
@@ -69,7 +69,7 @@ def told(takeover: Optional[Takeover], now: float) -> str:
 
 
 def is_given_back(held: Holding, now: float) -> bool:
-    """Whether the holder gave the ticket back, where nobody holds it now."""
+    """Whether the holder gave the ticket back, if nobody holds it now."""
     return held.gave_back or held.end is not None and held.end > now + SLACK
 
 

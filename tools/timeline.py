@@ -5,7 +5,7 @@
 
 FILE has the lines that `boothd audit` prints, `ticket NAME, site ADDRESS, from FROM until UNTIL`, in milliseconds
 since 1970; without it they are read from standard input. A line that is none is refused by its number, with status 1.
-Lines of one site are joined where they touch. An overlap is where two sites have a line of one ticket at the same
+Lines of one site are joined if they touch. There is an overlap if two sites have a line of one ticket at the same
 reading, each by its own clock: if their clocks differ, they may overlap by that although they never held it together.
 """
 
@@ -158,7 +158,7 @@ def rows_of(holdings) -> List[Row]:
 
 
 def moment(millis, shape="%Y-%m-%d %H:%M:%S"):
-    """A moment as a date in UTC, or as its number where no date tells it."""
+    """A moment as a date in UTC, or as its number if no date tells it."""
     if millis >= NO_END:
         return str(millis)
     return time.strftime(shape, time.gmtime(millis // 1000))
@@ -210,7 +210,7 @@ class Axis:
         return next((step for step in STEPS if whole <= step * most), whole)
 
     def marks(self):
-        """The moments of the marks, each with what is said of it: the date where it is another than before."""
+        """The moments of the marks, each with what is said of it: the date if it is another than before."""
         step, day, marks = self.step(), None, []
         shape = "%H:%M" if step >= 60_000 else "%H:%M:%S"
         for millis in range(-(-self.span.start // step) * step, self.span.until + 1, step):
@@ -226,7 +226,7 @@ class Axis:
 
 
 def box(kind, axis, span, top, title):
-    """A bar with what is said where a pointer rests on it. One without an end goes on to the picture's edge."""
+    """A bar with what is said if a pointer rests on it. One without an end goes on to the picture's edge."""
     left = axis.at(span.start)
     right = WIDTH if span.until >= NO_END else axis.at(span.until)
     size = f'x="{left:.1f}" y="{top}" width="{max(right - left, 1):.1f}" height="{BAR}"'
@@ -244,7 +244,7 @@ def drawn_row(row, axis, top):
     parts = [f'<text x="{EDGE}" y="{middle + 4:.0f}">{escape(row.ticket)} at {escape(row.site)}</text>']
     parts += [box("held", axis, span, top, told_of(row, span, "at")) for span in row.held]
     parts += [box("both", axis, span, top, told_of(row, span, "at another site and at")) for span in row.both]
-    # (where there is room between them)
+    # (if there is room between them)
     if 0 < len(row.starts) * 4 < axis.right - axis.left:
         lines = (f"M{axis.at(start):.1f} {top}v{BAR}" for start in row.starts)
         parts.append(f'<path class="turn" d="{"".join(lines)}"/>')
@@ -252,7 +252,7 @@ def drawn_row(row, axis, top):
 
 
 def drawn_axis(axis, top, bottom):
-    """The axis below the rows, with a line up for each mark, and dates where they change."""
+    """The axis below the rows, with a line up for each mark, and dates if they change."""
     parts = [f'<path class="rule" d="M{axis.left:.1f} {bottom}H{axis.right:.1f}"/>']
     for millis, clock, date in axis.marks():
         across = axis.at(millis)

@@ -7,7 +7,7 @@ says something when it starts, and then when it acquires. It is imported by tool
 from problems import WARNING, Problem
 from wording import span
 
-# of so many messages in turn one comes, where the way is there at all
+# of so many messages in turn one comes, if the way is there at all
 LOST_IN_TURN = 3
 # how much later than in a lease a holder may be heard, in seconds: `last` is a whole second
 SLACK = 2
@@ -21,7 +21,7 @@ class End:
         self.peer = peer
         self.rise = change.peers.get(peer.address) if change else None
         self.age = answer.clock - peer.last if peer.last else None
-        # a holder renews in this time, in seconds, or None where it holds nothing
+        # a holder renews in this time, in seconds, or None if it holds nothing
         self.limit = limit
 
 
@@ -33,7 +33,7 @@ def limit_of(configuration, answer):
 
 
 def what_fails(sender, hearer):
-    """How it shows that nothing of the sender comes to the hearer, or None where it does not show."""
+    """How it shows that nothing of the sender comes to the hearer, or None if it does not show."""
     if sender.peer.sent and not hearer.peer.received:
         return "since it started"
     # a holder says something in the time of a lease, and is answered
