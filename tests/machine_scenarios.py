@@ -397,7 +397,7 @@ def another_key(world: World, holder: Machine) -> Optional[str]:
         for machine in world.machines.values():
             text = machine.read("/etc/booth/booth.conf")
             machine.write("/etc/booth/booth.conf", text.replace(now, step))
-            machine.must("systemctl", "restart", DAEMON, timeout=90)
+            world.restart(machine, DAEMON)
             world.await_that(f"{machine.name} answers", lambda machine=machine: world.leader(machine))
         now = step
         time.sleep(3)
@@ -414,7 +414,7 @@ def upgrade(world: World, holder: Machine) -> Optional[str]:
     """The package is installed again at each member, and the daemons are restarted one after another."""
     for machine in world.machines.values():
         machine.must("dpkg", "-i", "/root/booth.deb", timeout=120)
-        machine.must("systemctl", "restart", DAEMON, timeout=90)
+        world.restart(machine, DAEMON)
         world.await_that(f"{machine.name} answers", lambda machine=machine: world.leader(machine))
     stays(world, holder, EXPIRE)
     return None

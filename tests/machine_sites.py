@@ -155,6 +155,12 @@ class World:
         """Sends a signal to the first process of each unit, all of them at once."""
         site.must("kill", f"-{signal}", *(self.pid(site, unit) for unit in units))
 
+    def restart(self, machine: Machine, unit: str) -> None:
+        """Restarts a unit of a machine. Raises `Unlike` with the unit's lines if that fails."""
+        began = time.monotonic()
+        if machine.run("systemctl", "restart", unit, timeout=90).returncode != 0:
+            raise Unlike(f"{machine.name}: {unit} does not restart: {self.told(machine, unit, began).strip()}")
+
     def told(self, site: Machine, unit: str, since: float) -> str:
         """Returns the lines of a unit in a machine's journal since a moment of this process's clock."""
         seconds = int(time.monotonic() - since) + 1

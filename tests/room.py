@@ -298,6 +298,17 @@ class Room:
         require(is_refused, f"{what or words} gave {status}, {out} and {err}, and not {due}")
 
 
+def begun_second():
+    """The second of the clock, once it has begun also for a clock that is a little behind, and while enough of it is left
+    for datagrams and their answers."""
+    part = time.time() % 1
+    if part > 0.7:
+        time.sleep(1.05 - part)
+    elif part < 0.05:
+        time.sleep(0.05 - part)
+    return int(time.time())
+
+
 class Asker:
     """A client's socket, for one daemon."""
 
@@ -367,7 +378,7 @@ class Asker:
 
     def is_heard(self, datagram, what):
         """This datagram of a member has no reply here. It is counted, and its ticket hears it."""
-        since = int(time.time())
+        since = begun_second()
         self.send(datagram)
         self.daemon.hears(gate.split(datagram), since)
         self.asks("Peer", what=f"Peer after {what}")
@@ -375,7 +386,7 @@ class Asker:
 
     def meets(self, datagrams):
         """Each of these is dropped, counted or answered as tests/gate.py says."""
-        since, counts, answers = int(time.time()), self.daemon.counts, []
+        since, counts, answers = begun_second(), self.daemon.counts, []
         for datagram in datagrams:
             self.send(datagram)
             found = gate.verdict(self.station, datagram, since)
