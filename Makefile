@@ -145,13 +145,14 @@ $(PACKAGE): build $(wildcard packaging/*)
 	@install -m 644 packaging/conffiles out/deb/DEBIAN
 	@find out/deb/usr/share/man out/deb/usr/share/doc/booth-proved/changelog -type f -exec gzip -9n {} +
 	@dpkg-deb --root-owner-group --build out/deb $@
+	@rm -rf out/deb
 
 out/boothd: crates/boothd/out/boothd
 	@mkdir -p out
 	cp $< $@
-# (one file, which is the program that it is run as)
+# (one file, which is the program that it is run as; rt ci refuses symbolic links)
 $(PROGRAM_LINKS:%=out/%): out/boothd
-	ln -sf boothd $@
+	ln -f $< $@
 
 # rt run proves, builds and then runs a program, here without words, which is a usage error: so the program that it leaves
 # tells whether it was proved, and not its status. rt ci leaves the programs too.
