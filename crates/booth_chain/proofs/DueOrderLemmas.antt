@@ -25,24 +25,24 @@ in_at [] at other lt = absurd (omega arith)
 in_at (entry ∷ rest) zero other lt = inl (refl, refl)
 in_at (entry ∷ rest) (suc at) other lt = inr (in_at rest at other (omega arith))
 
-contained : (d s : ℕ) (list : List (ℕ × ℕ)) → IsIn d s list → Contains list (d, s)
+pub contained : (d s : ℕ) (list : List (ℕ × ℕ)) → IsIn d s list → Contains list (d, s)
 contained d s [] h = absurd h
 contained d s ((e, t) ∷ rest) (inl same) = let p = same.0 in let q = same.1 in (0, omega arith, cc)
 contained d s (entry ∷ rest) (inr h) =
     let more = contained d s rest h in
     (suc more.0, omega (arith, more.1), more.2)
 
-is_in : (d s : ℕ) (list : List (ℕ × ℕ)) → Contains list (d, s) → IsIn d s list
+pub is_in : (d s : ℕ) (list : List (ℕ × ℕ)) → Contains list (d, s) → IsIn d s list
 is_in d s list h = subst (λ (entry : ℕ × ℕ). IsIn entry.0 entry.1 list) h.2 (in_at list h.0 (d, s) h.1)
 
-abbrev IsBefore : ℕ × ℕ → ℕ × ℕ → Type 0
+abbrev pub IsBefore : ℕ × ℕ → ℕ × ℕ → Type 0
 IsBefore entry later = IsTrue (comes_before entry.0 entry.1 later.0 later.1)
 
 -- a pair comes before all of a list where it comes before each pair in it
-before_list : (entry : ℕ × ℕ) (list : List (ℕ × ℕ)) → ((d s : ℕ) → IsIn d s list → IsBefore entry (d, s)) → All (IsBefore entry) list
+pub before_list : (entry : ℕ × ℕ) (list : List (ℕ × ℕ)) → ((d s : ℕ) → IsIn d s list → IsBefore entry (d, s)) → All (IsBefore entry) list
 before_list entry list each at other lt = each (get_or list at other).0 (get_or list at other).1 (in_at list at other lt)
 
-before_each : (entry : ℕ × ℕ) (list : List (ℕ × ℕ)) → All (IsBefore entry) list → (d s : ℕ) → IsIn d s list → IsBefore entry (d, s)
+pub before_each : (entry : ℕ × ℕ) (list : List (ℕ × ℕ)) → All (IsBefore entry) list → (d s : ℕ) → IsIn d s list → IsBefore entry (d, s)
 before_each entry list all d s h =
     let at = contained d s list h in
     subst (IsBefore entry) at.2 (all at.0 (d, s) at.1)

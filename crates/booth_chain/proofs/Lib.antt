@@ -10,3 +10,6 @@ pub mod DueOrderLemmas
 pub mod SearchLemmas
 pub mod MoveLemmas
 pub mod ReachLemmas
+pub mod SortLemmas
+pub mod DrainLemmas
+pub mod CollectLemmas

@@ -19,12 +19,12 @@ use Rattle.booth_chain.proofs.NodesLemmas.{same_or_not}
 use Rattle.booth_chain.proofs.MoveLemmas.{eq_no, one_if}
 
 -- how many buckets after that of the latest sweep a deadline stands
-abbrev distance : ℕ → Option ℕ → ℕ
+abbrev pub distance : ℕ → Option ℕ → ℕ
 distance swept None = 512
 distance swept (Some deadline) = (max deadline swept / 128 - swept / 128) % 512
 
 -- its bucket is looked at
-abbrev is_near : ℕ → ℕ → Option ℕ → Bool
+abbrev pub is_near : ℕ → ℕ → Option ℕ → Bool
 is_near swept many deadline = nat_lt (distance swept deadline) many
 
 -- two counts are one where their tests agree, and add up where they part a third
@@ -34,18 +34,18 @@ count_same p q (d ∷ rest) same =
     let head : one_if (p d) ≡ one_if (q d) = ap (λ b. one_if b) (same 0 (omega arith)) in
     omega (arith, head, sum_by-cons (λ o. cond (p o) 1 0) d rest, sum_by-cons (λ o. cond (q o) 1 0) d rest, count_same p q rest (λ s lt. same (suc s) (omega arith)))
 
-count_parts : (p q r : Option ℕ → Bool) (ds : List (Option ℕ)) → ((d : Option ℕ) → one_if (p d) ≡ one_if (q d) + one_if (r d)) → count_by p ds ≡ count_by q ds + count_by r ds
+pub count_parts : (p q r : Option ℕ → Bool) (ds : List (Option ℕ)) → ((d : Option ℕ) → one_if (p d) ≡ one_if (q d) + one_if (r d)) → count_by p ds ≡ count_by q ds + count_by r ds
 count_parts p q r [] parts = refl
 count_parts p q r (d ∷ rest) parts =
     omega (arith, parts d, sum_by-cons (λ o. cond (p o) 1 0) d rest, sum_by-cons (λ o. cond (q o) 1 0) d rest, sum_by-cons (λ o. cond (r o) 1 0) d rest, count_parts p q r rest parts)
 
-count_none : (p : Option ℕ → Bool) (ds : List (Option ℕ)) → ((d : Option ℕ) → p d ≡ false) → count_by p ds ≡ 0
+pub count_none : (p : Option ℕ → Bool) (ds : List (Option ℕ)) → ((d : Option ℕ) → p d ≡ false) → count_by p ds ≡ 0
 count_none p [] none = refl
 count_none p (d ∷ rest) none =
     let head : one_if (p d) ≡ 0 = ap (λ b. one_if b) (none d) in
     omega (arith, head, sum_by-cons (λ o. cond (p o) 1 0) d rest, count_none p rest none)
 
-same_bucket : (from m j : ℕ) → from ≤ m → j < 512 → (m - from) % 512 ≡ j → m % 512 ≡ (from + j) % 512
+pub same_bucket : (from m j : ℕ) → from ≤ m → j < 512 → (m - from) % 512 ≡ j → m % 512 ≡ (from + j) % 512
 same_bucket from m j le lt e = omega arith
 
 same_distance : (from m j : ℕ) → from ≤ m → j < 512 → m % 512 ≡ (from + j) % 512 → (m - from) % 512 ≡ j
@@ -68,7 +68,7 @@ by_number distance bucket after j there back =
           ]
     ]
 
-near_parts : (swept j : ℕ) → j < 512 → (d : Option ℕ) → one_if (is_near swept (suc j) d) ≡ one_if (is_near swept j d) + one_if (nat_eq (bucket_of swept d) (bucket_after (swept / 128) j))
+pub near_parts : (swept j : ℕ) → j < 512 → (d : Option ℕ) → one_if (is_near swept (suc j) d) ≡ one_if (is_near swept j d) + one_if (nat_eq (bucket_of swept d) (bucket_after (swept / 128) j))
 near_parts swept j lt None =
     by_number 512 512 (bucket_after (swept / 128) j) j (λ e. omega arith) (λ e. omega arith)
 near_parts swept j lt (Some deadline) =
@@ -184,10 +184,15 @@ near_in_reach swept now order (Some deadline) =
       ]
     ]
 
+-- so many deadlines are in reach as are in the buckets that are looked at, or more
+pub near_reach : (swept now : ℕ) → swept ≤ now → (deadlines : List (Option ℕ)) → count_by (is_near swept (buckets_between swept now)) deadlines ≤ count_by (is_in_reach swept now) deadlines
+near_reach swept now order deadlines =
+    sum_by-le-sum_by (λ d. cond (is_near swept (buckets_between swept now) d) 1 0) (λ d. cond (is_in_reach swept now d) 1 0) deadlines (near_in_reach swept now order)
+
 pub find_steps : (pool : Pool ℕ) (slots : List Slot) (last swept now many : ℕ) (old : Timer) → IsKept pool slots last swept → timer_of slots last swept ≡ old → old.last ≤ now → many ≡ buckets_between swept now → looks pool (swept / 128) many ≤ most_steps old now
 find_steps pool slots last swept now many old k is later many_is =
     let few : buckets_between swept now ≤ 512 = omega arith in
     let order : swept ≤ now = omega (arith, k.order, ap (λ (t : Timer). t.last) is) in
     let exact = ap (looks pool (swept / 128)) many_is ∙ looks_counted pool slots swept (buckets_between swept now) k.bucketed few in
-    let fewer = sum_by-le-sum_by (λ d. cond (is_near swept (buckets_between swept now) d) 1 0) (λ d. cond (is_in_reach swept now d) 1 0) (deadlines_of slots) (near_in_reach swept now order) in
+    let fewer = near_reach swept now order (deadlines_of slots) in
     omega (arith, exact, fewer, ap (λ (t : Timer). most_steps t now) is)

@@ -90,7 +90,7 @@ pub record Walked (entries : List (ℕ × ℕ)) (deadlines : List (Option ℕ)) 
   pub many : count ≡ length seen
   pub found : IsFirstOf (SlotIn seen) deadlines now first
 
-entry_first : (entries : List (ℕ × ℕ)) (node : ℕ) → first_node entries ≡ Some node → (item : ℕ) × (rest : List (ℕ × ℕ)) × (entries ≡ (node, item) ∷ rest)
+unfoldable pub entry_first : (entries : List (ℕ × ℕ)) (node : ℕ) → first_node entries ≡ Some node → (item : ℕ) × (rest : List (ℕ × ℕ)) × (entries ≡ (node, item) ∷ rest)
 entry_first [] node e = absurd (cc)
 entry_first (x ∷ rest) node e = let n : x.0 ≡ node = cc in (x.1, rest, ap (λ m. (m, x.1) ∷ rest) n)
 
@@ -121,7 +121,7 @@ pub length-one_more : (xs : List (ℕ × ℕ)) (x : ℕ × ℕ) → length (xs +
 length-one_more [] x = omega arith
 length-one_more (y ∷ xs) x = omega (arith, length-one_more xs x)
 
-append_one : (xs : List (ℕ × ℕ)) (x : ℕ × ℕ) (ys : List (ℕ × ℕ)) → xs ++ x ∷ ys ≡ (xs ++ x ∷ []) ++ ys
+pub append_one : (xs : List (ℕ × ℕ)) (x : ℕ × ℕ) (ys : List (ℕ × ℕ)) → xs ++ x ∷ ys ≡ (xs ++ x ∷ []) ++ ys
 append_one [] x ys = refl
 append_one (y ∷ xs) x ys = ap (λ zs. y ∷ zs) (append_one xs x ys)
 

@@ -1,10 +1,10 @@
--- How many steps a look for what is due takes at most, by buckets of 128 ms and the slots in them.
+-- How many steps a look for due slots takes at most, in terms of the 128 ms buckets and the slots in them.
 use Rattle.std.specs.Prelude.{ℕ, ◌+◌, ◌-◌, ◌/◌, ◌%◌, Bool, false, ◌||◌, nat_le, nat_eq, min, Option, Some, None}
 use Rattle.std.specs.List.{count_by, list_any, range_with_len}
 use Rattle.booth_chain.specs.Wheel.{Timer}
 use Rattle.booth_chain.specs.declared.buckets.TheConstants.{SPAN_MS, BUCKETS}
 
--- how many buckets there are from that of one moment to that of a later one: all 512 at most
+-- how many buckets there are from that of one moment to that of a later one: at most all 512
 abbrev pub buckets_between : ℕ → ℕ → ℕ
 buckets_between swept now = min BUCKETS (now / SPAN_MS - swept / SPAN_MS + 1)
 
@@ -16,8 +16,7 @@ is_in_reach swept now (Some deadline) =
     || list_any (λ span. nat_eq ((deadline / SPAN_MS) % BUCKETS) (span % BUCKETS))
     (range_with_len (swept / SPAN_MS) (now / SPAN_MS - swept / SPAN_MS + 1))
 
--- the buckets since the latest moment at which nothing was due, and the slots whose deadline is in
--- reach of them
+-- the buckets since the latest moment at which nothing was due, and the slots whose deadline is in their reach
 abbrev pub most_steps : Timer → ℕ → ℕ
 most_steps timer now =
     buckets_between timer.swept now + count_by (is_in_reach timer.swept now) timer.deadlines

@@ -7,7 +7,7 @@ comes_before deadline slot other_deadline other =
     if nat_lt deadline other_deadline then true
     else (nat_eq deadline other_deadline && nat_lt slot other)
 
--- a deadline and slot at their place among sorted ones
+-- a deadline and slot inserted at their place in a sorted list
 abbrev pub placed : ℕ → ℕ → List (ℕ × ℕ) → List (ℕ × ℕ)
 placed deadline slot [] = (deadline, slot) ∷ []
 placed deadline slot (entry ∷ rest) =
@@ -15,7 +15,7 @@ placed deadline slot (entry ∷ rest) =
     then (deadline, slot) ∷ entry ∷ rest
     else entry ∷ placed deadline slot rest
 
--- what is due among these slots, the first of which has this number
+-- the due slots among these, the first of which has this number
 abbrev pub due_from : ℕ → ℕ → List (Option ℕ) → List (ℕ × ℕ)
 due_from now slot [] = []
 due_from now slot (None ∷ rest) = due_from now (slot + 1) rest
@@ -27,8 +27,7 @@ due_from now slot (Some deadline ∷ rest) =
 abbrev pub due_list : ℕ → List (Option ℕ) → List (ℕ × ℕ)
 due_list now deadlines = due_from now 0 deadlines
 
--- the slot was the first of the due list, and the rest is left; where there was none, the list was
--- empty
+-- the slot was the first of the due list, and the rest remains; or the list was empty
 abbrev pub Drains : List (ℕ × ℕ) → Option ℕ → List (ℕ × ℕ) → Type 0
 Drains old None new = (old ≡ []) × (new ≡ [])
 Drains old (Some slot) new = (deadline : ℕ) × (old ≡ (deadline, slot) ∷ new)

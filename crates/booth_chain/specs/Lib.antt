@@ -8,3 +8,4 @@ pub mod Links
 pub mod Items
 pub mod Slots
 pub mod Search
+pub mod Draining

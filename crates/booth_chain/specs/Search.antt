@@ -6,14 +6,14 @@ use Rattle.booth_chain.specs.Slots.{IsIn}
 use Rattle.booth_chain.specs.declared.slot.Found.{Found}
 use Rattle.booth_chain.specs.declared.buckets.TheConstants.{BUCKETS}
 
--- Among the slots that were seen this is the first that is due, by deadline and then slot.
+-- This is the first slot that is due, by deadline and then slot, among those that were seen.
 pub record IsFirstSeen (seen : ℕ → Type 0) (deadlines : List (Option ℕ)) (now : ℕ) (found : Found)
     : Type 0 where
   pub due : IsDue deadlines now found.slot found.deadline
   pub first : (other deadline : ℕ) → seen other → IsDue deadlines now other deadline
       → IsNotAfter found.deadline found.slot deadline other
 
--- what was found is that slot, or none of those that were seen is due
+-- what was found is that slot, or none of the slots that were seen is due
 abbrev pub IsFirstOf : (ℕ → Type 0) → List (Option ℕ) → ℕ → Option Found → Type 0
 IsFirstOf seen deadlines now None =
     (other deadline : ℕ) → seen other → IsDue deadlines now other deadline → ⊥
@@ -23,16 +23,16 @@ IsFirstOf seen deadlines now (Some found) = IsFirstSeen seen deadlines now found
 abbrev pub SlotIn : List (ℕ × ℕ) → ℕ → Type 0
 SlotIn entries slot = (node : ℕ) × IsIn node slot entries
 
--- the bucket so many after another
+-- the bucket that comes so many places after another
 abbrev pub bucket_after : ℕ → ℕ → ℕ
 bucket_after from step = (from + step) % BUCKETS
 
--- the slot is in one of so many buckets, from this one on
+-- the slot is in one of `count` buckets that start with this one
 abbrev pub SlotNear : Pool ℕ → ℕ → ℕ → ℕ → Type 0
 SlotNear pool from many slot =
     (step : ℕ) × (step < many) × SlotIn (items_at pool (bucket_after from step)) slot
 
--- a look at each of so many buckets, and at each slot in them
+-- one look at each of these buckets, and one at each slot in them
 abbrev pub looks : Pool ℕ → ℕ → ℕ → ℕ
 looks pool from zero = 0
 looks pool from (suc many) =
@@ -47,7 +47,7 @@ earlier_of (Some found) (Some other) =
     else (if nat_lt other.deadline found.deadline then Some other
     else (if nat_lt other.slot found.slot then Some other else Some found)))
 
--- the slot, where its deadline has come
+-- the slot, if its deadline has come
 abbrev pub found_at : ℕ → ℕ → Option ℕ → Option Found
 found_at now slot None = None
 found_at now slot (Some deadline) =

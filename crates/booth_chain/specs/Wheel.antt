@@ -1,18 +1,17 @@
 -- A timer: a deadline for each slot that has one, and the slots whose deadline has come.
 use Rattle.std.specs.Prelude.{◌≡◌, ◌⊎◌, ℕ, ◌<◌, ◌≤◌, List, replicate, slice_index_or, slice_set, Option, Some, None}
 
--- Each slot's deadline; the latest moment at which it was asked what is due, and the latest at
--- which nothing was.
+-- Each slot's deadline, the latest moment of a look for due slots, and the latest moment at which nothing was due.
 pub record Timer : Type 0 where
   pub deadlines : List (Option ℕ)
   pub last : ℕ
   pub swept : ℕ
 
--- so many slots, and no deadline
+-- this many slots, and no deadline
 abbrev pub new_timer : ℕ → Timer
 new_timer slots = record { deadlines = replicate slots None; last = 0; swept = 0 }
 
--- another deadline of one slot, or none
+-- a slot gets another deadline, or none
 abbrev pub with_deadline : Timer → ℕ → Option ℕ → Timer
 with_deadline timer slot deadline =
     record timer { deadlines = slice_set timer.deadlines slot deadline }
@@ -27,7 +26,7 @@ abbrev pub IsNotAfter : ℕ → ℕ → ℕ → ℕ → Type 0
 IsNotAfter deadline slot other_deadline other =
     (deadline < other_deadline) ⊎ ((deadline ≡ other_deadline) × (slot ≤ other))
 
--- Nothing was due, and nothing is changed but the two moments.
+-- Nothing was due, and nothing but the two moments changed.
 pub record NothingDue (old : Timer) (now : ℕ) (new : Timer) : Type 0 where
   pub none : (slot deadline : ℕ) → IsDue old.deadlines now slot deadline → ⊥
   pub new_is : new ≡ record { deadlines = old.deadlines; last = now; swept = now }

@@ -1,9 +1,10 @@
-//! A pool of nodes that are linked by index into many lists, and the timer of many deadlines.
+//! A pool of nodes that are linked by index into lists, and a timer of many deadlines.
 #![tactic(auto)]
 
 mod aim;
 mod buckets;
 mod chains;
+mod draining;
 pub mod laws;
 mod link;
 mod links;

@@ -11,7 +11,7 @@ use crate::slot::{Found, Slot};
 use crate::steps::Steps;
 use std::sync::ledger::Ledger;
 
-/// The first of two, by deadline and then slot.
+/// Returns the earlier of two slots, by deadline and then slot.
 fn earlier(first: Option<Found>, other: Option<Found>) -> Option<Found>
     ensures { result ≡ earlier_of first other }
 {
@@ -28,7 +28,7 @@ fn earlier(first: Option<Found>, other: Option<Found>) -> Option<Found>
     }
 }
 
-/// The slot, where its deadline has come.
+/// Returns the slot, if its deadline has come.
 fn found_if_due(now: u64, slot: u32, deadline: Option<u64>) -> Option<Found>
     ensures { result ≡ found_at now slot deadline }
 {
@@ -44,7 +44,7 @@ fn found_if_due(now: u64, slot: u32, deadline: Option<u64>) -> Option<Found>
     }
 }
 
-/// The first slot of a list that is due.
+/// Returns the first slot of a list that is due.
 fn first_in_bucket<L: Ledger>(
     pool: &Chains<u32>,
     slots: &[Slot],
@@ -68,7 +68,7 @@ fn first_in_bucket<L: Ledger>(
     first
 }
 
-/// The first slot that is due in so many buckets, from this one on.
+/// Returns the first slot that is due in these buckets.
 pub(crate) fn first_in_buckets<L: Ledger>(
     pool: &Chains<u32>,
     slots: &[Slot],

@@ -1,8 +1,8 @@
-//! What a timer knows of a slot.
+//! What a timer stores for a slot.
 
 use crate::node_id::NodeId;
 
-/// Where a slot stands in the pool, and its deadline.
+/// A slot's node in the pool, and its deadline.
 #[derive(Clone, Copy)]
 pub(crate) struct Slot {
     pub(crate) node: NodeId,

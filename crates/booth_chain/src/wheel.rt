@@ -3,10 +3,15 @@ ghost use Rattle.booth_chain.specs.Wheel.{new_timer, with_deadline, Due, IsDue};
 ghost use Rattle.booth_chain.specs.DueList.{DrainsDue};
 ghost use Rattle.booth_chain.specs.Buckets.{buckets_between, most_steps};
 ghost use Rattle.booth_chain.specs.Search.{IsFirstOf};
-ghost use Rattle.std.specs.Prelude.{◌≡◌, ℕ, ◌+◌, ◌<◌, ◌≤◌, length, replicate, slice_set, IfOk, Some, None};
+ghost use Rattle.booth_chain.specs.DueList.{due_list};
+ghost use Rattle.booth_chain.specs.Draining.{IsAfter, count_after, Collects, AreDue, cleared, drained};
+ghost use Rattle.booth_chain.specs.declared.buckets.TheConstants.{BUCKETS};
+ghost use Rattle.std.specs.Prelude.{◌≡◌, ◌≢◌, ℕ, ◌+◌, ◌<◌, ◌≤◌, [], length, map, replicate, slice_index_or, slice_set, vec_capacity, IfOk, Some, None};
+ghost use Rattle.std.specs.List.{All};
 
 use crate::buckets::{BUCKETS, LISTS, SPAN_MS, UNSET, bucket_of};
 use crate::chains::Chains;
+use crate::draining::{push_if_due, sort_once};
 use crate::search::first_in_buckets;
 use crate::slot::{Found, Slot};
 use crate::steps::Steps;
@@ -14,10 +19,10 @@ use std::alloc::{AllocError, Global};
 use std::marker::Model;
 use std::sync::ledger::Ledger;
 
-/// A deadline for each slot that has one, the latest moment of a call of `due`, and the latest at
-/// which nothing was due.
+/// A deadline for each slot that has one, the latest moment of a look for due slots, and the latest moment at which
+/// nothing was due.
 ///
-/// Each slot stands in one list of the pool: that of its deadline's bucket, or the last one.
+/// Each slot is in one list of the pool: that of its deadline's bucket, or the last one.
 #[derive(Drop)]
 pub struct Wheel {
     pool: Chains<u32>,
@@ -38,7 +43,7 @@ impl Model for Wheel {
 }
 
 impl Wheel {
-    /// A timer of so many slots, none of which has a deadline.
+    /// Returns a timer of slots without a deadline.
     pub fn new(alloc: Global, slots: u32) -> Result<Wheel, AllocError>
         ensures { IfOk result (λ wheel. wheel ≡ new_timer slots) }
     {
@@ -62,7 +67,7 @@ impl Wheel {
         })
     }
 
-    /// Gives a slot another deadline, or none: it moves to the list of that.
+    /// Moves a slot to the list of another deadline, or to that of the slots without one.
     fn put(&mut self, slot: u32, deadline: Option<u64>)
         requires { slot < length self.old.deadlines }
         ensures { self.new ≡ with_deadline self.old slot deadline }
@@ -76,7 +81,7 @@ impl Wheel {
         }
     }
 
-    /// Sets a slot's deadline, in the place of the one that it had.
+    /// Sets a slot's deadline, and replaces the one that it had.
     pub fn set(&mut self, slot: u32, deadline: u64)
         requires { slot < length self.old.deadlines }
         ensures { self.new ≡ with_deadline self.old slot (Some deadline) }
@@ -84,7 +89,7 @@ impl Wheel {
         self.put(slot, Some(deadline));
     }
 
-    /// Leaves a slot without a deadline.
+    /// Removes a slot's deadline.
     pub fn clear(&mut self, slot: u32)
         requires { slot < length self.old.deadlines }
         ensures { self.new ≡ with_deadline self.old slot None }
@@ -102,7 +107,7 @@ impl Wheel {
         self.swept = now;
     }
 
-    /// Notes when it was asked what is due.
+    /// Notes the moment of a look for due slots.
     fn ask(&mut self, now: u64)
         requires later { self.old.last ≤ now }
         ensures { self.new ≡ record self.old { last = now } }
@@ -110,7 +115,8 @@ impl Wheel {
         self.last = now;
     }
 
-    /// The first slot that is due, by deadline and then slot, among those of the buckets since nothing was due.
+    /// Returns the first slot that is due, by deadline and then slot. It looks at the buckets from the latest moment at
+    /// which nothing was due.
     fn find<L: Ledger>(&self, now: u64, steps: &mut Steps<L>) -> Option<Found>
         requires { self.now.last ≤ now }
         ensures first { IsFirstOf (λ (slot : ℕ). slot < length self.now.deadlines) self.now.deadlines now result }
@@ -121,8 +127,8 @@ impl Wheel {
         first_in_buckets(&self.pool, &self.slots, from, many, now, steps)
     }
 
-    /// The slot with the smallest pair of deadline and slot whose deadline is at most `now`. It has
-    /// no deadline any more. None exactly where there is none.
+    /// Removes the deadline of the slot with the smallest pair of deadline and slot whose deadline is at most `now`,
+    /// and returns the slot. Returns None if and only if there is no such slot.
     ///
     /// It looks at the buckets from the latest moment at which nothing was due to `now`, and at the slots in them.
     /// Each look is a step.
@@ -143,5 +149,84 @@ impl Wheel {
                 None
             }
         }
+    }
+
+    /// Returns how many buckets there are from that of the latest moment at which nothing was due to that of `now`.
+    fn reach(&self, now: u64) -> u64
+        requires { self.now.last ≤ now }
+        ensures many { result ≡ buckets_between self.now.swept now }
+        ensures order { self.now.swept ≤ now }
+    {
+        (now / SPAN_MS - self.swept / SPAN_MS + 1).min(BUCKETS)
+    }
+
+    /// Appends the due slots of the bucket that comes `step` buckets after that of the latest moment at which nothing
+    /// was due.
+    fn collect_bucket<L: Ledger>(
+        &self,
+        step: u64,
+        now: u64,
+        due: &mut Vec<u32>,
+        steps: &mut Steps<L>,
+    )
+        requires exists { step < BUCKETS }
+        requires room { length due.old.items + count_after self.now step ≤ vec_capacity due.old }
+        ensures found { Collects (IsAfter self.now step) self.now.deadlines now due.old.items due.new.items }
+        ensures few { length due.new.items ≤ length due.old.items + count_after self.now step }
+        ensures room { vec_capacity due.new ≡ vec_capacity due.old }
+        ensures steps { steps.new ≡ steps.old + 1 + count_after self.now step }
+    {
+        let bucket = ((self.swept / SPAN_MS + step) % BUCKETS) as u32;
+        let mut at = self.pool.first(bucket, steps);
+        while let Some(node) = at {
+            let slot = *self.pool.at(node);
+            push_if_due(due, slot, self.slots[slot as usize].deadline, now);
+            at = self.pool.next(node, steps);
+        }
+    }
+
+    /// Collects the due slots in `due`, bucket by bucket.
+    fn collect<L: Ledger>(&self, now: u64, due: &mut Vec<u32>, steps: &mut Steps<L>)
+        requires later { self.now.last ≤ now }
+        requires room { length self.now.deadlines ≤ vec_capacity due.old }
+        ensures found { AreDue self.now.deadlines now due.new.items }
+        ensures room { vec_capacity due.new ≡ vec_capacity due.old }
+        ensures steps { steps.new ≤ steps.old + most_steps self.now now }
+    {
+        due.clear();
+        for step in 0..self.reach(now) {
+            self.collect_bucket(step, now, due, steps);
+        }
+    }
+
+    /// Removes the deadlines of these slots.
+    fn clear_each(&mut self, slots: &[u32])
+        requires { All (λ slot. slot < length self.old.deadlines) slots.now }
+        ensures { self.new ≡ record self.old { deadlines = cleared slots.now self.old.deadlines } }
+    {
+        for &slot in slots {
+            self.clear(slot);
+        }
+    }
+
+    /// Puts the slots whose deadline is at most `now` into `due`, by deadline and then slot: the slots that repeated
+    /// calls of `due` would return. Their deadlines are removed.
+    ///
+    /// It looks once at what one call of `due` looks at. Each look is a step.
+    pub fn drain<L: Ledger>(&mut self, now: u64, due: &mut Vec<u32>, steps: &mut Steps<L>)
+        requires later { self.old.last ≤ now }
+        requires room { length self.old.deadlines ≤ vec_capacity due.old }
+        ensures due { due.new.items ≡ map (λ entry. entry.1) (due_list now self.old.deadlines) }
+        ensures left { self.new ≡ drained self.old now }
+        ensures rest { (slot : ℕ) → All (λ gone. gone ≢ slot) due.new.items
+            → slice_index_or self.new.deadlines slot None ≡ slice_index_or self.old.deadlines slot None }
+        ensures room { vec_capacity due.new ≡ vec_capacity due.old }
+        ensures steps { steps.new ≤ steps.old + most_steps self.old now }
+    {
+        self.collect(now, due, steps);
+        // A slot is in one bucket only, so none was collected twice. Removing repetitions saves a proof of that.
+        sort_once(&self.slots, due);
+        self.clear_each(due);
+        self.sweep(now);
     }
 }
