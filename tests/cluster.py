@@ -8,7 +8,8 @@ if a check failed. If a program is not built it checks nothing, with status 0.
 What an operator does is done by booth and geostore, at each member: their status and each text that they print or
 say are held to what they must be. The stories of handlers and of tickets that are granted manually stand in
 handler_stories.py, those of members that are killed and started anew in promise_stories.py, that of the log in
-log_stories.py, that of a file that changes in change_stories.py, and those of moves in move_stories.py.
+log_stories.py, that of a file that changes in change_stories.py, that of a ticket that is shown in show_stories.py, and
+those of moves in move_stories.py.
 
 Who holds a ticket is judged from the record files and this machine's clock, hundred times a second over
 the whole run, and never from what a daemon says of itself. Each daemon writes a journal, and if boothd has an
@@ -32,6 +33,7 @@ import change_stories  # (its story comes into the list)
 import key_stories  # (its stories are taken into the list)
 import log_stories  # (its story comes into the list)
 import move_stories  # (its stories are taken into the list)
+import show_stories  # (its story comes into the list)
 from auditing import AuditedCluster
 from handler_stories import handler_in
 from members import MANUAL, TICKET, Times, now, wait_for
@@ -51,6 +53,7 @@ from stories import (
     require,
     says,
     slack,
+    stands,
     stories,
     story,
 )
@@ -85,6 +88,8 @@ def two_sites_and_an_arbitrator(cluster):
     for member in cluster.members:
         counts_as(member)
     passed("booth lists the ticket, its owner and the lease's end, and the members, at each member")
+    term = stands(cluster, one)
+    passed("each member tells who holds the ticket, and the holder alone the term of its lease")
     says(one, ("grant", NAME), 0, f"ticket {NAME} granted\n")
     says(two, ("grant", NAME), 1, "booth: ticket is granted elsewhere\n")
     says(cluster.members[2], ("grant", NAME), 1, "booth: invalid argument\n")
@@ -116,10 +121,14 @@ def two_sites_and_an_arbitrator(cluster):
     require(until <= taken <= latest, f"taken over {taken - until:.3f} s after the lease's end")
     require(wait_for(lambda: cluster.shown_by_all() == two.address, PATIENCE), "the new owner is not listed")
     passed(f"another site takes over after the lease's end and within its failover time ({taken - until:.3f} s)")
+    later = stands(cluster, two)
+    require(later > term, f"the new owner tells the term {later}, and the old one told {term}")
+    passed("the new owner tells a greater term than the old one did")
 
     one.start(cluster.program, cluster.conf)
     require(not one.record().holds(now()), "the killed member holds")
     require(wait_for(lambda: one.shown() == two.address, PATIENCE), "it hears of no owner")
+    stands(cluster, two)
     passed("the killed member comes back, holds nothing, and hears who does")
 
     before = two.counts()[1]
@@ -129,6 +138,7 @@ def two_sites_and_an_arbitrator(cluster):
     passed("a revocation that is asked of another member is sent on to the holder, and answered once the lease is off the disk")
     require(wait_for(lambda: cluster.shown_by_all() is None and one.shown() is None, PATIENCE), "an owner is listed")
     lists(cluster, None)
+    stands(cluster, None)
     says(two, ("revoke", NAME), 1, "booth: ticket is not granted\n")
     said = lambda: {address: counts[1] - before[address][1] for address, counts in two.counts()[1].items()}
     require(wait_for(lambda: min(said().values()) >= 3, PATIENCE), f"the revocation was said {said()} times")

@@ -42,8 +42,12 @@ start() {
   sleep "${OCF_RESKEY_seconds:-0}"
   setsid python3 -IS "$writer" "/var/log/booth-test-$name.log" </dev/null >/dev/null 2>&1 &
   echo $! >"$pid_file"
-  sleep 0.2
-  runs
+  # (on a machine that does much else, a program begins late)
+  for _ in 1 2 3 4 5 6 7 8 9 10; do
+    sleep 0.2
+    ! runs || return 0
+  done
+  return 1
 }
 
 stop() {

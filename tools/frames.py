@@ -28,10 +28,10 @@ ATTR = 4
 BARE, TICKET, ATTRIBUTE, TEXT = range(4)
 BODY_OF = {
     **dict.fromkeys(["CLst", "Peer"], BARE),
-    **dict.fromkeys(["CGnt", "CRvk"], TICKET),
+    **dict.fromkeys(["CTkt", "CGnt", "CRvk"], TICKET),
     **dict.fromkeys(["ASet", "AGet", "ADel", "ALst"], ATTRIBUTE),
     **dict.fromkeys(["RLst", "RPer", "RALs"], TEXT),
-    **dict.fromkeys(["RGnt", "RRvk"], TICKET),
+    **dict.fromkeys(["RTkt", "RGnt", "RRvk"], TICKET),
     "RAtr": ATTRIBUTE,
     **dict.fromkeys(["Stat", "MIdx", "RVot", "VtFr", "HrtB", "Ack."], TICKET),
     **dict.fromkeys(["UpdE", "Revk", "RJC!"], TICKET),
@@ -39,7 +39,7 @@ BODY_OF = {
 
 # which command answers a client's
 ANSWER_TO = {
-    **{"CLst": "RLst", "Peer": "RPer", "CGnt": "RGnt", "CRvk": "RRvk", "ALst": "RALs"},
+    **{"CLst": "RLst", "CTkt": "RTkt", "Peer": "RPer", "CGnt": "RGnt", "CRvk": "RRvk", "ALst": "RALs"},
     **dict.fromkeys(["ASet", "AGet", "ADel"], "RAtr"),
 }
 MEMBERS_SAY = ["Stat", "MIdx", "RVot", "VtFr", "HrtB", "Ack.", "UpdE", "Revk", "RJC!"]

@@ -1,4 +1,4 @@
--- What an audit answers.
+-- The answer of an audit.
 use Rattle.std.specs.Prelude.{◌≡◌, ◌++◌, ℕ, true, List, [], ◌∷◌, map, take, slice_get}
 use Rattle.std.specs.Prelude.{Option, None, Some}
 use Rattle.std.specs.List.{All}
@@ -22,26 +22,26 @@ use Rattle.booth_audit.specs.Holdings.{Covers, Deeds, holdings_from}
 use Rattle.booth_audit.specs.Replay.{Event, deeds_of, replay}
 use Rattle.booth_journal.specs.Says.{Said, Says}
 
--- the id of the member at a place, or nobody's
+-- the id of the member at a place, or no one's
 abbrev pub id_of : List Member → Option ℕ → MemberId
 id_of members None = NO_ONE
 id_of members (Some place) = option_map_or (λ (member : Member). member.id) (slice_get members place) NO_ONE
 
--- that member, as its daemon runs
+-- the node of that member, as its daemon runs it
 abbrev pub node_of : ConfigSays → Option Ring → Option ℕ → NodeConfig
 node_of config ring at = record { config = config; ring = ring; me = id_of config.members at; second = true }
 
 -- ---- one journal
 
--- A text says calls, and all its starts are those of one member, of which no earlier journal is.
+-- A text consists of calls, and all its starts are those of one member that has no earlier journal.
 pub record IsMembers (config : ConfigSays) (earlier : List (Option ℕ)) (text : List ℕ) (at : Option ℕ)
     (all : List Said) : Type 0 where
   pub says : Says text all
   pub whose : IsOf config.members all at
   pub other : (place : ℕ) → at ≡ Some place → Has earlier at → ⊥
 
--- A text is a journal of the member at a place: each call was demanded, each start read what its member may have
--- kept, and this is what the member did.
+-- A text is the journal of the member at a place: the rules demanded each call, each start read records that its
+-- member may have written, and this is what the member did.
 pub record IsTrue (config : ConfigSays) (ring : Option Ring) (earlier : List (Option ℕ)) (text : List ℕ)
     (heard : Heard) : Type 0 where
   pub said : List Said
@@ -66,7 +66,7 @@ AreTrue config ring earlier texts more = ⊥
 abbrev pub deeds_by : Heard → Deeds
 deeds_by heard = record { member = heard.member; entries = deeds_of heard.events }
 
--- What an audit that finds no fault says.
+-- The answer of an audit that finds no fault.
 pub record IsAudited (config : ConfigSays) (ring : Option Ring) (texts : List (List ℕ)) (holdings : List Holding)
     : Type 0 where
   pub heard : List Heard
@@ -75,9 +75,9 @@ pub record IsAudited (config : ConfigSays) (ring : Option Ring) (texts : List (L
   pub held : holdings ≡ holdings_from (map deeds_by heard) 0 config.tickets
   pub covers : Covers config.tickets (map deeds_by heard) holdings
 
--- ---- one journal that is no member's, or that says what its member did not do
+-- ---- a journal that is no member's, or that does not fit what its member did
 
--- a journal of a member, and what it did before the first call that was not demanded
+-- a journal of a member, and what the member did before the first call that was not demanded
 pub record Replays (config : ConfigSays) (ring : Option Ring) (earlier : List (Option ℕ)) (text : List ℕ)
     (events : List Event) (strays : Option ℕ) : Type 0 where
   pub said : List Said
@@ -85,20 +85,20 @@ pub record Replays (config : ConfigSays) (ring : Option Ring) (earlier : List (O
   pub members : IsMembers config earlier text at said
   pub replayed : replay (node_of config ring at) said ≡ record { events = events; strays = strays }
 
--- It says calls, which are not those of one more member.
+-- A text that consists of calls, which are not those of one more member.
 pub record IsNoMembers (config : ConfigSays) (earlier : List (Option ℕ)) (text : List ℕ) : Type 0 where
   pub said : List Said
   pub says : Says text said
   pub wrong : (member : Option ℕ) → IsMembers config earlier text member said → ⊥
 
--- the call at this line was not demanded, and each start before it read what its member may have kept
+-- the call at this line was not demanded, and each start before it read records that its member may have written
 pub record DiffersAt (config : ConfigSays) (ring : Option Ring) (earlier : List (Option ℕ)) (text : List ℕ)
     (line : ℕ) : Type 0 where
   pub events : List Event
   pub replays : Replays config ring earlier text events (Some line)
   pub kept : AllReadKept [] (deeds_of events)
 
--- this line is the first that says a record which its member may not have kept
+-- this line is the first with a record that its member may not have written
 pub record IsNotKeptAt (config : ConfigSays) (ring : Option Ring) (earlier : List (Option ℕ)) (text : List ℕ)
     (line : ℕ) : Type 0 where
   pub events : List Event
@@ -106,7 +106,7 @@ pub record IsNotKeptAt (config : ConfigSays) (ring : Option Ring) (earlier : Lis
   pub replays : Replays config ring earlier text events strays
   pub wrong : FirstNotKept events line
 
--- what is wrong with one journal, where those before it are of these members
+-- what is wrong with one journal, if those before it are of these members
 abbrev pub IsWrong : ConfigSays → Option Ring → List (Option ℕ) → List ℕ → JournalFault → Type 0
 IsWrong config ring earlier text (wrongs.Line line) = IsFirstFault text line
 IsWrong config ring earlier text wrongs.Member = IsNoMembers config earlier text
@@ -116,7 +116,7 @@ IsWrong config ring earlier text wrongs.OutOfMemory = Unit {0}
 
 -- ---- faults
 
--- the first journal of which something is wrong
+-- the first journal that is wrong
 pub record HasWrong (config : ConfigSays) (ring : Option Ring) (texts : List (List ℕ)) (place : ℕ)
     (fault : JournalFault) : Type 0 where
   pub text : List ℕ
@@ -125,7 +125,7 @@ pub record HasWrong (config : ConfigSays) (ring : Option Ring) (texts : List (Li
   pub before : AreTrue config ring [] (take place texts) earlier
   pub wrong : IsWrong config ring (member_places earlier) text fault
 
--- No journal is wrong, and this line of one is the first that says a message which no journal has as its send.
+-- No journal is wrong, and this line of one is the first with a message that no journal has as a send.
 pub record HasUnsent (config : ConfigSays) (ring : Option Ring) (texts : List (List ℕ)) (place line : ℕ)
     : Type 0 where
   pub heard : List Heard
@@ -135,7 +135,7 @@ pub record HasUnsent (config : ConfigSays) (ring : Option Ring) (texts : List (L
   pub before : All (λ (other : Heard). AllHearSent heard [] (deeds_of other.events)) (take place heard)
   pub wrong : FirstUnsent heard one.events line
 
--- what a fault says; want of memory may come in place of any answer
+-- the meaning of a fault; out of memory may come in place of any answer
 abbrev pub HasFault : ConfigSays → Option Ring → List (List ℕ) → AuditFault → Type 0
 HasFault config ring texts (faults.Line place line) = HasWrong config ring texts place (wrongs.Line line)
 HasFault config ring texts (faults.Member place) = HasWrong config ring texts place wrongs.Member

@@ -1,4 +1,4 @@
--- How the replay of a journal goes on, start by start and session by session.
+-- The replay of a journal, start by start and session by session.
 use Rattle.std.specs.Prelude.{◌≡◌, ◌<◌, ◌≤◌, ◌+◌, ◌-◌, ◌/◌, ◌++◌, ℕ, Bool, true, false, List, [], ◌∷◌}
 use Rattle.std.specs.Prelude.{length, map, Option, None, Some}
 use Rattle.booth_base.specs.Tree.{Ends}
@@ -21,20 +21,20 @@ use Rattle.booth_audit.specs.Replay.{deeds_of, replayed, start_calls, with_event
 use Rattle.booth_audit.specs.Tally.{Tally, nothing_tallied, tallied, tallied_all}
 use Rattle.booth_audit.specs.Turns.{cut_of, events_from, with_events}
 
--- ---- what is left
+-- ---- the rest of the text
 
--- Calls that are left of a text: its bytes behind them are these, from this line on.
+-- Calls that are left in a text: the bytes after them are these, from this line on.
 pub record AreLeft (text : List ℕ) (line : ℕ) (rest : List ℕ) (at : ℕ) (left : List Said) : Type 0 where
   pub says : Says rest left
   pub within : at + length rest ≤ line + length text
   pub no_longer : length rest ≤ length text
 
--- the replay where a session is over: the next call was not demanded, or no session goes on
+-- the replay after a session: the next call was not demanded, or no session is under way
 abbrev pub after_session : NodeConfig → Bool → ℕ → List Said → Replayed
 after_session node true at left = record { events = []; strays = Some at }
 after_session node false at left = replayed node Idle at left
 
--- A replay of a text from some place on has these events, and then its session is over.
+-- The replay of a text from some place on has these events, and then its session is over.
 pub record IsOver (node : NodeConfig) (whole : Replayed) (events : List Event) (text : List ℕ) (line : ℕ)
     (strays : Bool) (rest : List ℕ) (at : ℕ) : Type 0 where
   pub then_left : List Said
@@ -46,8 +46,8 @@ pub record IsOver (node : NodeConfig) (whole : Replayed) (events : List Event) (
 abbrev pub kept_calls : List TicketConf → List Call
 kept_calls tickets = map (λ (ticket : TicketConf). calls.Kept ticket.name) tickets
 
--- The replay of a start that has read these records and is to make these calls: the next one stands at this line, and
--- where there is none the session goes on there.
+-- The replay of a start that has read these records and must still make these calls: the next call is at this line,
+-- and if there is none the session begins there.
 abbrev pub start_on : NodeConfig → ℕ → List (Option Record) → List Call → ℕ → List Said → Replayed
 start_on node reading records [] line left =
     with_event (record { what = Starts node reading records; line = line - 2 })
@@ -55,7 +55,7 @@ start_on node reading records [] line left =
 start_on node reading records (call ∷ more) line left =
     replayed node (Starting reading records (call ∷ more)) line left
 
--- A start is no session: its lines ended so, or one of its calls failed.
+-- A start without a session: its lines ended in this way, or one of its calls failed.
 abbrev pub IsNone : NodeConfig → Option End → ℕ → List Said → Replayed → Type 0
 IsNone node None line left whole = whole ≡ replayed node Idle line left
 IsNone node (Some Over) line left whole = whole ≡ replayed node Idle line left
@@ -63,7 +63,7 @@ IsNone node (Some Cut) line left whole =
     (said : Said) × (rest : List Said) × (left ≡ said ∷ rest) × (whole ≡ replayed node Idle (line + 1) rest)
 IsNone node (Some Differs) line left whole = whole ≡ record { events = []; strays = Some line }
 
--- all records of a start were read, or it is no session
+-- a start has read all records, or it has no session
 abbrev pub IsStarted : NodeConfig → ℕ → Option (List (Option Record)) → LinesLeft → List Said → Replayed
     → Type 0
 IsStarted node reading None place left whole = IsNone node place.end place.line left whole
@@ -71,16 +71,16 @@ IsStarted node reading (Some records) place left whole =
     (length records ≡ length node.config.tickets)
     × (whole ≡ start_on node reading records [] place.line left)
 
--- a start was read up to this place
+-- the state of a start that was read up to this place
 pub record HasStarted (node : NodeConfig) (reading : ℕ) (whole : Replayed) (records : Option (List (Option Record)))
     (old new : LinesLeft) : Type 0 where
   pub then_left : List Said
   pub left : AreLeft old.rest old.line new.rest new.line then_left
   pub started : IsStarted node reading records new then_left whole
 
--- ---- behind a session
+-- ---- after a session
 
--- What is left where lines ended so at this line: a call without its answer is skipped.
+-- The text that is left if lines ended in this way at this line: a call without an answer is skipped.
 abbrev pub IsBehind : Option End → List ℕ → ℕ → Bool → List ℕ → ℕ → Type 0
 IsBehind (Some Cut) rest line strays behind at =
     (strays ≡ false) × (at ≡ line + 1)
@@ -91,17 +91,17 @@ IsBehind end rest line strays behind at = (strays ≡ false) × (at ≡ line) ×
 
 -- ---- turns
 
--- what a turn tells, in two parts, of which the first has so many entries
+-- the calls that a turn records, in two parts, of which the first has this many entries
 abbrev pub ArePartsOf : Option (List Entry) → ℕ → List Entry → List Entry → Type 0
 ArePartsOf past count read unread = (past ≡ Some (read ++ unread)) × (length read ≡ count)
 
--- the call that was cut is tallied too: that of this line
+-- the interrupted call, which is at this line, is tallied too
 abbrev pub cut_tallied : MemberSays → Option End → ℕ → List Entry → Tally → Tally
 cut_tallied member (Some Cut) line (first ∷ later) tally =
     tallied member tally (record { what = IsCut (cut_of first); line = line })
 cut_tallied member end line unread tally = tally
 
--- The calls of a turn whose first line is this one, and which left the lines at another, are tallied.
+-- The tally of the calls of a turn that begins at one line and ends at another.
 pub record IsTurnTallied (member : MemberSays) (end : Option End) (line at : ℕ) (past : Option (List Entry))
     (old new : Tally) : Type 0 where
   pub read : List Entry
@@ -111,7 +111,7 @@ pub record IsTurnTallied (member : MemberSays) (end : Option End) (line at : ℕ
 
 -- ---- sessions
 
--- The turns of a member from this state on, to the end of its session, and what is tallied then.
+-- The turns of a member from this state on, up to the end of its session, and the tally at that point.
 pub record IsSession (member : MemberSays) (state : State) (text : List ℕ) (line : ℕ) (left : List Said)
     (old new : Tally) (strays : Bool) (rest : List ℕ) (at : ℕ) : Type 0 where
   pub events : List Event
@@ -132,7 +132,7 @@ pub record IsGoing (member : MemberSays) (first state : State) (text : List ℕ)
   pub stands : after_entries (Doing member.node (Ends first)) (deeds_of events) ≡ Doing member.node (Ends state)
   pub tallied : new ≡ tallied_all member old events
 
--- The calls of a member from some place on where it is down, or starts, to where no session goes on.
+-- The calls of a member from a place at which it is down or starts, up to a place at which no session is under way.
 pub record IsRun (member : MemberSays) (whole : Replayed) (text : List ℕ) (line : ℕ) (old new : Tally)
     (strays : Bool) (rest : List ℕ) (at : ℕ) : Type 0 where
   pub events : List Event
@@ -140,11 +140,11 @@ pub record IsRun (member : MemberSays) (whole : Replayed) (text : List ℕ) (lin
   pub sessions : (stand : Stand) → AreSessions stand (deeds_of events)
   pub tallied : new ≡ tallied_all member old events
 
--- the replay of a start that read its clock so
+-- the replay of a start that read its clock with this result
 abbrev pub started_at : NodeConfig → ℕ → ℕ → List Said → Replayed
 started_at node reading line left = replayed node (Starting reading [] (start_calls node)) line left
 
--- The next start with its session, where no session goes on: it reads a line, or its call was not demanded.
+-- The next start with its session, when no session is under way: it reads a line, or its call was not demanded.
 pub record IsNext (member : MemberSays) (text : List ℕ) (line : ℕ) (left : List Said) (old new : Tally)
     (strays : Bool) (rest : List ℕ) (at : ℕ) : Type 0 where
   pub run : IsRun member (replayed member.node Idle line left) text line old new strays rest at
@@ -152,7 +152,7 @@ pub record IsNext (member : MemberSays) (text : List ℕ) (line : ℕ) (left : L
 
 -- ---- journals
 
--- The sessions of a journal so far, behind which no session goes on.
+-- The sessions of a journal so far; no session is under way after them.
 pub record IsIdle (member : MemberSays) (text : List ℕ) (all : List Said) (tally : Tally) (rest : List ℕ) (at : ℕ)
     : Type 0 where
   pub events : List Event
@@ -162,7 +162,7 @@ pub record IsIdle (member : MemberSays) (text : List ℕ) (all : List Said) (tal
   pub sessions : AreSessions Down (deeds_of events)
   pub tallied : tally ≡ tallied_all member (nothing_tallied member.node.config.tickets) events
 
--- What a whole journal says of its member, up to the first call that was not demanded, and what is tallied of it.
+-- What a whole journal says about its member, up to the first call that was not demanded, and its tally.
 pub record IsReplayed (member : MemberSays) (all : List Said) (strays : Option ℕ) (tally : Tally) : Type 0 where
   pub events : List Event
   pub is : replayed member.node Idle 1 all ≡ record { events = events; strays = strays }

@@ -1,4 +1,4 @@
--- Which call is demanded of a member, and what is made of its answer.
+-- Which call the rules demand of a member, and the effect of its answer.
 use Rattle.std.specs.Prelude.{ℕ, Bool, false, List, [], bytes_eq, Option, None, Some, Result, Ok, Err}
 use Rattle.booth_base.specs.Tree.{Ends, Does}
 use Rattle.booth_auth.specs.Sealed.{sealed}
@@ -16,22 +16,22 @@ use Rattle.booth_node.specs.declared.node_config.NodeConfig.{NodeConfig}
 use Rattle.booth_node.specs.Reaction.{Ask, Send, Keep, Start}
 use Rattle.booth_node.specs.Session.{CutCall, CutKeep, CutNext, CutNow, CutSend, CutStart, Doing, Down, Hearing, Stand}
 
--- ---- the call that is demanded
+-- ---- the demanded call
 
 abbrev pub call_of : NodeConfig → Ask → Call
 call_of node (Send peer message) = calls.Send peer (sealed node.ring message)
 call_of node (Keep name tried) = calls.Keep name (written tried)
 call_of node (Start job) = calls.Job job.number job.ticket job.expires
 
--- A turn begins with a wait; then the clock is read; then each deed is done. Of a member that is down nothing is
--- demanded.
+-- A turn begins with a wait; then the member reads its clock; then it does each action. Nothing is demanded of a
+-- member that is down.
 abbrev pub demanded : Stand → Option Call
 demanded Down = None
 demanded (Doing node (Ends old)) = Some calls.Next
 demanded (Doing node (Does ask go)) = Some (call_of node ask)
 demanded (Hearing node old answer bytes) = Some calls.Now
 
--- two calls that are said by one line are one
+-- two calls are equal if their journal lines are
 abbrev pub is_call : Call → Call → Bool
 is_call one other = bytes_eq (call_text one) (call_text other)
 
@@ -48,7 +48,7 @@ abbrev pub done_by : Answer → Result (Unit {0}) Failed
 done_by answers.Done = Ok tt
 done_by answer = Err (record {})
 
--- what came: an arrival that is no datagram has no bytes
+-- the input: an arrival without a datagram has no bytes
 abbrev pub arrival_by : Answer → Result Arrival Failed
 arrival_by answers.Quiet = Ok arrivals.Quiet
 arrival_by answers.Stop = Ok arrivals.Stop
@@ -64,14 +64,15 @@ abbrev pub reading_by : Answer → ℕ
 reading_by (answers.Reading reading) = reading
 reading_by answer = 0
 
--- A deed as an entry. What no journal says of a call is as it was asked: the handler of a job, and its address.
+-- A call with its answer. What the journal does not contain is as the rules demanded it: the handler of a job, and
+-- its address.
 abbrev pub entry_by : NodeConfig → Ask → Answer → Entry
 entry_by node (Send peer message) answer = entries.Send peer (sealed node.ring message) (done_by answer)
 entry_by node (Keep name tried) answer = entries.Keep name tried (done_by answer)
 entry_by node (Start job) answer =
     entries.Start job.number job.ticket job.handler job.local job.expires (done_by answer)
 
--- the call that is demanded, with an answer
+-- the demanded call, with an answer
 abbrev pub made : Stand → Answer → Option Entry
 made Down answer = None
 made (Doing node (Ends old)) answer = Some (entries.Next 100 (arrival_by answer) (bytes_by answer))
@@ -83,7 +84,7 @@ cut_by node (Send peer message) = CutSend peer (sealed node.ring message)
 cut_by node (Keep name tried) = CutKeep name tried
 cut_by node (Start job) = CutStart job
 
--- the call that is demanded, without its answer
+-- the demanded call, without its answer
 abbrev pub cut : Stand → Option CutCall
 cut Down = None
 cut (Doing node (Ends old)) = Some CutNext

@@ -1,4 +1,4 @@
--- What all members sent and heard, and the fault of the first message that was heard and not sent.
+-- What all members sent and received, and the fault of the first message that was received and not sent.
 use Rattle.std.specs.Prelude.{◌≡◌, ℕ, List, [], ◌∷◌, map, slice_get, take, Some, Result, Ok, Err}
 use Rattle.std.specs.List.{All}
 use Rattle.booth_node.specs.Session.{AreSessions, Down}
@@ -19,18 +19,18 @@ sender_in exchange = record { id = exchange.id; sent = exchange.sent.now }
 abbrev pub senders_in : List Exchange → List Sender
 senders_in exchanges = map sender_in exchanges
 
--- all that it heard was sent
+-- every message that the member received was sent
 abbrev pub HeardWell : List Sender → Exchange → Type 0
 HeardWell senders exchange = All (λ (hears : Hears). IsHeardOf senders hears.bytes) exchange.heard.now
 
--- The first with a message that was not sent.
+-- The first member that received a message which was not sent.
 pub record IsFirstIn (senders : List Sender) (exchanges : List Exchange) (place line : ℕ) : Type 0 where
   pub exchange : Exchange
   pub is : slice_get exchanges place ≡ Some exchange
   pub earlier : All (HeardWell senders) (take place exchanges)
   pub wrong : IsFirstUnsent senders exchange.heard.now line
 
--- All was sent, or this is the first that was not; want of memory may come in place of both.
+-- All messages were sent, or this is the first that was not; out of memory may come in place of both.
 abbrev pub IsToldSo : List Sender → List Exchange → Result (Unit {0}) AuditFault → Type 0
 IsToldSo senders exchanges (Ok done) = All (HeardWell senders) exchanges
 IsToldSo senders exchanges (Err (faults.Unsent place line)) = IsFirstIn senders exchanges place line
@@ -39,7 +39,7 @@ IsToldSo senders exchanges (Err fault) = ⊥
 
 -- ---- by journals
 
--- What a member did is what this says of it.
+-- The exchange has what the journal says that its member did.
 pub record Tells (one : Heard) (exchange : Exchange) : Type 0 where
   pub member : MemberSays
   pub same_id : exchange.id ≡ one.id
@@ -49,7 +49,7 @@ pub record Tells (one : Heard) (exchange : Exchange) : Type 0 where
   pub own : AllOwn member.node (deeds_of one.events)
   pub counted : AreCounted one.events
 
--- of each journal, in their order
+-- for each journal, in order
 abbrev pub AllTell : List Heard → List Exchange → Type 0
 AllTell [] [] = Unit {0}
 AllTell (one ∷ all) (exchange ∷ exchanges) = Tells one exchange × AllTell all exchanges
@@ -58,7 +58,7 @@ AllTell all exchanges = ⊥
 abbrev pub HearsAll : List Heard → Heard → Type 0
 HearsAll all one = AllHearSent all [] (deeds_of one.events)
 
--- The first journal with a message that was heard and not sent, and the line of that message.
+-- The first journal with a message that was received and not sent, and the line of that message.
 pub record IsUnsentIn (all : List Heard) (place line : ℕ) : Type 0 where
   pub one : Heard
   pub is : slice_get all place ≡ Some one
@@ -71,7 +71,7 @@ IsUnsentFault all (Err (faults.Unsent place line)) = IsUnsentIn all place line
 IsUnsentFault all (Err faults.OutOfMemory) = Unit {0}
 IsUnsentFault all (Err fault) = ⊥
 
--- What is told of exchanges that tell of journals is the fault of these, or that they have none.
+-- The answer about the exchanges is the fault of their journals, or that there is none.
 abbrev pub ExchangesTell : Type 0
 ExchangesTell =
     (all : List Heard) (exchanges : List Exchange) (result : Result (Unit {0}) AuditFault) → AllTell all exchanges

@@ -1,4 +1,4 @@
--- What may be wrong with journals, each by itself.
+-- The faults of journals, each by itself.
 use Rattle.std.specs.Prelude.{◌≡◌, ◌<◌, ◌+◌, ◌-◌, ◌*◌, ◌++◌, ℕ, List, [], ◌∷◌, length, position}
 use Rattle.std.specs.Prelude.{slice_get, Option, None, Some, Ok}
 use Rattle.std.specs.List.{All, flat_map}
@@ -25,9 +25,9 @@ use Rattle.booth_wire.specs.Reading.{decoded}
 use Rattle.booth_audit.specs.Replay.{Event, deeds_of}
 use Rattle.booth_journal.specs.Says.{Said}
 
--- ---- whose a journal is
+-- ---- the owner of a journal
 
--- the addresses that its starts listen at
+-- the address at which a start listens
 abbrev pub opened_by : Call → List (Option Address)
 opened_by (calls.Open local) = local ∷ []
 opened_by call = []
@@ -40,31 +40,32 @@ abbrev pub place_of : List Member → Option Address → Option ℕ
 place_of members None = None
 place_of members (Some address) = position (is_at address) members
 
--- The starts that listen at these addresses are those of the member at a place. Where there is none they are nobody's.
+-- The starts that listen at these addresses are those of the member at a place. Without an address they are no one's.
 abbrev pub AreOf : List Member → List (Option Address) → Option ℕ → Type 0
 AreOf members locals None = locals ≡ []
 AreOf members locals (Some place) =
     (locals ≡ [] → ⊥) × All (λ (local : Option Address). place_of members local ≡ Some place) locals
 
--- All starts of a journal are. One in which none came to listen is nobody's.
+-- the same for all starts of a journal. A journal in which no start listened is no one's
 abbrev pub IsOf : List Member → List Said → Option ℕ → Type 0
 IsOf members all owner = AreOf members (opened_in all) owner
 
 -- ---- records
 
--- a start reads of each ticket a record that its member may have kept
+-- a start reads, for each ticket, a record that its member may have written
 abbrev pub ReadsKept : List SessionEntry → SessionEntry → Type 0
 ReadsKept before (Starts node reading records) =
     (place : ℕ) (conf : TicketConf) → slice_get node.config.tickets place ≡ Some conf
     → Has (may_after_all conf.name (no_record ∷ []) before) (record_at records place)
 ReadsKept before what = Unit {0}
 
--- each start behind these entries does
+-- each start after these entries does
 abbrev pub AllReadKept : List SessionEntry → List SessionEntry → Type 0
 AllReadKept before [] = Unit {0}
 AllReadKept before (what ∷ more) = ReadsKept before what × AllReadKept (before ++ what ∷ []) more
 
--- the record of the ticket at this place may not have been kept, and those of the tickets before it may
+-- the member may not have written the record of the ticket at this place, but may have written those of the tickets
+-- before it
 pub record MayNotRead (before : List SessionEntry) (tickets : List TicketConf) (records : List (Option Record))
     (place : ℕ) : Type 0 where
   pub conf : TicketConf
@@ -73,7 +74,7 @@ pub record MayNotRead (before : List SessionEntry) (tickets : List TicketConf) (
   pub others : (earlier : ℕ) (other : TicketConf) → earlier < place → slice_get tickets earlier ≡ Some other
       → Has (may_after_all other.name (no_record ∷ []) before) (record_at records earlier)
 
--- two lines say each read of a start, of which the last begins at the line of the start
+-- each read of a start has two lines, and the last read begins at the line of the start
 abbrev pub answer_line : ℕ → ℕ → ℕ → ℕ
 answer_line count place last = last + 1 - 2 * (count - 1 - place)
 
@@ -83,7 +84,7 @@ ReadsWrong before (Starts node reading records) last line =
     × (line ≡ answer_line (length node.config.tickets) place last)
 ReadsWrong before what last line = ⊥
 
--- the line of the first record that may not have been kept
+-- the line of the first record that the member may not have written
 pub record FirstNotKept (events : List Event) (line : ℕ) : Type 0 where
   pub before : List Event
   pub event : Event
@@ -94,13 +95,14 @@ pub record FirstNotKept (events : List Event) (line : ℕ) : Type 0 where
 
 -- ---- messages
 
--- whose a journal is, the id of that member, and what it did
+-- the owner of a journal, the id of that member, and what the member did
 pub record Heard : Type 0 where
   pub member : Option ℕ
   pub id : MemberId
   pub events : List Event
 
--- The member whose id a message bears sent the same message, by its journal. A send that failed or was cut is one too.
+-- The member whose id a message carries sent the same message, according to its journal. A send that failed or was
+-- interrupted counts.
 pub record WasSent (all : List Heard) (message : PlainMessage) : Type 0 where
   pub sender : Heard
   pub known : Has all sender
@@ -111,7 +113,7 @@ pub record WasSent (all : List Heard) (message : PlainMessage) : Type 0 where
   pub sent : IsSend event.what bytes
   pub same : decoded bytes ≡ Ok message
 
--- where the reading of a turn lets a member's message in, it was sent
+-- if the turn accepts a member's message at this reading, that message was sent
 abbrev pub HearsSent : List Heard → Stand → SessionEntry → Type 0
 HearsSent all (Hearing node old (Ok (arrivals.Datagram from)) bytes) (Makes (entries.Now reading)) =
     (message : PlainMessage)
@@ -119,14 +121,14 @@ HearsSent all (Hearing node old (Ok (arrivals.Datagram from)) bytes) (Makes (ent
     → direction_of message.head.cmd ≡ BetweenMembers → WasSent all message
 HearsSent all stand what = Unit {0}
 
--- behind these entries, each reading of a turn does
+-- the same for each reading of a turn after these entries
 abbrev pub AllHearSent : List Heard → List SessionEntry → List SessionEntry → Type 0
 AllHearSent all before [] = Unit {0}
 AllHearSent all before (what ∷ more) =
     HearsSent all (after_entries Down before) what × AllHearSent all (before ++ what ∷ []) more
 
--- The line of the first datagram with a member's message that no journal has as a send of that member: it is the answer
--- of the wait before the reading that lets it in.
+-- The line of the first datagram with a member's message that no journal has as a send of that member: it is the
+-- answer of the wait before the reading at which the message is accepted.
 pub record FirstUnsent (all : List Heard) (events : List Event) (line : ℕ) : Type 0 where
   pub before : List Event
   pub event : Event

@@ -1,4 +1,4 @@
--- A host that replays a journal, and a turn over it.
+-- A host that replays a journal, and a turn with it.
 use Rattle.std.specs.Prelude.{◌≡◌, ◌≤◌, ◌+◌, ◌^◌, ℕ, List, length, Option, Some}
 use Rattle.booth_base.specs.Tree.{Ends}
 use Rattle.booth_host.specs.declared.entry.Entry.{Entry}
@@ -13,12 +13,12 @@ use Rattle.booth_audit.specs.Left.{LinesLeft}
 use Rattle.booth_audit.specs.Reads.{Reads}
 use Rattle.booth_audit.specs.Turns.{IsReplayOf}
 
--- what is seen of it
+-- the part of it that contracts see
 pub record Seen : Type 0 where
   pub place : LinesLeft
   pub past : Option (List Entry)
 
--- it has read so far
+-- what it has read so far
 pub record HasRead (text : List ℕ) (line : ℕ) (left : List Said) (place : LinesLeft) (entries : List Entry)
     : Type 0 where
   pub then_left : List Said
@@ -27,7 +27,7 @@ pub record HasRead (text : List ℕ) (line : ℕ) (left : List Said) (place : Li
   pub bound : line + length text ≤ 2 ^ 63
   pub reads : Reads entries line left place.end place.line then_left
 
--- as long as it tells its calls
+-- as long as it records its calls
 abbrev pub IsReplay : List ℕ → ℕ → Seen → Type 0
 IsReplay text line seen =
     (entries : List Entry) → seen.past ≡ Some entries → (left : List Said) → Says text left
@@ -35,8 +35,9 @@ IsReplay text line seen =
 
 -- ---- a turn
 
--- A turn from one state to another was replayed over a text that says these calls, the first at this line. Behind it
--- these bytes are left, from this line on; the lines ended so, or have not ended; and it told all that was asked of it.
+-- A turn from one state to another, replayed over a text with these calls, the first at this line. After the turn
+-- these bytes are left, from this line on; the lines ended in this way, or have not ended; and the host has recorded
+-- all calls.
 pub record IsTurned (node : NodeConfig) (old new : State) (text : List ℕ) (line : ℕ) (left : List Said)
     (rest : List ℕ) (at : ℕ) (end : Option End) (past : Option (List Entry)) : Type 0 where
   pub entries : List Entry

@@ -1,4 +1,4 @@
--- What the first call that is left of a journal is, where a call is asked for.
+-- How the first call left in a journal compares with the call that is requested.
 use Rattle.std.specs.Prelude.{◌≡◌, ◌&&◌, not, ℕ, Bool, List, [], ◌∷◌, bytes_eq, codes, if◌then◌else◌}
 use Rattle.std.specs.Prelude.{Option, None, Some, Result, Ok, Err}
 use Rattle.booth_host.specs.declared.host.Arrival.{Arrival}
@@ -16,8 +16,7 @@ use Rattle.booth_audit.specs.declared.end.End.TheVariants.{Over, Cut, Differs}
 abbrev pub is_now_text : List ℕ → Bool
 is_now_text text = bytes_eq (codes "now") text
 
--- A reading of the clock is the one that is asked for where the next call opens no socket. Each other one begins a
--- start.
+-- A reading of the clock is the requested one if the next call opens no socket. Otherwise it begins a start.
 abbrev pub begins_start : List ℕ → List ℕ → List Said → Bool
 begins_start text call more = is_now_text call && not (is_now_text text && not (begins_with_open more))
 
@@ -30,14 +29,14 @@ judged_by text call answer more =
     if begins_start text call more then Err Over else
     if bytes_eq text call then by_answer answer else Err Differs
 
--- its answer, where it is the call of this text
+-- its answer, if the call has this text
 abbrev pub judged : List ℕ → List Said → Result Answer End
 judged text [] = Err Over
 judged text (said ∷ more) = judged_by text (call_text said.call) said.answer more
 
 -- ---- bytes
 
--- an arrival that is no datagram has no bytes
+-- an arrival without a datagram has no bytes
 abbrev pub HasBytes : Result Arrival Failed → List ℕ → Type 0
 HasBytes (Ok (arrivals.Datagram from)) bytes = Unit {0}
 HasBytes answer bytes = bytes ≡ []

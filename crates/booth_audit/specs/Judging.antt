@@ -1,4 +1,4 @@
--- How journals are judged, one by one and then all together.
+-- How journals are judged, first one by one and then all together.
 use Rattle.std.specs.Prelude.{◌≡◌, ◌==◌, ℕ, Bool, false, List, [], ◌∷◌, map}
 use Rattle.std.specs.Prelude.{Option, None, Some, Result, Ok, Err}
 use Rattle.std.specs.List.{flat_map}
@@ -26,19 +26,19 @@ fault_at (wrongs.Differs line) journal = faults.Differs journal line
 fault_at (wrongs.Kept line) journal = faults.Kept journal line
 fault_at wrongs.OutOfMemory journal = faults.OutOfMemory
 
--- whose a journal is, and what was tallied of it
+-- the owner of a journal, and its tally
 pub record JudgedSays : Type 0 where
   pub owner : Option ℕ
   pub tally : Tally
 
--- the member at a place; nobody has none
+-- the member at a place; no one has none
 abbrev pub member_at : ConfigSays → Option Ring → Option ℕ → MemberSays
 member_at config ring at = record {
   node = node_of config ring at;
   place = option_map_or (λ (place : ℕ). place) at 0;
 }
 
--- It is what was tallied of the journal of this member.
+-- The tally of this member's journal.
 pub record IsTallied (config : ConfigSays) (ring : Option Ring) (heard : Heard) (judged : JudgedSays) : Type 0 where
   pub owner : judged.owner ≡ heard.member
   pub tally : judged.tally
@@ -51,14 +51,14 @@ AreTallied config ring (heard ∷ more) (judged ∷ all) =
     IsTallied config ring heard judged × AreTallied config ring more all
 AreTallied config ring heard all = ⊥
 
--- a true journal of one more member, and what was tallied of it
+-- a true journal of one more member, and its tally
 pub record IsTrueSo (config : ConfigSays) (ring : Option Ring) (earlier : List (Option ℕ)) (text : List ℕ)
     (judged : JudgedSays) : Type 0 where
   pub heard : Heard
   pub is : IsTrue config ring earlier text heard
   pub tallied : IsTallied config ring heard judged
 
--- what comes of one journal, where those before it are of these members
+-- the result for one journal, if those before it are of these members
 abbrev pub IsJudged : ConfigSays → Option Ring → List (Option ℕ) → List ℕ → Result JudgedSays JournalFault
     → Type 0
 IsJudged config ring earlier text (Ok judged) = IsTrueSo config ring earlier text judged
@@ -67,14 +67,14 @@ IsJudged config ring earlier text (Err fault) = IsWrong config ring earlier text
 abbrev pub owners_of : List JudgedSays → List (Option ℕ)
 owners_of all = map (λ (judged : JudgedSays). judged.owner) all
 
--- these journals are true, and this was tallied of them
+-- these journals are true, and these are their tallies
 pub record AreTrueSo (config : ConfigSays) (ring : Option Ring) (texts : List (List ℕ)) (all : List JudgedSays)
     : Type 0 where
   pub heard : List Heard
   pub each : AreTrue config ring [] texts heard
   pub tallied : AreTallied config ring heard all
 
--- what comes of the replay of a member's journal
+-- the result after the replay of a member's journal
 abbrev pub concluded : ℕ → Tally → Option ℕ → Option ℕ → Result JudgedSays JournalFault
 concluded place tally (Some line) strays = Err (wrongs.Kept line)
 concluded place tally None (Some line) = Err (wrongs.Differs line)
@@ -89,7 +89,7 @@ is_of_place place judged = is_place place judged.owner
 
 -- ---- all journals
 
--- what each sent and heard
+-- what each member sent and received
 abbrev pub AreExchanges : List Member → List JudgedSays → List Exchange → Type 0
 AreExchanges members [] [] = Unit {0}
 AreExchanges members (judged ∷ all) (exchange ∷ exchanges) =
@@ -97,8 +97,8 @@ AreExchanges members (judged ∷ all) (exchange ∷ exchanges) =
     × (exchange.heard.now ≡ judged.tally.hearings.all) × AreExchanges members all exchanges
 AreExchanges members all exchanges = ⊥
 
--- All that was heard was sent, or this is the fault of the first message that was not; want of memory may come in place
--- of both.
+-- All received messages were sent, or this is the fault of the first that was not; out of memory may come in place of
+-- both.
 abbrev pub IsToldOf : List Member → List JudgedSays → Result (Unit {0}) AuditFault → Type 0
 IsToldOf members all (Err faults.OutOfMemory) = Unit {0}
 IsToldOf members all result =

@@ -1,4 +1,4 @@
--- What a member may have kept of each ticket, noted as its journal goes on.
+-- The records that a member may have written for each ticket, noted as its journal goes on.
 use Rattle.std.proofs.Common.{zero, suc}
 use Rattle.std.specs.Prelude.{◌≡◌, ℕ, List, [], ◌∷◌, map, position, slice_get, Option, None, Some, is_ok}
 use Rattle.booth_conf.specs.Lookups.{is_called}
@@ -15,7 +15,7 @@ use Rattle.booth_audit.specs.Own.{AllOwn}
 abbrev pub first_may : List TicketConf → List (List Record)
 first_may tickets = map (λ (conf : TicketConf). no_record ∷ []) tickets
 
--- what was read of each ticket, alone
+-- only the record that was read, for each ticket
 abbrev pub read_may : List (Option Record) → List (List Record)
 read_may records = map (λ (found : Option Record). record_or_none found ∷ []) records
 
@@ -24,12 +24,12 @@ change_at place change [] = []
 change_at zero change (may ∷ others) = change may ∷ others
 change_at (suc place) change (may ∷ others) = may ∷ change_at place change others
 
--- where there is such a ticket
+-- if there is such a ticket
 abbrev pub change_if : Option ℕ → (List Record → List Record) → List (List Record) → List (List Record)
 change_if None change all = all
 change_if (Some place) change all = change_at place change all
 
--- the records that may be kept of each ticket, in file order, after one more entry
+-- the records that the member may have written for each ticket, in file order, after one more entry
 abbrev pub may_noted : List TicketConf → List (List Record) → SessionEntry → List (List Record)
 may_noted tickets all (Starts node reading records) = read_may records
 may_noted tickets all (Makes (entries.Keep name kept answer)) =
@@ -42,7 +42,7 @@ abbrev pub all_may_noted : List TicketConf → List (List Record) → List Sessi
 all_may_noted tickets all [] = all
 all_may_noted tickets all (what ∷ more) = all_may_noted tickets (may_noted tickets all what) more
 
--- Where all starts are this member's, what is noted of a ticket is what may be kept of it.
+-- If all starts are this member's, the noted records of a ticket are those that the member may have written.
 abbrev pub MayIsNoted : Type 0
 MayIsNoted =
     (node : NodeConfig) (place : ℕ) (conf : TicketConf) → slice_get node.config.tickets place ≡ Some conf

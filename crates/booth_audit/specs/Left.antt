@@ -1,4 +1,4 @@
--- What comes of a call that is asked for, where these bytes of a journal are left.
+-- The result of a requested call, if these bytes of a journal are left.
 use Rattle.std.specs.Prelude.{◌≡◌, ◌≤◌, ◌+◌, ◌-◌, ◌^◌, ◌⊎◌, ℕ, List, ◌∷◌, length, min}
 use Rattle.std.specs.Prelude.{Option, None, Some, IsSome, Result, Ok, Err}
 use Rattle.booth_rec.specs.declared.record.Record.{Record}
@@ -12,15 +12,15 @@ use Rattle.booth_journal.specs.Says.{Said, Says}
 use Rattle.booth_audit.specs.declared.end.End.{End}
 use Rattle.booth_audit.specs.Judged.{HasBytes, judged}
 
--- ---- what is left
+-- ---- the bytes that are left
 
--- the bytes that are left, the number of their first line, and how the lines ended, once they have
+-- the bytes that are left, the number of their first line, and how the lines ended, if they have
 pub record LinesLeft : Type 0 where
   pub rest : List ℕ
   pub line : ℕ
   pub end : Option End
 
--- the first call is that of this text, and has this answer, behind which these bytes stand
+-- the first call has this text and this answer, and these bytes follow
 pub record IsTaken (text rest : List ℕ) (left : List Said) (bytes behind : List ℕ) : Type 0 where
   pub said : Said
   pub more : List Said
@@ -35,7 +35,7 @@ pub record IsTaken (text rest : List ℕ) (left : List Said) (bytes behind : Lis
   pub says : Says behind more
   pub shorter : length behind + 2 ≤ length rest
 
--- ---- what comes of a call
+-- ---- the result of a call
 
 -- two lines more
 abbrev pub lines_on : ℕ → ℕ
@@ -60,20 +60,20 @@ pub record IsReadHere (left : List Said) (text : List ℕ) (old new : LinesLeft)
   pub line : new.line ≡ lines_on old.line
   pub end : new.end ≡ None
 
--- none was
+-- no line was read
 abbrev pub IsUnread : List Said → List ℕ → LinesLeft → LinesLeft → Type 0
 IsUnread left text old new = IsBehind old new ⊎ EndsHere left text old new
 
--- the answer was read, and P holds of it
+-- the answer was read, and P holds for it
 abbrev pub IsAnsweredHere : List Said → List ℕ → (Answer → Type 0) → LinesLeft → LinesLeft → Type 0
 IsAnsweredHere left text P old new =
     (bytes : List ℕ) × (here : IsReadHere left text old new bytes) × P here.taken.answer
 
--- What comes of a call of this text where these calls are left. Where no answer was read one is made up.
+-- The result of a call with this text if these calls are left. If no answer was read, one is made up.
 abbrev pub Comes : List Said → List ℕ → (Answer → Type 0) → LinesLeft → LinesLeft → Type 0
 Comes left text P old new = IsUnread left text old new ⊎ IsAnsweredHere left text P old new
 
--- ---- answers, as a host gives them
+-- ---- answers in the form of a host
 
 -- an answer of a call that was done or failed
 abbrev pub IsDoneBy : Result (Unit {0}) Failed → Answer → Type 0

@@ -1,4 +1,4 @@
--- What is noted of the events of a member: who held which ticket, and what was sent.
+-- What is noted about the events of a member: which tickets it held when, and what it sent.
 use Rattle.std.specs.Prelude.{◌≡◌, ◌+◌, ◌++◌, ◌==◌, ℕ, Bool, true, List, [], ◌∷◌, position, slice_get}
 use Rattle.std.specs.Prelude.{Option, Some}
 use Rattle.std.specs.List.{filter}
@@ -24,7 +24,7 @@ pub record MemberSays : Type 0 where
   pub node : NodeConfig
   pub place : ℕ
 
--- the member at a place of a configuration, whose ring is this one
+-- the member at a place of a configuration, with this ring
 pub record IsMember (config : ConfigSays) (ring : Option Ring) (place : ℕ) (member : MemberSays) : Type 0 where
   pub conf : Member
   pub is : slice_get config.members place ≡ Some conf
@@ -33,7 +33,7 @@ pub record IsMember (config : ConfigSays) (ring : Option Ring) (place : ℕ) (me
     place = place;
   }
 
--- the reading in use, the holdings, and the bytes of what was sent, each in the order of the lines
+-- the reading in use, the holdings, and the bytes of each send, both in the order of the lines
 pub record Noted : Type 0 where
   pub last : ℕ
   pub held : List Holding
@@ -50,7 +50,7 @@ held_from ticket member from [] = []
 held_from ticket member from (found ∷ records) =
     holding_by ticket member from (record_or_none found).lease ++ held_from (ticket + 1) member from records
 
--- that of a keep, where the ticket of this name is at this place
+-- that of a write, if the ticket with this name is at this place
 abbrev pub kept_at : Option ℕ → ℕ → ℕ → Record → List Holding
 kept_at place member from kept = option_map_or (λ ticket. holding_by ticket member from kept.lease) place []
 
@@ -65,8 +65,8 @@ with_sent notes bytes = record notes { sent = notes.sent ++ bytes ∷ [] }
 
 -- ---- all events
 
--- A start that read leases and each keep of a lease, done, failed or cut, makes holdings; each send counts, done,
--- failed or cut.
+-- A start that read leases and each write of a lease, whether done, failed or interrupted, give holdings; each send
+-- counts, whether done, failed or interrupted.
 abbrev pub noted : MemberSays → Noted → SessionEntry → Noted
 noted member notes (Starts node reading records) = record notes {
   last = start_reading reading;
@@ -88,7 +88,7 @@ noted_all member notes (event ∷ events) = noted_all member (noted member notes
 abbrev pub is_of : ℕ → Holding → Bool
 is_of ticket holding = holding.ticket == ticket
 
--- The reading in use is the one that the deeds leave, and the holdings of a ticket are those that the deeds make.
+-- The reading in use is the one that follows from what the member did, and so are the holdings of each ticket.
 abbrev pub NotesAreDeeds : Type 0
 NotesAreDeeds =
     (member : MemberSays) (ticket : ℕ) (conf : TicketConf)

@@ -1,4 +1,4 @@
--- Whose the starts are that a replay has.
+-- The owner of the starts in a replay.
 use Rattle.std.specs.Prelude.{◌≡◌, List, [], ◌∷◌}
 use Rattle.booth_journal.specs.Says.{Said}
 use Rattle.booth_node.specs.declared.node_config.NodeConfig.{NodeConfig}

@@ -1,4 +1,4 @@
--- Whose a journal is, and the journal of nobody.
+-- The owner of a journal, and the journal of no one.
 use Rattle.std.specs.Prelude.{◌≡◌, ◌⊎◌, ℕ, List, [], ◌∷◌, Option, None, Some, Result, Ok, Err}
 use Rattle.booth_base.specs.declared.address.Address.{Address}
 use Rattle.booth_conf.specs.declared.members.Member.{Member}
@@ -10,7 +10,7 @@ use Rattle.booth_audit.specs.declared.owners.OwnerFault.TheVariants.{NotOne, Out
 use Rattle.booth_audit.specs.Faults.{IsOf, opened_by, opened_in, place_of}
 use Rattle.booth_audit.specs.Replay.{replay}
 
--- the place of the member whose start a call is, where it opens a socket
+-- if a call opens a socket, the place of the member whose start it is
 abbrev pub HasPlace : List Member → Call → Result (Option ℕ) OwnerFault → Type 0
 HasPlace members call (Ok None) = opened_by call ≡ []
 HasPlace members call (Ok (Some place)) =
@@ -19,19 +19,19 @@ HasPlace members call (Err NotOne) =
     (local : Option Address) × (opened_by call ≡ local ∷ []) × (place_of members local ≡ None)
 HasPlace members call (Err OutOfMemory) = Unit {0}
 
--- whose starts these calls are; NotOne only where they are nobody's and no one member's
+-- the owner of the starts among these calls; NotOne only if they are neither no one's nor those of one member
 abbrev pub IsOwner : List Member → List Said → Result (Option ℕ) OwnerFault → Type 0
 IsOwner members all (Ok owner) = IsOf members all owner
 IsOwner members all (Err NotOne) = (owner : Option ℕ) → IsOf members all owner → ⊥
 IsOwner members all (Err OutOfMemory) = Unit {0}
 
--- The journal of nobody, in which no start came to listen: no session is in it, and its first call that is no reading
--- of a clock was not demanded.
+-- The journal of no one, in which no start listened: it has no session, and its first call that is no reading of the
+-- clock was not demanded.
 abbrev pub IsNobodys : List Said → Option ℕ → Type 0
 IsNobodys all strays =
     (node : NodeConfig) → opened_in all ≡ [] → replay node all ≡ record { events = []; strays = strays }
 
--- the owner of starts of which the last is that of the member at this place
+-- the owner of starts, the last of which is that of the member at this place
 abbrev pub IsOneOwner : Option ℕ → ℕ → Result (Option ℕ) OwnerFault → Type 0
 IsOneOwner owner place (Ok after) = (after ≡ Some place) × ((owner ≡ None) ⊎ (owner ≡ Some place))
 IsOneOwner owner place (Err NotOne) = (earlier : ℕ) × (owner ≡ Some earlier) × (earlier ≡ place → ⊥)
@@ -46,7 +46,7 @@ IsNextOwner members owner call (Err fault) =
     HasPlace members call (Err fault)
     ⊎ ((place : ℕ) × HasPlace members call (Ok (Some place)) × IsOneOwner owner place (Err fault))
 
--- how many lines say a call, by the line of its answer
+-- how many lines a call has, by the line of its answer
 abbrev pub lines_of : Option (List ℕ) → ℕ
 lines_of None = 1
 lines_of (Some bytes) = 2

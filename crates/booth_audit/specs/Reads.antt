@@ -1,5 +1,5 @@
--- Calls that are asked for where a journal says these calls: those that its lines answer, and those behind the first
--- that they do not.
+-- Requested calls, if a journal has these calls: those that its lines answer, and those after the first that they do
+-- not.
 use Rattle.std.specs.Prelude.{◌≡◌, ◌+◌, ◌⊎◌, ℕ, List, [], ◌∷◌, Option, None, Some, Ok, Err}
 use Rattle.booth_host.specs.declared.entry.Entry.{Entry}
 use Rattle.booth_host.specs.declared.entry.Entry.TheVariants as entries
@@ -24,7 +24,7 @@ asked_text entry = text_said (said entry)
 abbrev pub HasAnswer : Entry → Answer → Type 0
 HasAnswer entry answer = (call : Call) × (said entry ≡ Some (call, answer))
 
--- a wait that brought no datagram has no bytes
+-- a wait without a datagram has no bytes
 abbrev pub IsClear : Entry → Type 0
 IsClear (entries.Next wait answer bytes) = HasBytes answer bytes
 IsClear entry = Unit {0}
@@ -40,14 +40,14 @@ pub record IsEntry (entry : Entry) (left : List Said) (more : List Said) : Type 
   pub has : HasAnswer entry answer
   pub clear : IsClear entry
 
--- the lines end at this entry, so
+-- the lines end in this way at this entry
 pub record IsLast (entry : Entry) (left : List Said) (end : Option End) : Type 0 where
   pub how : End
   pub judges : judged (asked_text entry) left ≡ Err how
   pub is : end ≡ Some how
 
--- These entries are what was asked for where these calls were left, the first at this line: so the lines ended, if they
--- did, at this line, and these calls are left then.
+-- These entries were requested when these calls were left, the first at this line: the lines ended in this way, if
+-- they did, at this line, and these calls are left afterwards.
 abbrev pub Reads : List Entry → ℕ → List Said → Option End → ℕ → List Said → Type 0
 Reads [] line left end at then_left = (end ≡ None) × (at ≡ line) × (then_left ≡ left)
 Reads (entry ∷ entries) line left end at then_left =

@@ -1,4 +1,4 @@
--- What a member did by the calls that its journal says, up to the first that was not demanded.
+-- What a member did according to its journal, up to the first call that was not demanded.
 use Rattle.std.specs.Prelude.{◌+◌, ◌&&◌, not, ℕ, Bool, false, List, [], ◌∷◌, ◌++◌, length, map, if◌then◌else◌}
 use Rattle.std.specs.Prelude.{Option, None, Some}
 use Rattle.booth_base.specs.Tree.{Ends}
@@ -17,16 +17,16 @@ use Rattle.booth_journal.specs.Looking.{begins_with_open}
 use Rattle.booth_journal.specs.Says.{Said, lines_saying}
 use Rattle.booth_audit.specs.Demand.{cut, is_call, is_demanded, made}
 
--- ---- where a journal stands
+-- ---- the place in a journal
 
--- No session goes on; or a start does, which has read its clock and these records, and is to make these calls; or a
--- session does.
+-- No session is under way; or a start is, which has read its clock and these records and must still make these calls;
+-- or a session is.
 pub data Place : Type 0 where
   Idle : Place
   Starting : (reading : ℕ) (records : List (Option Record)) (calls : List Call) → Place
   Going : Stand → Place
 
--- what one call is there: nothing that counts, or what a member does, or another call than the one that is demanded
+-- the meaning of one call there: nothing that counts, an action of the member, or another call than the demanded one
 pub data Step : Type 0 where
   Passes : Place → Step
   Did : SessionEntry → Place → Step
@@ -34,23 +34,23 @@ pub data Step : Type 0 where
 
 -- ---- starts
 
--- behind its clock's reading a start opens its socket, and reads the record of each ticket in file order
+-- after it has read its clock, a start opens its socket, and reads the record of each ticket in file order
 abbrev pub start_calls : NodeConfig → List Call
 start_calls node =
     calls.Open (Some (own_address node)) ∷ map (λ (ticket : TicketConf). calls.Kept ticket.name) node.config.tickets
 
--- A start begins with a reading of the clock. One whose clock was not read is no session.
+-- A start begins with a reading of the clock. A start that could not read its clock has no session.
 abbrev pub begun : NodeConfig → Option Answer → Step
 begun node (Some (answers.Reading reading)) = Passes (Starting reading [] (start_calls node))
 begun node answer = Passes Idle
 
--- a start that has made all its calls is a session's
+-- a start that has made all its calls has a session
 abbrev pub goes_on : NodeConfig → ℕ → List (Option Record) → List Call → Step
 goes_on node reading records [] =
     Did (Starts node reading records) (Going (Doing node (Ends (opened node records reading))))
 goes_on node reading records (call ∷ more) = Passes (Starting reading records (call ∷ more))
 
--- one of its calls that failed, or has no answer, makes it no session
+-- after a call that failed or has no answer, the start has no session
 abbrev pub answered : NodeConfig → ℕ → List (Option Record) → List Call → Option Answer → Step
 answered node reading records more (Some answers.Done) = goes_on node reading records more
 answered node reading records more (Some answers.Absent) = goes_on node reading (records ++ None ∷ []) more
@@ -72,7 +72,7 @@ abbrev pub is_cut_short : Option CutCall → Step
 is_cut_short None = Strays
 is_cut_short (Some call) = Did (IsCut call) Idle
 
--- a call without its answer is its session's last
+-- a call without its answer is the last of its session
 abbrev pub makes_with : Stand → Option Answer → Step
 makes_with stand None = is_cut_short (cut stand)
 makes_with stand (Some answer) = makes stand (made stand answer)
@@ -86,8 +86,8 @@ abbrev pub is_read_by : Place → List Said → Bool
 is_read_by (Going (Hearing node old answer bytes)) more = not (begins_with_open more)
 is_read_by place more = false
 
--- A reading of the clock is a turn's exactly where one is demanded there and the next call opens no socket. Each other
--- one begins a start.
+-- A reading of the clock belongs to a turn exactly if one is demanded there and the next call opens no socket. Any
+-- other begins a start.
 abbrev pub begins_start : Place → Said → List Said → Bool
 begins_start place said more = is_now said.call && not (is_read_by place more)
 
@@ -97,19 +97,19 @@ follows node Idle said = Strays
 follows node (Starting reading records demands) said = starts_with node reading records demands said
 follows node (Going stand) said = if is_demanded stand said.call then makes_with stand said.answer else Strays
 
--- this call, before these others
+-- this call, followed by these others
 abbrev pub stepped : NodeConfig → Place → Said → List Said → Step
 stepped node place said more =
     if begins_start place said more then begun node said.answer else follows node place said
 
 -- ---- a journal
 
--- What a member did, and the line of the call: of a start the line of its last one.
+-- What a member did, and the line of the call; for a start, the line of its last call.
 pub record Event : Type 0 where
   pub what : SessionEntry
   pub line : ℕ
 
--- all that it did before the first call that was not demanded, and that one's line
+-- all that it did before the first call that was not demanded, and the line of that call
 pub record Replayed : Type 0 where
   pub events : List Event
   pub strays : Option ℕ
@@ -122,11 +122,11 @@ by_step (Passes place) line rest = rest place
 by_step (Did what place) line rest = with_event (record { what = what; line = line }) (rest place)
 by_step Strays line rest = record { events = []; strays = Some line }
 
--- the number of the line behind those of a call that stands at this line
+-- the number of the line after a call that begins at this line
 abbrev pub line_behind : ℕ → Said → ℕ
 line_behind line said = line + length (lines_saying said)
 
--- these calls, of which the first stands at this line
+-- these calls, the first of which is at this line
 abbrev pub replayed : NodeConfig → Place → ℕ → List Said → Replayed
 replayed node place line [] = record { events = []; strays = None }
 replayed node place line (said ∷ more) =

@@ -1,4 +1,4 @@
--- What members sent, against the messages that others heard.
+-- What members sent, compared with the messages that others received.
 use Rattle.std.specs.Prelude.{◌≡◌, ◌⊎◌, ◌↔◌, ◌++◌, ℕ, List, [], ◌∷◌, map}
 use Rattle.std.specs.Prelude.{MatchOption, Option, None, Some, Ok, IfOk}
 use Rattle.std.specs.List.{All, flat_map}
@@ -23,7 +23,7 @@ pub record Sender : Type 0 where
 
 -- ---- by the events of journals
 
--- a send that failed or was cut counts
+-- a send that failed or was interrupted counts
 abbrev pub sent_by : SessionEntry → List (List ℕ)
 sent_by (Makes (entries.Send to bytes answer)) = bytes ∷ []
 sent_by (IsCut (CutSend to bytes)) = bytes ∷ []
@@ -40,14 +40,14 @@ senders_of all = map sender_of all
 
 -- ---- messages
 
--- The member of this id sent this message, which bears that id.
+-- The member with this id sent this message, which carries that id.
 pub record IsFrom (id : MemberId) (sent : List (List ℕ)) (message : PlainMessage) : Type 0 where
   pub same_id : id ≡ message.head.from
   pub bytes : List ℕ
   pub told : Has sent bytes
   pub same : decoded bytes ≡ Ok message
 
--- one of these did
+-- one of these members did
 abbrev pub IsAmong : List Sender → PlainMessage → Type 0
 IsAmong senders message =
     (sender : Sender) × Has senders sender × IsFrom sender.id sender.sent message
@@ -58,7 +58,7 @@ IsHeardOf senders bytes = IfOk (decoded bytes) (IsAmong senders)
 
 -- ---- frames
 
--- Of each message its one spelling without a signature stands here exactly where one of these sent it.
+-- The table has a message's one spelling without a signature exactly if one of these members sent the message.
 abbrev pub KnowsAll : List (List ℕ) → List Sender → Type 0
 KnowsAll frames senders =
     (message : PlainMessage) → Fits message → Has frames (spelling message) ↔ IsAmong senders message
@@ -67,15 +67,15 @@ KnowsAll frames senders =
 abbrev pub HasOneMore : List (List ℕ) → List ℕ → List (List ℕ) → Type 0
 HasOneMore old one new = (frame : List ℕ) → Has new frame ↔ (Has old frame ⊎ (one ≡ frame))
 
--- These frames are one more member's beside the others.
+-- These are the frames of one more member, together with those of the others.
 abbrev pub KnowsMore : List (List ℕ) → MemberId → List (List ℕ) → List (List ℕ) → Type 0
 KnowsMore old id sent new =
     (message : PlainMessage) → Fits message
     → Has new (spelling message) ↔ (Has old (spelling message) ⊎ IsFrom id sent message)
 
--- ---- the first that was not sent
+-- ---- the first message that was not sent
 
--- The first that was heard at this line and not sent; those before it were.
+-- The first message that was received at this line and not sent; those before it were sent.
 pub record IsFirstUnsent (senders : List Sender) (heard : List Hears) (line : ℕ) : Type 0 where
   pub before : List Hears
   pub one : Hears
@@ -85,25 +85,25 @@ pub record IsFirstUnsent (senders : List Sender) (heard : List Hears) (line : �
   pub wrong : IsHeardOf senders one.bytes → ⊥
   pub place : one.line ≡ line
 
--- each was sent, or that is the first that was not
+-- without a result: each message was sent; with a line as the result: that line has the first message that was not sent
 abbrev pub IsFound : List Sender → List Hears → Option ℕ → Type 0
 IsFound senders heard found =
     MatchOption found (All (λ (hears : Hears). IsHeardOf senders hears.bytes) heard) (IsFirstUnsent senders heard)
 
 -- ---- laws
 
--- What was sent by journals is what their members sent; and what is noted as sent is that.
+-- What the journals have as sends is what their members sent; and so is what was noted.
 abbrev pub SendersTell : Type 0
 SendersTell =
     ((all : List Heard) (message : PlainMessage) → IsAmong (senders_of all) message ↔ WasSent all message)
     × ((member : MemberSays) (events : List Event) → (noted_all member nothing_noted events).sent ≡ sent_in events)
 
--- each turn of a member heard what was sent, or that is the line of the first message that was not
+-- each turn of a member received only sent messages, or that is the line of the first message that was not sent
 abbrev pub IsUnsent : List Heard → List Event → Option ℕ → Type 0
 IsUnsent all events None = AllHearSent all [] (deeds_of events)
 IsUnsent all events (Some line) = FirstUnsent all events line
 
--- By what is noted as heard, and by what members sent, that is found.
+-- The noted messages, compared with what the members sent, give that line.
 abbrev pub UnsentIsFound : Type 0
 UnsentIsFound =
     (member : MemberSays) (events : List Event) (all : List Heard) (found : Option ℕ)

@@ -1,4 +1,4 @@
--- What an audit may answer of journals is one answer.
+-- An audit of given journals has one answer.
 use Rattle.std.specs.Prelude.{◌≡◌, ◌⊎◌, List, ℕ, Option}
 use Rattle.booth_conf.specs.Config.{ConfigSays}
 use Rattle.booth_keys.specs.declared.ring.Ring.{Ring}
@@ -7,8 +7,8 @@ use Rattle.booth_journal.specs.declared.audit_fault.AuditFault.TheVariants.{OutO
 use Rattle.booth_audit.specs.declared.holding.Holding.{Holding}
 use Rattle.booth_audit.specs.Audit.{HasFault, IsAudited}
 
--- Journals that are without a fault have none but want of memory, and one list of holdings. Two faults of journals are
--- one, or one of them is want of memory.
+-- Journals without a fault have only out of memory as another answer, and one list of holdings. Two faults of
+-- journals are equal, or one of them is out of memory.
 pub record HasOneAnswer (config : ConfigSays) (ring : Option Ring) (texts : List (List ℕ)) : Type 0 where
   pub none : (holdings : List Holding) (fault : AuditFault) → IsAudited config ring texts holdings
       → HasFault config ring texts fault → fault ≡ OutOfMemory

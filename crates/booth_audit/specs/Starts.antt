@@ -1,4 +1,4 @@
--- What one call of a start is in the replay of its journal.
+-- One call of a start in the replay of its journal.
 use Rattle.std.specs.Prelude.{◌≡◌, ◌+◌, ℕ, false, List, [], ◌∷◌, Option, Some, Result, Ok, Err}
 use Rattle.booth_rec.specs.declared.record.Record.{Record}
 use Rattle.booth_journal.specs.declared.said.Answer.{Answer}
@@ -11,8 +11,8 @@ use Rattle.booth_audit.specs.declared.end.End.TheVariants.{Over, Cut, Differs}
 use Rattle.booth_audit.specs.Judged.{is_now_text, judged}
 use Rattle.booth_audit.specs.Replay.{Idle, Replayed, Starting, answered, by_step, replayed}
 
--- The replay of a start, whose next call is asked for and which has these others to make, by what the lines have to
--- that call. Where these end the start is no session.
+-- The replay of a start, whose next call is requested and which has these further calls to make, by what the lines
+-- have for that call. If the lines end here, the start has no session.
 abbrev pub StartGoesOn : NodeConfig → ℕ → List (Option Record) → List Call → ℕ → List Said → Replayed
     → Result Answer End → Type 0
 StartGoesOn node reading records more line left whole (Ok answer) =
@@ -25,7 +25,7 @@ StartGoesOn node reading records more line left whole (Err Cut) =
 StartGoesOn node reading records more line left whole (Err Differs) =
     whole ≡ record { events = []; strays = Some line }
 
--- each call of a start goes on so
+-- each call of a start continues like this
 abbrev pub StartsAreReplayed : Type 0
 StartsAreReplayed =
     (node : NodeConfig) (reading : ℕ) (records : List (Option Record)) (call : Call) (more : List Call) (line : ℕ)

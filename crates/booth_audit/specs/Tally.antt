@@ -1,4 +1,4 @@
--- What is tallied of a journal while it is replayed: one fold over what its member did, call by call.
+-- The tally of a journal that is replayed: one fold over what its member did, call by call.
 use Rattle.std.specs.Prelude.{List, [], ◌∷◌}
 use Rattle.booth_conf.specs.declared.tickets.TicketConf.{TicketConf}
 use Rattle.booth_audit.specs.Hearings.{Hearings, hearings_noted, nothing_heard}
@@ -6,7 +6,7 @@ use Rattle.booth_audit.specs.Noted.{MemberSays, Noted, noted, nothing_noted}
 use Rattle.booth_audit.specs.Replay.{Event}
 use Rattle.booth_audit.specs.Watched.{Watched, first_watched, watched}
 
--- what is noted of the member, what the watch over its starts has seen, and what it heard of others
+-- what was noted about the member, what the watch over its starts has found, and what it received from others
 pub record Tally : Type 0 where
   pub noted : Noted
   pub watched : Watched

@@ -1,4 +1,4 @@
--- What a turn that was replayed is in the replay of its journal.
+-- A replayed turn in the replay of its journal.
 use Rattle.std.specs.Prelude.{◌≡◌, ◌+◌, ◌*◌, ℕ, List, [], ◌∷◌, ◌++◌, length, map}
 use Rattle.std.specs.Prelude.{Option, None, Some}
 use Rattle.booth_base.specs.Tree.{Ends}
@@ -31,7 +31,7 @@ with_events (event ∷ events) rest = with_event event (with_events events rest)
 abbrev pub made_by : List Entry → List SessionEntry
 made_by entries = map (λ (entry : Entry). Makes entry) entries
 
--- the call of an entry of a turn, as one that is cut
+-- the call of an entry of a turn, as an interrupted one
 abbrev pub cut_of : Entry → CutCall
 cut_of (entries.Now reading) = CutNow
 cut_of (entries.Send to bytes answer) = CutSend to bytes
@@ -40,9 +40,9 @@ cut_of (entries.Start number ticket handler local expires answer) =
     CutStart (record { number = number; ticket = ticket; handler = handler; local = local; expires = expires })
 cut_of entry = CutNext
 
--- ---- how a replay goes on
+-- ---- how a replay continues
 
--- A call without its answer is next, and its session's last: that of the first of these entries.
+-- The next call is without an answer, and the last of its session: that of the first of these entries.
 pub record IsCutHere (node : NodeConfig) (stand : Stand) (at : ℕ) (left : List Said) (unread : List Entry)
     (rest : Replayed) : Type 0 where
   pub said : Said
@@ -54,14 +54,15 @@ pub record IsCutHere (node : NodeConfig) (stand : Stand) (at : ℕ) (left : List
   pub may : MayBeCut stand (cut_of first)
   pub on : rest ≡ with_event (record { what = IsCut (cut_of first); line = at }) (replayed node Idle (at + 1) more)
 
--- Where the member stands so and the lines of its session ended so, or have not ended; these entries were not read.
+-- The replay if the member is in this state and the lines of its session ended in this way, or have not ended; these
+-- entries were not read.
 abbrev pub GoesOn : NodeConfig → Stand → Option End → ℕ → List Said → List Entry → Replayed → Type 0
 GoesOn node stand None at left unread rest = (unread ≡ []) × (rest ≡ replayed node (Going stand) at left)
 GoesOn node stand (Some Over) at left unread rest = rest ≡ replayed node Idle at left
 GoesOn node stand (Some Cut) at left unread rest = IsCutHere node stand at left unread rest
 GoesOn node stand (Some Differs) at left unread rest = rest ≡ record { events = []; strays = Some at }
 
--- Entries of which the first were read: the replay has these as events, and goes on as the lines ended.
+-- Entries of which the first were read: the replay has them as events, and continues in the way the lines ended.
 pub record IsReplayOf (node : NodeConfig) (old new : Stand) (entries : List Entry) (line : ℕ) (left : List Said)
     (end : Option End) (at : ℕ) (then_left : List Said) : Type 0 where
   pub read : List Entry
@@ -76,7 +77,7 @@ pub record IsReplayOf (node : NodeConfig) (old new : Stand) (entries : List Entr
 
 -- ---- turns
 
--- A turn of a member over a host that replays lines is what the replay of these lines has.
+-- A turn of a member with a host that replays lines is what the replay of these lines has.
 abbrev pub TurnsAreReplayed : Type 0
 TurnsAreReplayed =
     (node : NodeConfig) (old new : State) (turn : Turn) (entries : List Entry) (line : ℕ) (left : List Said)

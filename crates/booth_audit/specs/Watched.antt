@@ -1,4 +1,4 @@
--- Which records the starts of a member may read, and the line of the first that may not have been kept.
+-- Which records the starts of a member may read, and the line of the first that the member may not have written.
 use Rattle.std.specs.Prelude.{◌≡◌, ◌↔◌, ℕ, Bool, not, List, [], ◌∷◌, length, position, slice_get}
 use Rattle.std.specs.Prelude.{Option, None, Some, option_map}
 use Rattle.std.specs.List.{list_any, zip}
@@ -17,7 +17,7 @@ use Rattle.booth_audit.specs.Noted.{MemberSays}
 use Rattle.booth_audit.specs.Own.{AllOwn}
 use Rattle.booth_audit.specs.Replay.{Event, deeds_of}
 
--- the records that may be kept of each ticket, in file order, and the first wrong line
+-- the records that the member may have written for each ticket, in file order, and the first wrong line
 pub record Watched : Type 0 where
   pub may : List (List Record)
   pub wrong : Option ℕ
@@ -27,15 +27,15 @@ first_watched tickets = record { may = first_may tickets; wrong = None }
 
 -- ---- a start
 
--- one of them is this record: `==` of the type
+-- this record is one of them: `==` of the type
 abbrev pub is_among : List Record → Record → Bool
 is_among may kept = list_any (λ (other : Record). equality.eq-value.it other kept) may
 
--- what may be kept of a ticket, and what was read of it, which may not have been kept
+-- the record that was read for a ticket is none of those that the member may have written
 abbrev pub is_wrong : List Record × Option Record → Bool
 is_wrong read = not (is_among read.0 (record_or_none read.1))
 
--- the place of the first ticket whose record may not have been kept
+-- the place of the first ticket with a wrong record
 abbrev pub first_wrong : List (List Record) → List (Option Record) → Option ℕ
 first_wrong all records = position is_wrong (zip all records)
 
@@ -61,7 +61,7 @@ abbrev pub watched_all : MemberSays → Watched → List Event → Watched
 watched_all member old [] = old
 watched_all member old (event ∷ events) = watched_all member (watched member old event) events
 
--- ---- what the watch tells
+-- ---- what the watch reports
 
 -- each ticket is found by its name at its own place
 abbrev pub AreFound : List TicketConf → Type 0
@@ -69,17 +69,18 @@ AreFound tickets =
     (place : ℕ) (conf : TicketConf) → slice_get tickets place ≡ Some conf
     → position (is_called conf.name) tickets ≡ Some place
 
--- so it is in each configuration that a text says
+-- the same in each configuration that a text spells
 abbrev pub TicketsAreFound : Type 0
 TicketsAreFound = (config : ConfigSays) → IsSound config → AreFound config.tickets
 
--- There is no wrong line exactly where each start read what may have been kept, and each other one is the first's.
+-- There is no wrong line exactly if each start read records that the member may have written, and a wrong line is
+-- that of the first other record.
 pub record TellsFirst (events : List Event) (wrong : Option ℕ) : Type 0 where
   pub none : (wrong ≡ None) ↔ AllReadKept [] (deeds_of events)
   pub first : (line : ℕ) → wrong ≡ Some line → FirstNotKept events line
 
--- Where all starts are this member's, the watch over its events tells the line of the first record that may not have
--- been kept.
+-- If all starts are this member's, the watch over its events reports the line of the first record that the member may
+-- not have written.
 abbrev pub WatchTellsFirst : Type 0
 WatchTellsFirst =
     (member : MemberSays) → AreFound member.node.config.tickets → (events : List Event)

@@ -1,10 +1,10 @@
-//! What an audit says.
+//! The answer of an audit.
 ghost use Rattle.std.specs.Prelude.{◌≡◌};
 
 use crate::Holding;
 use std::marker::Model;
 
-/// What the journals of a cluster say: who held which ticket when.
+/// The answer for the journals of a cluster: which member held which ticket when.
 #[derive(Drop)]
 pub struct Audit {
     holdings: Vec<Holding>,
@@ -26,7 +26,7 @@ impl Audit {
         Audit { holdings }
     }
 
-    /// The holdings, by tickets, then by journals, then by lines.
+    /// Returns the holdings, by tickets, then by journals, then by lines.
     pub fn holdings(&self) -> &[Holding]
         ensures { result.now ≡ self.now }
     {

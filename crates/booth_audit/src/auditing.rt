@@ -16,7 +16,7 @@ use booth_journal::AuditFault;
 use booth_keys::Ring;
 use std::alloc::{AllocError, Global};
 
-/// Journals are fewer: a fault names one by its place.
+/// The limit for the number of journals, so that a fault can name a journal by its place.
 const JOURNALS_END: u64 = 1 << 32;
 
 // Judges each journal, up to the first that is wrong.
@@ -44,7 +44,7 @@ fn judge_all(
     Ok(all)
 }
 
-// The id of the member at a place, or nobody's.
+// Returns the id of the member at a place, or no one's.
 fn id_of(config: &Config, owner: Option<u32>) -> MemberId
     ensures { result ≡ id_of config.now.members owner }
 {
@@ -57,7 +57,7 @@ fn id_of(config: &Config, owner: Option<u32>) -> MemberId
     }
 }
 
-// What all members sent and heard, by their journals.
+// Returns what all members sent and received, according to their journals.
 fn exchanges_of<'a>(
     alloc: Global,
     config: &Config,
@@ -76,7 +76,7 @@ fn exchanges_of<'a>(
     Ok(exchanges)
 }
 
-// Whether all that was heard was sent.
+// Finds the first message that was received and not sent.
 fn find_unsent(alloc: Global, config: &Config, all: &[Judged]) -> Result<(), AuditFault>
     requires few { length all.now < 2 ^ 32 }
     ensures { IsToldOf config.now.members all.now result }
@@ -87,7 +87,7 @@ fn find_unsent(alloc: Global, config: &Config, all: &[Judged]) -> Result<(), Aud
     }
 }
 
-// The holdings of all journals, in the order of tickets.
+// Returns the holdings of all journals, in the order of tickets.
 fn holdings_of(alloc: Global, all: &[Judged]) -> Result<Vec<Holding>, AllocError>
     ensures { IfOk result (λ holdings. (count : ℕ) → All (λ holding. holding.ticket < count) (held_by all.now)
         → holdings.items ≡ by_tickets (held_by all.now) 0 count) }
@@ -103,7 +103,8 @@ fn holdings_of(alloc: Global, all: &[Judged]) -> Result<Vec<Holding>, AllocError
 /// Audits the journals of a cluster, whose members have this configuration and share this ring.
 ///
 /// # Errors
-/// The first fault of the first journal that is wrong; else the first message that was heard and not sent; or
+///
+/// The first fault of the first journal that is wrong; else the first message that was received and not sent; or
 /// `OutOfMemory`, which may come in place of any answer.
 pub fn audit(
     alloc: Global,

@@ -5,8 +5,8 @@
 pub(crate) enum End {
     /// No call is left, or another start begins.
     Over,
-    /// The call that was asked for stands here without an answer.
+    /// The requested call is here without an answer.
     Cut,
-    /// Another call stands here than the one that was asked for.
+    /// Another call than the requested one is here.
     Differs,
 }

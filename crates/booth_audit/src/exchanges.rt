@@ -1,4 +1,4 @@
-//! Whether all that members heard was sent.
+//! The check that everything that members received was sent.
 ghost use Rattle.std.specs.Prelude.{◌<◌, ◌^◌, IfOk, List, length};
 ghost use Rattle.booth_audit.specs.Exchanges.{IsToldSo, senders_in};
 ghost use Rattle.booth_audit.specs.Sends.{KnowsAll, Sender};
@@ -9,7 +9,7 @@ use booth_base::{ByteText, MemberId};
 use booth_journal::AuditFault;
 use std::alloc::{AllocError, Global};
 
-/// What the member of this id sent and heard, by its journal.
+/// What the member with this id sent and received, according to its journal.
 #[derive(Clone, Copy)]
 pub(crate) struct Exchange<'a> {
     pub id: MemberId,
@@ -42,8 +42,11 @@ fn first_unsent(sends: &mut Sends, exchanges: &[Exchange<'_>]) -> Result<(), Aud
     Ok(())
 }
 
-/// Whether each message that a member heard was sent by the member whose id it bears: the fault of the first journal
-/// with a message that was not, or want of memory.
+/// Checks that each message that a member received was sent by the member whose id it carries.
+///
+/// # Errors
+///
+/// The fault of the first journal with a message that was not sent, or out of memory.
 pub(crate) fn check_exchanges(alloc: Global, exchanges: &[Exchange<'_>]) -> Result<(), AuditFault>
     requires { length exchanges.now < 2 ^ 32 }
     ensures { IsToldSo (senders_in exchanges.now) exchanges.now result }

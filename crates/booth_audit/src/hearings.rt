@@ -1,4 +1,4 @@
-//! What a member heard of others, noted while its journal is replayed.
+//! What a member received from others, noted while its journal is replayed.
 ghost use Rattle.std.specs.Prelude.{◌≡◌, ◌++◌, None, OnOk, Some};
 ghost use Rattle.std.specs.Option.{option_copied};
 ghost use Rattle.booth_node.specs.Session.{Makes};
@@ -15,14 +15,14 @@ use booth_wire::Direction;
 use std::alloc::{AllocError, Global};
 use std::marker::Model;
 
-/// A datagram by which a turn let a message between members in, and the line of the answer that brought it.
+/// A datagram with a message between members that a turn accepted, and the line of the answer with which it arrived.
 #[derive(Drop)]
 pub(crate) struct Hears {
     pub bytes: ByteText,
     pub line: u64,
 }
 
-/// What a member heard so far, and the datagram that is not judged yet.
+/// What a member received so far, and the datagram that is not judged yet.
 #[derive(Drop)]
 pub(crate) struct HearingNotes {
     alloc: Global,
@@ -47,7 +47,7 @@ fn is_between(direction: Direction) -> bool
     }
 }
 
-// Whether the gate lets a message between members in at this reading.
+// Returns whether the gate accepts a message between members at this reading.
 fn lets_in(whose: &Whose<'_>, now: u64, bytes: &[u8]) -> bool
     ensures { result ≡ lets_in whose.now.node now bytes.now }
 {
@@ -58,7 +58,7 @@ fn lets_in(whose: &Whose<'_>, now: u64, bytes: &[u8]) -> bool
 }
 
 impl HearingNotes {
-    /// Nothing.
+    /// Returns notes without a message.
     pub(crate) fn new(alloc: Global) -> HearingNotes
         ensures { result ≡ nothing_heard }
     {
@@ -69,14 +69,14 @@ impl HearingNotes {
         }
     }
 
-    /// What was heard, in the order of the lines.
+    /// Returns the received messages, in the order of the lines.
     pub(crate) fn all(&self) -> &[Hears]
         ensures { result.now ≡ self.now.all }
     {
         &self.all
     }
 
-    // Judges a datagram at this reading, whose call stands at this line.
+    // Judges a datagram at this clock reading, whose call is at this line.
     fn judge(
         &mut self,
         whose: &Whose<'_>,
@@ -110,7 +110,7 @@ impl HearingNotes {
         }
     }
 
-    /// Notes an event that brings nothing and lets nothing in, as a start, or a call that was not answered.
+    /// Notes an event without an arrival, for example a start, or a call without an answer.
     pub(crate) fn pass(&mut self)
         ensures same { self.new ≡ record self.old { waiting = None } }
         ensures passed { IsPassed self.old self.new }
@@ -134,7 +134,7 @@ impl HearingNotes {
         }
     }
 
-    /// Notes a call that was answered, where this reading is in use before it.
+    /// Notes a call with its answer, if this reading is in use before it.
     pub(crate) fn call(
         &mut self,
         whose: &Whose<'_>,

@@ -7,20 +7,20 @@ use booth_journal::AuditFault;
 /// The first fault of one journal. Lines are counted from 1.
 #[derive(Clone, Copy, Drop)]
 pub(crate) enum JournalFault {
-    /// This line is none of a journal.
+    /// This line cannot be read as a line of a journal.
     Line(u64),
-    /// The journal is not one member's, or is that of a member that has an earlier one.
+    /// The journal is not that of one member, or its member has an earlier one.
     Member,
-    /// This line says another call than the one that was demanded.
+    /// This line has another call than the rules demanded.
     Differs(u64),
-    /// This line says that a start read a record which the member may not have kept.
+    /// According to this line a start read a record that the member may not have written.
     Kept(u64),
-    /// There is no memory for the journal.
+    /// Memory is out.
     OutOfMemory,
 }
 
 impl JournalFault {
-    /// The same fault, of the journal at this place.
+    /// Returns the same fault, for the journal at this place.
     pub(crate) fn at(self, journal: u32) -> AuditFault
         ensures { result ≡ fault_at self journal }
     {

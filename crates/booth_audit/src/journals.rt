@@ -8,17 +8,17 @@ use crate::{Tally, Whose};
 use booth_journal::Draft;
 use std::alloc::{AllocError, Global};
 
-/// What a journal says of its member.
+/// What a journal says about its member.
 #[derive(Drop)]
 pub struct Journal {
     pub tally: Tally,
-    /// The line of the first call that was not demanded. What stands behind it is not tallied.
+    /// The line of the first call that was not demanded. The tally has nothing after it.
     pub strays: Option<u64>,
 }
 
-/// Replays the journal of a member, whose text says calls.
+/// Replays the journal of a member, whose text consists of calls.
 ///
-/// It takes time linear in the bytes of the text, but for what the turns of the node take.
+/// The time is linear in the bytes of the text, apart from the turns of the node.
 pub fn replay_journal(alloc: Global, whose: &Whose<'_>, text: &[u8]) -> Result<Journal, AllocError>
     requires short { length text.now < 2 ^ 63 }
     requires says { (all : List Said) × Says text.now all }

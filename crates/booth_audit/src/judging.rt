@@ -1,4 +1,4 @@
-//! What comes of one journal.
+//! The result for one journal.
 ghost use Rattle.std.specs.Prelude.{◌≡◌, ◌<◌, ◌^◌, List, ℕ, None, Option, Some, length};
 ghost use Rattle.std.specs.List.{list_any};
 ghost use Rattle.std.specs.Option.{option_copied};
@@ -16,10 +16,10 @@ use booth_keys::Ring;
 use std::alloc::Global;
 use std::marker::Model;
 
-/// Texts have fewer bytes: the numbers of their lines are exact.
+/// The limit for the bytes of a text, so that the numbers of its lines are exact.
 const TEXT_END: u64 = 1 << 63;
 
-/// What a true journal says: whose it is, and what was tallied of it.
+/// A true journal: its owner, and its tally.
 #[derive(Drop)]
 pub(crate) struct Judged {
     pub(crate) owner: Option<u32>,
@@ -34,7 +34,7 @@ impl Model for Judged {
     ghost view = { λ j. record { owner = j.owner; tally = j.tally } };
 }
 
-// The journal of nobody, whose lines were read.
+// Judges the journal of no one, whose lines were read.
 fn judge_nobodys(alloc: Global, config: &Config, text: &[u8]) -> Result<Judged, JournalFault>
     requires short { length text.now < 2 ^ 63 }
     requires says { (all : List Said) × Says text.now all }
@@ -50,7 +50,7 @@ fn judge_nobodys(alloc: Global, config: &Config, text: &[u8]) -> Result<Judged, 
     }
 }
 
-// What comes of the replay of a member's journal.
+// Returns the result after the replay of a member's journal.
 fn conclude(place: u32, journal: Journal) -> Result<Judged, JournalFault>
     ensures { result ≡ concluded place journal.tally journal.tally.watched.wrong journal.strays }
 {
@@ -66,7 +66,7 @@ fn conclude(place: u32, journal: Journal) -> Result<Judged, JournalFault>
     })
 }
 
-// The journal of the member at this place, whose lines were read.
+// Judges the journal of the member at this place, whose lines were read.
 fn judge_members(
     alloc: Global,
     config: &Config,
@@ -99,14 +99,14 @@ fn is_of(judged: &Judged, place: u32) -> bool
     }
 }
 
-// Whether one of these journals is that of the member at this place.
+// Returns whether one of these journals belongs to the member at this place.
 fn is_owned(all: &[Judged], place: u32) -> bool
     ensures { result ≡ list_any (is_of_place place) all.now }
 {
     all.iter().any(|judged| is_of(judged, place))
 }
 
-// A journal whose lines were read.
+// Judges a journal whose lines were read.
 fn judge_lines(
     alloc: Global,
     config: &Config,
@@ -131,7 +131,7 @@ fn judge_lines(
     }
 }
 
-/// One more journal, behind these.
+/// Judges one more journal, after these.
 pub(crate) fn judge(
     alloc: Global,
     config: &Config,

@@ -12,27 +12,27 @@ ghost use Rattle.booth_audit.specs.Starts.{StartsAreReplayed};
 ghost use Rattle.booth_audit.specs.Turns.{TurnsAreReplayed};
 ghost use Rattle.booth_audit.specs.Watched.{TicketsAreFound, WatchTellsFirst};
 
-/// Each lease that a member may have kept has a holding, which began no later than at the reading in use.
+/// Each lease that a member may have written has a holding, which began no later than at the reading in use.
 pub fn members_are_covered()
     ensures { MembersAreCovered }
 {}
 
-/// The holdings of members tell of each lease that one of them may have kept.
+/// The holdings of members cover each lease that one of them may have written.
 pub fn holdings_cover()
     ensures { HoldingsCover }
 {}
 
-/// A turn over a host that replays lines of a journal is what the replay of these lines has.
+/// A turn with a host that replays lines of a journal is what the replay of these lines has.
 pub fn turns_are_replayed()
     ensures { TurnsAreReplayed }
 {}
 
-/// Each call of a start is what the replay of its journal has there, by what the lines have to that call.
+/// Each call of a start is what the replay of its journal has there, by what the lines have for that call.
 pub fn starts_are_replayed()
     ensures { StartsAreReplayed }
 {}
 
-/// What is noted of a member is what its deeds make: the reading in use, and the holdings of each ticket.
+/// What is noted about a member follows from what it did: the reading in use, and the holdings of each ticket.
 pub fn notes_are_deeds()
     ensures { NotesAreDeeds }
 {}
@@ -42,12 +42,12 @@ pub fn replays_are_own()
     ensures { ReplaysAreOwn }
 {}
 
-/// What is noted of a ticket is what its member may have kept of it.
+/// The noted records of a ticket are those that its member may have written.
 pub fn may_is_noted()
     ensures { MayIsNoted }
 {}
 
-/// A start has the line of its last read, and the record of each ticket stands in the line that a fault names.
+/// A start has the line of its last read, and the record of each ticket is in the line that a fault names.
 pub fn starts_have_lines()
     ensures { StartsHaveLines }
 {}
@@ -57,12 +57,13 @@ pub fn tickets_are_found()
     ensures { TicketsAreFound }
 {}
 
-/// The watch over a member's events tells the line of the first record that a start read and may not have been kept.
+/// The watch over a member's events reports the line of the first record that a start read and its member may not
+/// have written.
 pub fn watch_tells_first()
     ensures { WatchTellsFirst }
 {}
 
-/// What is noted of a member's hearings tells which messages that its turns heard were sent.
+/// The noted messages of a member show which messages that its turns received were sent.
 pub fn hearings_are_deeds()
     ensures { HearingsAreDeeds }
 {}
@@ -72,22 +73,22 @@ pub fn replays_are_counted()
     ensures { ReplaysAreCounted }
 {}
 
-/// What was sent by journals is what their members sent.
+/// What the journals have as sends is what their members sent.
 pub fn senders_tell()
     ensures { SendersTell }
 {}
 
-/// By what is noted as heard, and by what members sent, the first message is found that was heard and not sent.
+/// The noted messages, compared with what the members sent, give the first message that was received and not sent.
 pub fn unsent_is_found()
     ensures { UnsentIsFound }
 {}
 
-/// What is told of the exchanges of journals is the fault of these, or that they have none.
+/// The answer about the exchanges of journals is the fault of the journals, or that there is none.
 pub fn exchanges_tell()
     ensures { ExchangesTell }
 {}
 
-/// Of journals an audit has one answer: no fault and these holdings, or this fault; but for want of memory.
+/// An audit has one answer for given journals: no fault and these holdings, or this fault; apart from out of memory.
 pub fn audits_have_one_answer()
     ensures { AuditsHaveOneAnswer }
 {}

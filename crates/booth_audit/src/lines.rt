@@ -1,4 +1,4 @@
-//! The lines that are left of a journal, as the calls that are asked for.
+//! The lines that are left of a journal, compared with the requested calls.
 ghost use Rattle.std.specs.Prelude.{◌≡◌, List, Err, None, IfErr, IfOk, IfSome, MatchOption, codes};
 ghost use Rattle.booth_journal.specs.Looking.{begins_with_open};
 ghost use Rattle.booth_journal.specs.Reading.{IsAnswer};
@@ -14,7 +14,7 @@ use booth_rec::Record;
 use std::alloc::Global;
 use std::marker::Model;
 
-/// The lines that are left, and how they ended, once they have.
+/// The lines that are left, and how they ended, if they have.
 #[derive(Drop)]
 pub(crate) struct Lines<'a> {
     rest: &'a [u8],
@@ -30,14 +30,14 @@ impl<'a> Model for Lines<'a> {
     ghost view = { λ l. record { rest = l.rest.now; line = l.line; end = l.end } };
 }
 
-// Whether this is the line of a reading of the clock.
+// Returns whether this is the line of a reading of the clock.
 pub(crate) fn is_now(text: &[u8]) -> bool
     ensures { result ≡ is_now_text text.now }
 {
     b"now".as_slice() == text
 }
 
-// Whether the next call opens a socket.
+// Returns whether the next call opens a socket.
 fn is_open_next(rest: &[u8]) -> bool
     ensures { (left : List Said) → Says rest.now left → result ≡ begins_with_open left }
 {
@@ -47,7 +47,7 @@ fn is_open_next(rest: &[u8]) -> bool
     }
 }
 
-// Whether another start begins at this call, where the call of a text is asked for.
+// Returns whether another start begins at this call, when the call with this text is requested.
 #[tactic(auto, using(crate::proofs::JudgeLemmas::starts_here))]
 fn begins_start(text: &[u8], call: &[u8], behind: &[u8]) -> bool
     ensures { (left : List Said) → Says behind.now left → result ≡ begins_start text.now call.now left }
@@ -61,7 +61,7 @@ fn begins_start(text: &[u8], call: &[u8], behind: &[u8]) -> bool
     is_open_next(behind)
 }
 
-// The line of the answer to the call of this text and what stands behind it, or how the lines end here.
+// Returns the line of the answer to the call with this text and what follows it, or how the lines end here.
 fn found<'a>(text: &[u8], rest: &'a [u8]) -> Result<(&'a [u8], &'a [u8]), End>
     ensures taken { (left : List Said) → Says rest.now left → IfOk result (λ parts.
         IsTaken text.now rest.now left parts.0.now parts.1.now) }
@@ -83,7 +83,7 @@ fn found<'a>(text: &[u8], rest: &'a [u8]) -> Result<(&'a [u8], &'a [u8]), End>
 }
 
 impl<'a> Lines<'a> {
-    /// These lines, of which the first has this number.
+    /// Returns these lines, the first of which has this number.
     pub(crate) fn new(rest: &'a [u8], line: u64) -> Lines<'a>
         ensures { result ≡ record { rest = rest.now; line = line; end = None } }
     {
@@ -94,28 +94,28 @@ impl<'a> Lines<'a> {
         }
     }
 
-    /// The bytes that are left.
+    /// Returns the bytes that are left.
     pub(crate) fn rest(&self) -> &'a [u8]
         ensures { result.now ≡ self.now.rest }
     {
         self.rest
     }
 
-    /// The number of the first line that is left.
+    /// Returns the number of the first line that is left.
     pub(crate) fn line(&self) -> u64
         ensures { result ≡ self.now.line }
     {
         self.line
     }
 
-    /// How the lines ended, once they have.
+    /// Returns how the lines ended, if they have.
     pub(crate) fn end(&self) -> Option<End>
         ensures { result ≡ self.now.end }
     {
         self.end
     }
 
-    // The line of the answer to the call of this text. Where there is none, the lines have ended.
+    // Returns the line of the answer to the call with this text. If there is none, the lines have ended.
     #[tactic(auto, using(crate::proofs::JudgeLemmas::left_here))]
     fn take(&mut self, text: &[u8]) -> Option<&'a [u8]>
         ensures { (left : List Said) → Says self.old.rest left → MatchOption result
@@ -138,7 +138,7 @@ impl<'a> Lines<'a> {
         }
     }
 
-    /// Whether the call of this text was done. Without memory for its answer, none.
+    /// Returns whether the call with this text was done, or none if memory for its answer is out.
     pub(crate) fn done(&mut self, text: &[u8]) -> Option<Result<(), Failed>>
         ensures { (left : List Said) → Says self.old.rest left → IfSome result (λ done.
             Comes left text.now (IsDoneBy done) self.old self.new) }
@@ -153,7 +153,7 @@ impl<'a> Lines<'a> {
         }
     }
 
-    /// The reading that the clock gave.
+    /// Returns the reading of the clock.
     pub(crate) fn reading(&mut self) -> Option<u64>
         ensures { (left : List Said) → Says self.old.rest left → IfSome result (λ reading.
             Comes left (codes "now") (IsReadingBy reading) self.old self.new) }
@@ -167,7 +167,7 @@ impl<'a> Lines<'a> {
         }
     }
 
-    /// The record that the call of this text read.
+    /// Returns the record that the call with this text read.
     pub(crate) fn record(
         &mut self,
         alloc: Global,
@@ -187,7 +187,7 @@ impl<'a> Lines<'a> {
         }
     }
 
-    /// What a wait brought, and the bytes of a datagram.
+    /// Returns the result of a wait, and puts the bytes of a datagram into `into`.
     pub(crate) fn arrival(
         &mut self,
         alloc: Global,
@@ -207,7 +207,7 @@ impl<'a> Lines<'a> {
     }
 }
 
-// What an answer brought, and its bytes.
+// Returns the result in an answer, and puts its bytes into `into`.
 fn arrived(answer: &Answer, into: &mut Datagram) -> Option<Result<Arrival, Failed>>
     ensures { IsAnswer answer.now → IfSome result (λ came. IsArrivalBy came into.new answer.now) }
 {

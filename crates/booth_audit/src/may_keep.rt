@@ -1,4 +1,4 @@
-//! The records that may be kept of each ticket, and which record of a start is none of them.
+//! The records that a member may have written for each ticket, and the first record of a start that is none of them.
 ghost use Rattle.std.specs.Prelude.{◌≡◌, ◌≤◌, ◌^◌, [], ◌∷◌, IfOk, OnOk, is_ok};
 ghost use Rattle.booth_node.specs.Records.{may_after_keep};
 ghost use Rattle.booth_rec.specs.Record.{record_or_none};
@@ -12,8 +12,8 @@ use booth_rec::Record;
 use std::alloc::{AllocError, Global};
 use std::marker::Model;
 
-/// The records that may be kept of a ticket, the latest first: the last one that was read or kept, and those of which a
-/// keep failed or was cut since.
+/// The records that a member may have written for a ticket, the latest first: the last one that was read or written,
+/// and those whose write failed or was interrupted since.
 #[derive(Drop)]
 pub(crate) struct MayKeep {
     kept: Record,
@@ -30,7 +30,7 @@ impl Model for MayKeep {
 }
 
 impl MayKeep {
-    /// This record alone.
+    /// Returns this record alone.
     pub(crate) fn one(alloc: Global, kept: Record) -> MayKeep
         ensures { result ≡ kept ∷ [] }
     {
@@ -40,7 +40,7 @@ impl MayKeep {
         }
     }
 
-    /// After a keep with this answer. A keep that was cut has the answer of one that failed.
+    /// Returns the records after a write with this answer. An interrupted write has the answer of one that failed.
     #[tactic(auto, using(crate::proofs::MayLemmas::with_tried))]
     pub(crate) fn keep(
         &mut self,
@@ -59,7 +59,7 @@ impl MayKeep {
         Ok(())
     }
 
-    /// Whether one of them is this record.
+    /// Returns whether this record is one of them.
     #[tactic(auto, using(crate::proofs::MayLemmas::among_both))]
     fn has(&self, kept: &Record) -> bool
         ensures { result ≡ is_among self.now kept.now }
@@ -68,7 +68,7 @@ impl MayKeep {
     }
 }
 
-// The record that was kept, or the one that stands for none.
+// Returns the record that was written, or the empty record if there is none.
 fn record_or_none(found: &Option<Record>) -> Record
     ensures { result ≡ record_or_none found.now }
 {
@@ -78,7 +78,7 @@ fn record_or_none(found: &Option<Record>) -> Record
     }
 }
 
-/// The records that may be kept of each of these tickets before any start.
+/// Returns the records that may have been written for each of these tickets before any start.
 pub(crate) fn first_may(alloc: Global, tickets: &[TicketConf]) -> Result<Vec<MayKeep>, AllocError>
     ensures { IfOk result (λ all. all.items ≡ first_may tickets.now) }
 {
@@ -88,7 +88,7 @@ pub(crate) fn first_may(alloc: Global, tickets: &[TicketConf]) -> Result<Vec<May
         .collect(alloc)
 }
 
-/// The records that may be kept behind a start that read these.
+/// Returns the records that may have been written, after a start that read these.
 pub(crate) fn read_may(
     alloc: Global,
     records: &[Option<Record>],
@@ -101,7 +101,7 @@ pub(crate) fn read_may(
         .collect(alloc)
 }
 
-/// The same after a keep of the ticket at a place, where there is one.
+/// Returns the records after a write for the ticket at a place, if there is one.
 #[tactic(auto, using(crate::proofs::MayLemmas::changed_there, crate::proofs::MayLemmas::changed_past))]
 pub(crate) fn keep_at(
     all: &mut Vec<MayKeep>,
@@ -132,7 +132,8 @@ fn first_wrong(all: &[MayKeep], records: &[Option<Record>]) -> Option<usize>
         .position(|(may, found)| is_wrong(may, found))
 }
 
-// The line of the answer that says the record of the ticket at a place, in a start of so many tickets with this line.
+// Returns the line of the answer with the record of the ticket at a place, in a start with this many tickets and this
+// line.
 fn answer_line(count: u64, place: u64, last: u64) -> u64
     requires { last ≤ 2 ^ 63 }
     ensures { result ≡ answer_line count place last }
@@ -141,7 +142,7 @@ fn answer_line(count: u64, place: u64, last: u64) -> u64
     (last + 1).saturating_sub(later.saturating_mul(2))
 }
 
-/// The line of the first record of a start, which has this line, that may not have been kept.
+/// Returns the line of the first record of a start, which has this line, that the member may not have written.
 pub(crate) fn wrong_line(all: &[MayKeep], records: &[Option<Record>], last: u64) -> Option<u64>
     requires { last ≤ 2 ^ 63 }
     ensures { result ≡ wrong_line all.now records.now last }

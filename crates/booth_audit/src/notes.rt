@@ -1,4 +1,4 @@
-//! What is noted of a journal while it is replayed.
+//! What is noted about a journal while it is replayed.
 ghost use Rattle.std.specs.Prelude.{◌≡◌, ◌<◌, ◌++◌, IfOk, OnOk};
 ghost use Rattle.booth_node.specs.Session.{IsCut, Makes, Starts};
 ghost use Rattle.booth_rec.specs.Record.{record_or_none};
@@ -13,10 +13,10 @@ use booth_rec::{Lease, Record};
 use std::alloc::{AllocError, Global};
 use std::marker::Model;
 
-/// The readings below which clocks count, in ms since 1970.
+/// The limit for clock readings, in ms since 1970.
 pub(crate) const READINGS_END: u64 = 1 << 62;
 
-/// The reading in use, who held which ticket when, and what was sent.
+/// The reading in use, the holdings, and the sent messages.
 #[derive(Drop)]
 pub(crate) struct Notes {
     alloc: Global,
@@ -33,7 +33,7 @@ impl Model for Notes {
     ghost view = { λ n. record { last = n.last; held = n.held.items; sent = n.sent.items } };
 }
 
-// Adds the holding of a lease, where there is one.
+// Adds the holding of a lease, if there is one.
 fn push_lease(
     held: &mut Vec<Holding>,
     ticket: u32,
@@ -57,7 +57,7 @@ fn push_lease(
     }
 }
 
-// The lease of a record, where one was kept.
+// Returns the lease of a record, if there is a record.
 fn lease_of(found: &Option<Record>) -> Option<Lease>
     ensures { result ≡ (record_or_none found.now).lease }
 {
@@ -67,7 +67,8 @@ fn lease_of(found: &Option<Record>) -> Option<Lease>
     }
 }
 
-// A place in a list of the configuration. Where the list were too long, which cannot be, there is no memory.
+// Returns a place in a list of the configuration. If the list were too long, which cannot be, this returns an
+// allocation failure.
 fn place_of(place: usize) -> Result<u32, AllocError>
     ensures { IfOk result (λ same. same ≡ place) }
 {
@@ -93,7 +94,7 @@ fn push_records(
 }
 
 impl Notes {
-    /// Nothing.
+    /// Returns notes without an event.
     pub(crate) fn new(alloc: Global) -> Notes
         ensures { result ≡ nothing_noted }
     {
@@ -105,21 +106,21 @@ impl Notes {
         }
     }
 
-    /// The reading in use.
+    /// Returns the reading in use.
     pub(crate) fn last(&self) -> u64
         ensures { result ≡ self.now.last }
     {
         self.last
     }
 
-    /// The holdings, in the order of the lines.
+    /// Returns the holdings, in the order of the lines.
     pub(crate) fn held(&self) -> &[Holding]
         ensures { result.now ≡ self.now.held }
     {
         &self.held
     }
 
-    /// What was sent, in the order of the lines.
+    /// Returns the sent messages, in the order of the lines.
     pub(crate) fn sent(&self) -> &[ByteText]
         ensures { result.now ≡ self.now.sent }
     {
@@ -141,7 +142,7 @@ impl Notes {
         push_records(&mut self.held, whose.place(), from, records)
     }
 
-    // Notes what was sent.
+    // Notes a sent message.
     fn send(&mut self, bytes: &ByteText) -> Result<(), AllocError>
         ensures { OnOk result (self.new ≡ with_sent self.old bytes.now) }
     {
@@ -150,7 +151,8 @@ impl Notes {
         Ok(())
     }
 
-    // Notes a record that was to be kept of a ticket. Where it has no name, which cannot be, there is no memory.
+    // Notes a record for the write of a ticket. If the ticket has no name, which cannot be, this returns an
+    // allocation failure.
     fn keep(
         &mut self,
         whose: &Whose<'_>,
@@ -175,7 +177,7 @@ impl Notes {
         )
     }
 
-    /// Notes a call that was answered.
+    /// Notes a call with an answer.
     pub(crate) fn call(&mut self, whose: &Whose<'_>, entry: &Entry) -> Result<(), AllocError>
         ensures { OnOk result (self.new ≡ noted whose.now self.old (Makes entry.now)) }
     {
@@ -197,7 +199,7 @@ impl Notes {
         }
     }
 
-    /// Notes a call that was not answered.
+    /// Notes a call without an answer.
     pub(crate) fn cut(&mut self, whose: &Whose<'_>, entry: &Entry) -> Result<(), AllocError>
         ensures { OnOk result (self.new ≡ noted whose.now self.old (IsCut (cut_of entry.now))) }
     {

@@ -1,4 +1,4 @@
-//! Whose a journal is.
+//! The owner of a journal.
 ghost use Rattle.std.specs.Prelude.{◌≡◌, ◌<◌, ◌^◌, IfSome, List, length, option_map, position};
 ghost use Rattle.booth_conf.specs.Rules.{is_at};
 ghost use Rattle.booth_journal.specs.declared.said.Call.{Call};
@@ -14,12 +14,12 @@ use booth_conf::{Config, Member};
 use booth_journal::{Call, is_open, look, read_call};
 use std::alloc::Global;
 
-/// Why the owner of a journal is not known.
+/// Why a journal has no known owner.
 #[derive(Clone, Copy, Drop)]
 pub(crate) enum OwnerFault {
     /// Its starts are not those of one member.
     NotOne,
-    /// There is no memory for a call.
+    /// Memory for a call is out.
     OutOfMemory,
 }
 
@@ -30,7 +30,7 @@ fn place_at(members: &[Member], address: Address) -> Option<usize>
     members.iter().position(|member| address == member.address)
 }
 
-// The place of the member that listens there.
+// Returns the place of the member that listens there.
 fn place_of(config: &Config, local: Option<Address>) -> Option<u32>
     ensures { result ≡ place_of config.now.members local }
 {
@@ -43,7 +43,7 @@ fn place_of(config: &Config, local: Option<Address>) -> Option<u32>
     }
 }
 
-// The place of the member whose start a call is, where it opens a socket.
+// If a call opens a socket, returns the place of the member whose start it is.
 fn place_in(alloc: Global, config: &Config, call: &[u8]) -> Result<Option<u32>, OwnerFault>
     ensures { (said : Call) → IsCall said → call.now ≡ call_text said → HasPlace config.now.members said result }
 {
@@ -59,7 +59,7 @@ fn place_in(alloc: Global, config: &Config, call: &[u8]) -> Result<Option<u32>, 
     }
 }
 
-// The member whose starts are at this place too.
+// Returns the member, if its place is also this one.
 fn one_owner(owner: Option<u32>, place: u32) -> Result<Option<u32>, OwnerFault>
     ensures { IsOneOwner owner place result }
 {
@@ -75,7 +75,7 @@ fn one_owner(owner: Option<u32>, place: u32) -> Result<Option<u32>, OwnerFault>
     }
 }
 
-// The owner of the starts so far and of this call.
+// Returns the owner of the starts so far and of this call.
 fn next_owner(
     alloc: Global,
     config: &Config,
@@ -92,7 +92,7 @@ fn next_owner(
     }
 }
 
-/// The place of the member whose starts the calls of a journal are, or none where no start came to listen.
+/// Returns the place of the member whose starts a journal has, or none if no start listened.
 pub(crate) fn owner(alloc: Global, config: &Config, text: &[u8]) -> Result<Option<u32>, OwnerFault>
     requires says { (all : List Said) × Says text.now all }
     ensures { (all : List Said) → Says text.now all → IsOwner config.now.members all result }
@@ -109,7 +109,7 @@ pub(crate) fn owner(alloc: Global, config: &Config, text: &[u8]) -> Result<Optio
     Ok(owner)
 }
 
-// How many lines say a call with this answer.
+// Returns how many lines a call with this answer has.
 fn lines_of(answer: Option<&[u8]>) -> u64
     ensures { result ≡ lines_of (option_map (λ bytes. bytes.now) answer.entry) }
 {
@@ -119,7 +119,7 @@ fn lines_of(answer: Option<&[u8]>) -> u64
     }
 }
 
-/// The line of the first call that was not demanded of nobody: each but a reading of a clock.
+/// Returns the line of the first call that was not demanded of no one: each one except a reading of a clock.
 pub(crate) fn nobody_strays(text: &[u8]) -> Option<u64>
     requires short { length text.now < 2 ^ 63 }
     requires says { (all : List Said) × Says text.now all }

@@ -1,4 +1,4 @@
-//! A host that gives the answers of a journal, as long as it is asked for the calls that the journal says.
+//! A host with the answers of a journal, as long as the requested calls are those of the journal.
 ghost use Rattle.std.specs.Prelude.{◌≡◌, ◌≤◌, ◌+◌, ◌-◌, ◌^◌, List, ℕ, IsSome, MatchBool, None, Some, [], length};
 ghost use Rattle.booth_host.specs.Told.{told_past};
 ghost use Rattle.booth_audit.specs.Hosts.{IsReplay};
@@ -12,8 +12,8 @@ use booth_rec::Record;
 use std::alloc::Global;
 use std::marker::{Brand, Model, PhantomData};
 
-/// The text that is replayed and the number of its first line, as part of a type: then a turn, whose contract speaks of
-/// every host, cannot leave a host of another text.
+/// The text that is replayed and the number of its first line, as part of a type: a turn, whose contract covers every
+/// host, can then not leave a host of another text.
 pub(crate) trait ReplayedText {
     ghost text: { List ℕ };
 
@@ -26,15 +26,15 @@ impl ReplayedText for Brand {
     ghost line = { 0 };
 }
 
-/// Answers by the lines of the text, and, once these end, anything. It tells all calls that it is asked for, where
-/// there is memory for them. Of a turn it is asked for waits, readings, sends, keeps and starts; where it is asked for
-/// another call it tells nothing from then on.
+/// A host that answers by the lines of the text and, once these end, with anything. It records all requested calls,
+/// until memory runs out. A turn requests waits, readings, sends, writes and starts; after any other request the host
+/// records nothing.
 #[derive(Drop)]
 pub(crate) struct ReplayHost<'a, J: ReplayedText> {
     alloc: Global,
     lines: Lines<'a>,
     told: Told,
-    // the call that is compared, whose bytes mean nothing between two calls
+    // the call that is compared; its bytes have no meaning between two calls
     draft: Draft,
     of: PhantomData<J>,
 }
@@ -51,7 +51,7 @@ impl<'a, J: ReplayedText> Model for ReplayHost<'a, J> {
 }
 
 impl<'a, J: ReplayedText> ReplayHost<'a, J> {
-    /// Begins at the first line of the text. The draft may hold anything.
+    /// Starts at the first line of the text. The draft may hold anything.
     pub(crate) fn new(alloc: Global, text: &'a [u8], line: u64, draft: Draft) -> ReplayHost<'a, J>
         requires text { text.now ≡ J.text }
         requires line { line ≡ J.line }
@@ -68,7 +68,7 @@ impl<'a, J: ReplayedText> ReplayHost<'a, J> {
         }
     }
 
-    /// How the lines ended, once they have.
+    /// Returns how the lines ended, if they have.
     pub(crate) fn end(&self) -> Option<End>
         ensures end { result ≡ self.now.place.end }
         ensures sound { IsReplay J.text J.line self.now }
@@ -76,28 +76,28 @@ impl<'a, J: ReplayedText> ReplayHost<'a, J> {
         self.lines.end()
     }
 
-    /// Whether it tells its calls: there was memory for all of them.
+    /// Returns whether it records its calls: memory sufficed for all of them.
     pub(crate) fn tells(&self) -> bool
         ensures { MatchBool result (IsSome self.now.past) (self.now.past ≡ None) }
     {
         self.told.entries().is_some()
     }
 
-    /// The number of the first line that is left.
+    /// Returns the number of the first line that is left.
     pub(crate) fn line(&self) -> u64
         ensures { result ≡ self.now.place.line }
     {
         self.lines.line()
     }
 
-    /// The bytes that are left.
+    /// Returns the bytes that are left.
     pub(crate) fn rest(&self) -> &'a [u8]
         ensures { result.now ≡ self.now.place.rest }
     {
         self.lines.rest()
     }
 
-    /// What it tells, and the draft again.
+    /// Returns the recorded calls, and the draft.
     pub(crate) fn into_parts(self) -> (Told, Draft)
         ensures { told_past result.0 ≡ self.entry.past }
     {
@@ -108,7 +108,7 @@ impl<'a, J: ReplayedText> ReplayHost<'a, J> {
 impl<'a, J: ReplayedText> Host for ReplayHost<'a, J> {
     ghost past = { λ h. h.past };
 
-    // a count that stands at its end
+    // a count at its greatest value
     ghost faults = { λ _. 2 ^ 64 - 1 };
 
     fn open(&mut self, place: &Place) -> Result<(), Failed> {

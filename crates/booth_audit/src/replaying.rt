@@ -13,7 +13,7 @@ use booth_node::Node;
 use std::alloc::{AllocError, Global};
 use std::marker::Brand;
 
-/// What is left of a journal behind a turn, how its lines ended if they did, and all that the turn asked for.
+/// What is left of a journal after a turn, how its lines ended if they did, and all calls that the turn requested.
 #[derive(Drop)]
 pub(crate) struct Turned<'a> {
     pub rest: &'a [u8],
@@ -24,7 +24,7 @@ pub(crate) struct Turned<'a> {
     pub draft: Draft,
 }
 
-// The turn over a host of this text.
+// Runs the turn with a host of this text.
 fn turn_over<'a, J: ReplayedText>(
     alloc: Global,
     node: &mut Node,

@@ -1,4 +1,4 @@
-//! What members sent, and the test that what another heard was sent.
+//! What members sent, and the check that a received message was sent.
 ghost use Rattle.std.specs.Prelude.{◌≡◌, ◌↔◌, ◌++◌, ◌∷◌, [], IfOk, IsTrue, List, OnOk};
 ghost use Rattle.booth_node.specs.Records.{Has};
 ghost use Rattle.booth_wire.specs.PlainMessage.{plain_of};
@@ -29,7 +29,7 @@ impl Model for Sends {
 }
 
 impl Sends {
-    /// Nothing was sent.
+    /// Returns a table without a message.
     pub(crate) fn new(alloc: Global) -> Result<Sends, AllocError>
         ensures { IfOk result (λ sends. KnowsAll sends []) }
     {
@@ -52,7 +52,7 @@ impl Sends {
         Ok(())
     }
 
-    // Adds what the member of this id sent, where it is a message that bears its id.
+    // Adds a frame that the member with this id sent, if it is a message that carries this id.
     fn read(&mut self, id: MemberId, bytes: &[u8]) -> Result<(), AllocError>
         ensures { OnOk result (KnowsMore self.old id (bytes.now ∷ []) self.new) }
     {
@@ -74,7 +74,7 @@ impl Sends {
         Ok(())
     }
 
-    /// Adds all that the member of this id sent.
+    /// Adds all that the member with this id sent.
     pub(crate) fn add(&mut self, id: MemberId, sent: &[ByteText]) -> Result<(), AllocError>
         ensures { OnOk result ((senders : List Sender) → KnowsAll self.old senders
             → KnowsAll self.new (senders ++ record { id = id; sent = sent.now } ∷ [])) }
@@ -91,7 +91,7 @@ impl Sends {
         self.frames.contains(self.frame.bytes())
     }
 
-    /// Whether the message of a datagram was sent by the member whose id it bears.
+    /// Returns whether the message of a datagram was sent by the member whose id it carries.
     pub(crate) fn was_sent(&mut self, bytes: &[u8]) -> bool
         ensures same { self.new ≡ self.old }
         ensures sent { (senders : List Sender) → KnowsAll self.old senders
@@ -103,7 +103,7 @@ impl Sends {
         }
     }
 
-    /// The line of the first that was heard and not sent.
+    /// Returns the line of the first message that was received and not sent.
     pub(crate) fn first_unsent(&mut self, heard: &[Hears]) -> Option<u64>
         ensures same { self.new ≡ self.old }
         ensures first { (senders : List Sender) → KnowsAll self.old senders → IsFound senders heard.now result }

@@ -1,4 +1,4 @@
-//! The replay of a start and of the session that it begins.
+//! The replay of a start and of the session after it.
 ghost use Rattle.std.specs.Prelude.{◌≡◌, ◌≤◌, ◌+◌, ◌-◌, ◌/◌, ◌^◌, [], ◌∷◌, List, length};
 ghost use Rattle.std.specs.Prelude.{IfOk, IfSome, MatchOption, OnOk};
 ghost use Rattle.booth_host.specs.Told.{told_past};
@@ -23,11 +23,11 @@ pub(crate) struct Left<'a> {
     pub rest: &'a [u8],
     /// The number of the first line that is left.
     pub line: u64,
-    /// It may hold anything.
+    /// May hold anything.
     pub draft: Draft,
 }
 
-/// What is left of a journal where no session goes on, or where a call was not demanded.
+/// What is left of a journal when no session is under way, or when a call was not demanded.
 #[derive(Drop)]
 pub(crate) struct Behind<'a> {
     pub left: Left<'a>,
@@ -35,7 +35,7 @@ pub(crate) struct Behind<'a> {
     pub strays: bool,
 }
 
-// What stands behind a call that has no answer.
+// Returns what follows a call without an answer.
 fn skip(text: &[u8]) -> &[u8]
     ensures { (said : Said) (more : List Said) → Says text.now (said ∷ more)
         → Says result.now more × (length result.now + 1 ≤ length text.now) }
@@ -46,7 +46,7 @@ fn skip(text: &[u8]) -> &[u8]
     }
 }
 
-// What is left where lines ended so, or where a call of a start failed.
+// Returns what is left if the lines ended in this way, or if a call of a start failed.
 fn left_behind<'a>(from: Left<'a>, end: Option<End>) -> Behind<'a>
     requires { from.line + length from.rest.now ≤ 2 ^ 63 }
     ensures { IsBehind end from.entry.rest.now from.entry.line result.strays result.left.rest.now result.left.line }
@@ -75,7 +75,7 @@ fn left_behind<'a>(from: Left<'a>, end: Option<End>) -> Behind<'a>
     }
 }
 
-// The calls of a turn that were read, from this line on, and those that were not.
+// Returns the calls of a turn that were read, from this line on, and those that were not.
 fn parts<'t>(turned: &'t Turned<'_>, line: u64) -> Option<(&'t [Entry], &'t [Entry])>
     ensures { IfSome result (λ parts. ArePartsOf (told_past turned.now.told) ((turned.now.line - line) / 2)
         parts.0.now parts.1.now) }
@@ -85,7 +85,7 @@ fn parts<'t>(turned: &'t Turned<'_>, line: u64) -> Option<(&'t [Entry], &'t [Ent
     entries.split_at_checked(read as usize)
 }
 
-// Tallies the first of these calls, which was cut at this line.
+// Tallies the first of these calls, which was interrupted at this line.
 fn tally_first(
     whose: &Whose<'_>,
     unread: &[Entry],
@@ -100,7 +100,7 @@ fn tally_first(
     }
 }
 
-// Tallies the call that was cut where the lines ended at this one, if one was.
+// Tallies the interrupted call if the lines ended at this one.
 fn tally_cut(
     whose: &Whose<'_>,
     end: Option<End>,
@@ -118,7 +118,7 @@ fn tally_cut(
     }
 }
 
-// Tallies the calls of a turn, the first of which has this line.
+// Tallies the calls of a turn, the first of which is at this line.
 fn tally_turn(
     whose: &Whose<'_>,
     turned: &Turned<'_>,
@@ -136,7 +136,7 @@ fn tally_turn(
     tally_cut(whose, turned.end, unread, at, tally)
 }
 
-// Each turn of a session over its node, to where it is over.
+// Replays each turn of a session with its node, up to the end of the session.
 fn replay_each<'a>(
     alloc: Global,
     whose: &Whose<'_>,
@@ -169,7 +169,7 @@ fn replay_each<'a>(
     }
 }
 
-// The turns of a session, to where it is over.
+// Replays the turns of a session, up to its end.
 fn replay_turns<'a>(
     alloc: Global,
     whose: &Whose<'_>,
@@ -188,7 +188,7 @@ fn replay_turns<'a>(
     replay_each(alloc, whose, &mut node, from, tally)
 }
 
-// A start that read its clock so, and the session that it begins if all its calls are answered.
+// Replays a start that read its clock with this result, and its session if all its calls have answers.
 fn replay_start<'a>(
     alloc: Global,
     whose: &Whose<'_>,
@@ -220,7 +220,7 @@ fn replay_start<'a>(
     Ok(found)
 }
 
-/// The next start, and its session, where no session goes on. None where no call is left.
+/// Replays the next start and its session, when no session is under way. Returns none if no call is left.
 pub(crate) fn replay_next<'a>(
     alloc: Global,
     whose: &Whose<'_>,

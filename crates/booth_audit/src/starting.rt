@@ -1,4 +1,4 @@
-//! The calls of a start behind its reading of the clock.
+//! The calls of a start after it has read its clock.
 ghost use Rattle.std.specs.Prelude.{◌≡◌, ◌≤◌, ◌+◌, ◌^◌, ℕ, [], List, IfOk, None, length, option_map};
 ghost use Rattle.booth_journal.specs.Says.{Said, Says};
 ghost use Rattle.booth_node.specs.declared.node_config.NodeConfig.{NodeConfig};
@@ -12,7 +12,7 @@ use booth_journal::{Draft, spell_kept, spell_open};
 use booth_rec::Record;
 use std::alloc::{AllocError, Global};
 
-// The records of these tickets, or none where one was not read.
+// Returns the records of these tickets, or none if one was not read.
 fn read_records(
     alloc: Global,
     tickets: &[TicketConf],
@@ -45,7 +45,7 @@ fn read_records(
     Ok(Some(records))
 }
 
-/// The record of each ticket that a start reads once it listens, or none where the start is no session.
+/// Returns the record of each ticket, which a start reads once it listens, or none if the start has no session.
 pub(crate) fn read_start(
     alloc: Global,
     whose: &Whose<'_>,

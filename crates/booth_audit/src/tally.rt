@@ -1,4 +1,4 @@
-//! What is tallied of a journal while it is replayed.
+//! The tally of a journal that is replayed.
 ghost use Rattle.std.specs.Prelude.{◌≡◌, ◌≤◌, ◌<◌, ◌+◌, ◌*◌, ◌^◌, IfOk, OnOk, length};
 ghost use Rattle.booth_node.specs.Session.{IsCut, Makes, Starts};
 ghost use Rattle.booth_audit.specs.Tally.{nothing_tallied, tallied, tallied_all};
@@ -15,7 +15,7 @@ use booth_rec::Record;
 use std::alloc::{AllocError, Global};
 use std::marker::Model;
 
-/// What is noted of a member, what the watch over its starts has seen, and what it heard of others.
+/// What was noted about a member, what the watch over its starts has found, and what it received from others.
 #[derive(Drop)]
 pub struct Tally {
     notes: Notes,
@@ -32,7 +32,7 @@ impl Model for Tally {
 }
 
 impl Tally {
-    /// Nothing, of a member of these tickets.
+    /// Returns a tally without an event, for a member with these tickets.
     pub(crate) fn new(alloc: Global, tickets: &[TicketConf]) -> Result<Tally, AllocError>
         ensures { IfOk result (λ tally. tally ≡ nothing_tallied tickets.now) }
     {
@@ -43,35 +43,35 @@ impl Tally {
         })
     }
 
-    /// The reading in use.
+    /// Returns the reading in use.
     pub fn last(&self) -> u64
         ensures { result ≡ self.now.noted.last }
     {
         self.notes.last()
     }
 
-    /// The line of the first record that a start read and that may not have been kept, if one did.
+    /// Returns the line of the first record that a start read and the member may not have written, if there is one.
     pub(crate) fn wrong(&self) -> Option<u64>
         ensures { result ≡ self.now.watched.wrong }
     {
         self.watch.wrong()
     }
 
-    /// The holdings, in the order of the lines.
+    /// Returns the holdings, in the order of the lines.
     pub fn held(&self) -> &[Holding]
         ensures { result.now ≡ self.now.noted.held }
     {
         self.notes.held()
     }
 
-    /// What was sent, in the order of the lines.
+    /// Returns the sent messages, in the order of the lines.
     pub fn sent(&self) -> &[ByteText]
         ensures { result.now ≡ self.now.noted.sent }
     {
         self.notes.sent()
     }
 
-    /// What was heard, in the order of the lines.
+    /// Returns the received messages, in the order of the lines.
     pub(crate) fn heard(&self) -> &[Hears]
         ensures { result.now ≡ self.now.hearings.all }
     {
@@ -96,7 +96,7 @@ impl Tally {
         Ok(())
     }
 
-    /// Tallies a call that was answered, at this line.
+    /// Tallies a call with an answer, at this line.
     pub(crate) fn call(
         &mut self,
         whose: &Whose<'_>,
@@ -113,7 +113,7 @@ impl Tally {
         Ok(())
     }
 
-    /// Tallies a call that was not answered, at this line.
+    /// Tallies a call without an answer, at this line.
     pub(crate) fn cut(
         &mut self,
         whose: &Whose<'_>,
@@ -129,7 +129,7 @@ impl Tally {
         Ok(())
     }
 
-    /// Tallies the calls of a turn that were answered, the first of them at this line.
+    /// Tallies the calls of a turn with answers, the first of them at this line.
     pub(crate) fn calls(
         &mut self,
         whose: &Whose<'_>,

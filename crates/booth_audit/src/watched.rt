@@ -1,4 +1,4 @@
-//! The watch over the starts of a member: whether each record that they read may have been kept.
+//! The watch over the starts of a member: it checks that the member may have written each record that they read.
 ghost use Rattle.std.specs.Prelude.{◌≡◌, ◌≤◌, ◌^◌, IfOk, OnOk, ℕ};
 ghost use Rattle.std.specs.Option.{option_or};
 ghost use Rattle.booth_host.specs.declared.entry.Entry.TheVariants.{Keep};
@@ -17,8 +17,8 @@ use booth_rec::Record;
 use std::alloc::{AllocError, Global};
 use std::marker::Model;
 
-/// The records that may be kept of each ticket, and the line of the first one that a start read and that was none of
-/// them.
+/// The records that the member may have written for each ticket, and the line of the first record that a start read
+/// and that is none of them.
 #[derive(Drop)]
 pub(crate) struct Watch {
     alloc: Global,
@@ -35,7 +35,7 @@ impl Model for Watch {
 }
 
 impl Watch {
-    /// Before any start of a member of these tickets.
+    /// Returns a watch before any start of a member with these tickets.
     pub(crate) fn new(alloc: Global, tickets: &[TicketConf]) -> Result<Watch, AllocError>
         ensures { IfOk result (λ watch. watch ≡ first_watched tickets.now) }
     {
@@ -46,7 +46,7 @@ impl Watch {
         })
     }
 
-    /// The line of the first record that may not have been kept, if a start read one.
+    /// Returns the line of the first record that the member may not have written, if a start read one.
     pub(crate) fn wrong(&self) -> Option<u64>
         ensures { result ≡ self.now.wrong }
     {
@@ -74,7 +74,7 @@ impl Watch {
         Ok(())
     }
 
-    // Watches a keep. Where its ticket has no name, which cannot be, there is no memory.
+    // Watches a write. If its ticket has no name, which cannot be, this returns an allocation failure.
     fn keep(
         &mut self,
         whose: &Whose<'_>,
@@ -94,7 +94,7 @@ impl Watch {
         }
     }
 
-    /// Watches a call that was answered.
+    /// Watches a call with an answer.
     pub(crate) fn call(&mut self, whose: &Whose<'_>, entry: &Entry) -> Result<(), AllocError>
         ensures { (line : ℕ) → OnOk result (self.new
             ≡ watched whose.now self.old (record { what = Makes entry.now; line = line })) }
@@ -118,7 +118,7 @@ impl Watch {
         }
     }
 
-    /// Watches a call that was not answered. A keep that was cut counts as one that failed.
+    /// Watches a call without an answer. An interrupted write counts as one that failed.
     pub(crate) fn cut(&mut self, whose: &Whose<'_>, entry: &Entry) -> Result<(), AllocError>
         ensures { (line : ℕ) → OnOk result (self.new
             ≡ watched whose.now self.old (record { what = IsCut (cut_of entry.now); line = line })) }

@@ -14,7 +14,8 @@ use booth_rec::Record;
 use std::alloc::{AllocError, Global};
 use std::marker::Model;
 
-/// The member whose journal is replayed: the configuration and the ring that it shares, its id, and its place.
+/// The member whose journal is replayed: the configuration and the ring that it shares with others, its id, and its
+/// place.
 #[derive(Drop)]
 pub struct Whose<'a> {
     config: &'a Config,
@@ -40,7 +41,7 @@ impl<'a> Model for Whose<'a> {
 }
 
 impl<'a> Whose<'a> {
-    /// The member at this place, or none where the configuration has no such member.
+    /// Returns the member at this place, or none if the configuration has no such member.
     pub fn new(config: &'a Config, ring: Option<&'a Ring>, place: u32) -> Option<Whose<'a>>
         ensures { IfSome result (λ whose. IsMember config.now (option_copied ring.entry) place whose) }
     {
@@ -54,35 +55,35 @@ impl<'a> Whose<'a> {
         })
     }
 
-    /// Its place.
+    /// Returns its place.
     pub(crate) fn place(&self) -> u32
         ensures { result ≡ self.now.place }
     {
         self.place
     }
 
-    /// Its configuration.
+    /// Returns its configuration.
     pub(crate) fn config(&self) -> &'a Config
         ensures { result.now ≡ self.now.node.config }
     {
         self.config
     }
 
-    /// Its ring of keys, where it has one.
+    /// Returns its ring of keys, if it has one.
     pub(crate) fn ring(&self) -> Option<&'a Ring>
         ensures { option_copied result ≡ self.now.node.ring }
     {
         self.ring
     }
 
-    /// Its id.
+    /// Returns its id.
     pub(crate) fn me(&self) -> MemberId
         ensures { result ≡ self.now.node.me }
     {
         self.me
     }
 
-    /// Where it listens.
+    /// Returns the address at which it listens.
     pub(crate) fn address(&self) -> Address
         ensures { result ≡ own_address self.now.node }
     {
@@ -90,14 +91,14 @@ impl<'a> Whose<'a> {
         address_in(self.config.members().get(place))
     }
 
-    // A copy of its ring, where it has one.
+    // Returns a copy of its ring, if it has one.
     fn copied_ring(&self) -> Option<Ring>
         ensures { result ≡ self.now.node.ring }
     {
         self.ring.map(Ring::copy)
     }
 
-    /// A node of it that starts at this reading of its clock, with the record of each ticket.
+    /// Returns its node, which starts at this reading of its clock, with the record of each ticket.
     pub(crate) fn open(
         &self,
         alloc: Global,

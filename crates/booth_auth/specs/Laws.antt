@@ -1,4 +1,4 @@
--- Laws of the gate and of what is sealed.
+-- Laws of the gate and of sealed messages.
 use Rattle.std.specs.Prelude.{◌≡◌, ◌≢◌, ◌↔◌, ◌⊎◌, ◌==◌, ◌&&◌, ℕ, ◌+◌, ◌*◌, ◌^◌, ◌<◌, ◌≤◌, nat_le, Bool, true, false, T, List, [], ◌∷◌, Option, Some, None, is_some, Ok, Err}
 use Rattle.booth_base.specs.declared.address.MemberId.{MemberId}
 use Rattle.booth_conf.specs.Config.{ConfigSays}
@@ -15,7 +15,7 @@ use Rattle.booth_auth.specs.declared.admission.DropFault.TheVariants as faults
 use Rattle.booth_auth.specs.Verdict.{verdict, lacks_mac, has_wrong_mac, is_too_old, is_stranger, is_member, part_of_member, names_no_ticket, names_no_leader}
 use Rattle.booth_auth.specs.Sealed.{sealed, stamped}
 
--- The bytes spell the message, and none of the other seven faults holds of them.
+-- The bytes spell the message, and none of the other seven faults applies.
 pub record HasNoFault (config : ConfigSays) (ring : Option Ring) (me : MemberId) (now : ℕ)
     (bytes : List ℕ) (l : PlainMessage) : Type 0 where
   pub read : decoded bytes ≡ Ok l
@@ -27,15 +27,15 @@ pub record HasNoFault (config : ConfigSays) (ring : Option Ring) (me : MemberId)
   pub ticket : names_no_ticket config (part_of_member l) ≡ false
   pub leader : names_no_leader config l.head (part_of_member l) ≡ false
 
--- The gate lets a message in exactly where it has none of the faults.
+-- The gate accepts a message exactly if it has none of the faults.
 abbrev pub GateLetsIn : Type 0
 GateLetsIn =
     (config : ConfigSays) (ring : Option Ring) (me : MemberId) (now : ℕ) (bytes : List ℕ)
     (l : PlainMessage) →
     (verdict config ring me now bytes ≡ Ok l) ↔ HasNoFault config ring me now bytes l
 
--- The seven conditions under which a frame that was read is dropped, each by itself, in the order in which they are
--- told.
+-- The seven conditions under which the gate drops a frame that it could read, each by itself, in the order of the
+-- faults.
 abbrev pub conditions : ConfigSays → Option Ring → MemberId → ℕ → List ℕ → PlainMessage → List (Bool × DropFault)
 conditions config ring me now bytes l =
     (lacks_mac ring l.head, faults.NoMac)
@@ -47,26 +47,26 @@ conditions config ring me now bytes l =
     ∷ (names_no_leader config l.head (part_of_member l), faults.Leader)
     ∷ []
 
--- the first of all eight: before the seven stands what bytes are no frame for
+-- the first of all eight faults: before the seven stands the fault of bytes that are not a frame
 abbrev pub first_fault : ConfigSays → Option Ring → MemberId → ℕ → List ℕ → Option DropFault
 first_fault config ring me now bytes = elim (decoded bytes) [
   | Ok l ↦ first_of (conditions config ring me now bytes l)
   | Err fault ↦ Some (faults.Frame fault)
 ]
 
--- The gate tells the first fault, and lets in where there is none.
+-- The gate returns the first fault, and accepts a datagram without one.
 abbrev pub GateTellsFirstFault : Type 0
 GateTellsFirstFault =
     (config : ConfigSays) (ring : Option Ring) (me : MemberId) (now : ℕ) (bytes : List ℕ) →
     fault_of (verdict config ring me now bytes) ≡ first_fault config ring me now bytes
 
--- A sealed message is read as itself, where it says truly whether there is a key.
+-- A sealed message is read as itself, if its `auth` says correctly whether there is a key.
 abbrev pub SealedIsRead : Type 0
 SealedIsRead =
     (ring : Option Ring) (l : PlainMessage) → Fits l → l.head.auth ≡ is_some ring →
     decoded (sealed ring l) ≡ Ok l
 
--- a member's command on a configured ticket, with a leader that it may name
+-- a member's command about a configured ticket, with a leader that it may name
 pub record IsMemberCommand (config : ConfigSays) (l : PlainMessage) : Type 0 where
   pub direction : direction_of l.head.cmd ≡ BetweenMembers
   pub sender : is_member config l.head.from ≡ true
@@ -77,14 +77,14 @@ pub record IsMemberCommand (config : ConfigSays) (l : PlainMessage) : Type 0 whe
 abbrev pub HasKey : Ring → List ℕ → Type 0
 HasKey ring key = (ring.first ≡ key) ⊎ (ring.old ≡ Some key)
 
--- What is sealed with the one is let in with the other: the other has the key by which the one seals, or no keys.
+-- One ring accepts what the other seals: it has the key by which the other seals, or has no keys.
 abbrev pub IsTrusted : Option Ring → Option Ring → Type 0
 IsTrusted None other = other ≡ None
 IsTrusted (Some ring) None = Unit {0}
 IsTrusted (Some ring) (Some other) = HasKey other ring.first
 
--- What a member seals at `now` is accepted by any other member that has the key by which it seals, whatever its hash,
--- and whose reading is at most `skew` seconds on. (The seconds end with their field, in 2106.)
+-- A message that a member seals at `now` is accepted by every other member that has the key of the seal, with either
+-- hash, if that member's clock is at most `skew` seconds ahead. (The seconds end with their field, in 2106.)
 abbrev pub SealedIsAccepted : Type 0
 SealedIsAccepted =
     (config : ConfigSays) (ring others : Option Ring) (other : MemberId) (now later : ℕ) (l : PlainMessage) →
@@ -94,7 +94,7 @@ SealedIsAccepted =
 
 -- ---- the change of a key, member by member
 
--- A member has the old key alone; then the new one beside it; then it seals by the new one, and has the old one still;
+-- A member has the old key alone; then also the new one; then it seals by the new one, and still has the old one;
 -- then it has the new one alone.
 pub data Stage : Type 0 where
   Old : Stage
@@ -116,12 +116,12 @@ place_of Learning = 1
 place_of Changed = 2
 place_of New = 3
 
--- the same stage, or one beside it
+-- the same stage, or the one before or after it
 abbrev pub AreNeighbours : Stage → Stage → Type 0
 AreNeighbours one other =
     T (nat_le (place_of one) (place_of other + 1) && nat_le (place_of other) (place_of one + 1))
 
--- Members at one stage of a change, or at two that lie side by side, accept each other, whatever their hashes.
+-- Members at one stage of a change, or at two neighbouring stages, accept each other, with either hash.
 abbrev pub KeysChangeOneByOne : Type 0
 KeysChangeOneByOne =
     (before after : List ℕ) (here there : Stage) (one other : Hash) → AreNeighbours here there →

@@ -1,4 +1,4 @@
--- What is sent: a message with the sender's time, and where there are keys with the MAC by the first.
+-- The bytes that a member sends: a message with the sender's time and, if there are keys, with the MAC by the first.
 use Rattle.std.specs.Prelude.{ℕ, ◌*◌, ◌/◌, ◌%◌, min, Bool, List, [], ◌++◌, take, replicate, is_some, Option, Some, None}
 use Rattle.booth_wire.specs.declared.message.Head.{Head}
 use Rattle.booth_wire.specs.PlainMessage.{PlainMessage}
@@ -9,8 +9,7 @@ use Rattle.booth_keys.specs.declared.ring.Hash.{Hash}
 use Rattle.booth_keys.specs.declared.ring.Hash.TheVariants.{Sha1, Sha256}
 use Rattle.booth_keys.specs.declared.ring.Ring.{Ring}
 
--- the head of what is sent at a reading in ms: its whole seconds, as far as the field goes, and the
--- rest in us
+-- the head of a message sent at a reading in ms: its whole seconds, as far as the field goes, and the rest in us
 abbrev pub stamped_head : Bool → ℕ → Head → Head
 stamped_head auth now h = record h {
   auth = auth;
@@ -21,7 +20,7 @@ stamped_head auth now h = record h {
 abbrev pub stamped : Option Ring → ℕ → PlainMessage → PlainMessage
 stamped ring now l = record { head = stamped_head (is_some ring) now l.head; content = l.content }
 
--- the bytes that a MAC vouches for
+-- the bytes that a MAC covers
 abbrev pub vouched : PlainMessage → List ℕ
 vouched l = header l.head (frame_len l) ++ body l.content
 
@@ -30,7 +29,7 @@ abbrev pub number_of : Hash → ℕ
 number_of Sha1 = 2
 number_of Sha256 = 3
 
--- the 24 bytes of a hash: the MAC and zeros, or the first bytes of a longer one
+-- the 24 bytes of a hash: the MAC and zeros, or the first bytes of a longer MAC
 abbrev pub hash_of : Hash → List ℕ → List ℕ → List ℕ
 hash_of Sha1 key bytes = mac key bytes ++ replicate 4 0
 hash_of Sha256 key bytes = take 24 (mac256 key bytes)
@@ -39,7 +38,7 @@ hash_of Sha256 key bytes = take 24 (mac256 key bytes)
 abbrev pub auth_part : Ring → List ℕ → List ℕ
 auth_part ring bytes = word (number_of ring.hash) ++ hash_of ring.hash ring.first bytes
 
--- the message's frame as it is sent: where there are keys its last 28 bytes are the authentication part
+-- the message's frame as a member sends it: if there are keys, its last 28 bytes are the authentication part
 abbrev pub sealed : Option Ring → PlainMessage → List ℕ
 sealed None l = frame_with [] l
 sealed (Some ring) l = frame_with (auth_part ring (vouched l)) l

@@ -1,4 +1,4 @@
--- The gate: which datagrams get in, and for which fault each of the others is dropped.
+-- The gate: which datagrams it accepts, and the fault for which it drops each of the others.
 use Rattle.std.specs.Prelude.{◌≡◌, ℕ, ◌+◌, ◌-◌, ◌/◌, Bool, false, not, ◌&&◌, ◌||◌, ◌==◌, nat_lt, if◌then◌else◌, List, [], ◌∷◌, length, take, position, is_some, Option, Some, None, Result, Ok, Err, bytes_eq}
 use Rattle.std.specs.List.{list_any}
 use Rattle.booth_base.specs.declared.address.MemberId.{MemberId}
@@ -31,21 +31,21 @@ abbrev pub lacks_mac : Option Ring → Head → Bool
 lacks_mac None h = false
 lacks_mac (Some ring) h = not h.auth
 
--- the number of the hash, with which an authentication part begins
+-- the number of the hash, at the start of an authentication part
 abbrev pub hash_id : List ℕ → ℕ
 hash_id bytes = word_at (length bytes - 28) bytes
 
--- By SHA-1 the MAC of a frame is the first 20 of its hash bytes. It is right where it is that of all bytes before the
--- authentication part.
+-- With SHA-1 the MAC of a frame is the first 20 of its hash bytes. It is right if it is the MAC of all bytes before
+-- the authentication part.
 abbrev pub is_sha1_right : List ℕ → List ℕ → Bool
 is_sha1_right key bytes = bytes_eq (field_at (length bytes - 24) 20 bytes) (mac key (before_auth bytes))
 
--- By SHA-256 all 24 hash bytes are the first 24 of the MAC.
+-- With SHA-256 all 24 hash bytes are the first 24 of the MAC.
 abbrev pub is_sha256_right : List ℕ → List ℕ → Bool
 is_sha256_right key bytes =
     bytes_eq (field_at (length bytes - 24) 24 bytes) (take 24 (mac256 key (before_auth bytes)))
 
--- Hash id 3 is that of SHA-256. Under any other the MAC is by SHA-1.
+-- Hash id 3 means SHA-256. With any other id the MAC is by SHA-1.
 abbrev pub is_mac_right : List ℕ → List ℕ → Bool
 is_mac_right key bytes = if hash_id bytes == 3 then is_sha256_right key bytes else is_sha1_right key bytes
 
@@ -58,7 +58,7 @@ abbrev pub has_wrong_mac : Option Ring → List ℕ → Bool
 has_wrong_mac None bytes = false
 has_wrong_mac (Some ring) bytes = not (is_mac_right ring.first bytes || is_old_right ring.old bytes)
 
--- the frame has a MAC of one of the keys, where there are any
+-- the frame has a MAC by one of the keys, if there are any
 abbrev pub is_signed : Option Ring → Head → List ℕ → Bool
 is_signed ring h bytes = not (lacks_mac ring h) && not (has_wrong_mac ring bytes)
 
@@ -73,7 +73,7 @@ is_too_old (Some ring) skew now h = nat_lt (h.secs + skew) (now / 1000)
 abbrev pub is_member : ConfigSays → MemberId → Bool
 is_member config id = is_some (position (has_id id) config.members)
 
--- Clients are nobody, members are in the configuration, and daemons do not take their own answers.
+-- Clients have no member's number, members are in the configuration, and a daemon does not accept its own messages.
 abbrev pub may_come_from : ConfigSays → Direction → MemberId → Bool
 may_come_from config ToDaemon from = from.0 == 0
 may_come_from config BetweenMembers from = is_member config from
@@ -82,9 +82,9 @@ may_come_from config ToClient from = false
 abbrev pub is_stranger : ConfigSays → Head → Bool
 is_stranger config h = not (may_come_from config (direction_of h.cmd) h.from)
 
--- ---- what members say of a ticket
+-- ---- what members say about a ticket
 
--- what a member command says of a ticket; a client's command says nothing here
+-- the part about a ticket in a member's command; a client's command has none here
 abbrev pub member_part : Direction → Content → Option TicketPart
 member_part BetweenMembers (Ticket part) = Some part
 member_part direction content = None
@@ -103,7 +103,7 @@ is_site_of id m = m.site && has_id id m
 abbrev pub may_lead : ConfigSays → MemberId → Bool
 may_lead config id = id.0 == NO_ONE.0 || list_any (is_site_of id) config.members
 
--- the commands of a ticket's leader, or of a member that would be it
+-- the commands of a ticket's leader, or of a member that wants to be it
 abbrev pub leads : Cmd → Bool
 leads cmd = list_any (λ c. code_of c == code_of cmd) (cmds.RVot ∷ cmds.HrtB ∷ cmds.UpdE ∷ [])
 
@@ -114,7 +114,7 @@ names_no_leader config h (Some part) =
 
 -- ---- the first fault
 
--- Each fault under its condition, in the order in which they are told.
+-- Each fault under its condition, in the order of the faults.
 abbrev pub admitted : ConfigSays → MemberId → PlainMessage → Result PlainMessage DropFault
 admitted config me l =
     if is_stranger config l.head then Err faults.Stranger else
@@ -135,12 +135,11 @@ abbrev pub judged_if_read :
 judged_if_read config ring me now bytes (Err fault) = Err (faults.Frame fault)
 judged_if_read config ring me now bytes (Ok l) = judged config ring me now bytes l
 
--- what a member that is `me` makes of these bytes, at a reading of its clock in ms: the message, or the
--- first of eight faults
+-- how the member `me` judges these bytes, at a reading of its clock in ms: the message, or the first of eight faults
 abbrev pub verdict : ConfigSays → Option Ring → MemberId → ℕ → List ℕ → Result PlainMessage DropFault
 verdict config ring me now bytes = judged_if_read config ring me now bytes (decoded bytes)
 
--- a message or a fault, against a verdict
+-- a message or a fault equals a verdict
 abbrev pub Passes : Result Message DropFault → Result PlainMessage DropFault → Type 0
 Passes (Ok m) judged = judged ≡ Ok (plain_of m)
 Passes (Err fault) judged = judged ≡ Err fault

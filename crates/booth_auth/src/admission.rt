@@ -1,4 +1,4 @@
-//! The gate: it lets a datagram in, or drops it for its first fault.
+//! The gate: it accepts a datagram, or drops it for its first fault.
 ghost use Rattle.std.specs.Prelude.{◌≡◌, ◌≤◌, ◌+◌, not, length};
 ghost use Rattle.booth_wire.specs.Layout.{word_at};
 ghost use Rattle.std.specs.List.{list_any};
@@ -17,7 +17,7 @@ use thiserror::Error;
 /// The bytes of the number of the hash.
 const ID_BYTES: usize = 4;
 
-/// Why a datagram is dropped. The first that holds is told, in this order.
+/// Why a datagram is dropped. If several faults apply, the first in this order is returned.
 #[derive(Clone, Copy, Debug, PartialEq, Eq, Drop, Error)]
 pub enum DropFault {
     #[error("it is no frame: {0}")]
@@ -97,7 +97,7 @@ fn is_old_right(key: Option<&Key>, bytes: &[u8]) -> bool
     }
 }
 
-// Both keys are tried, whichever is right, so that the time tells nothing of it.
+// Both keys are always tried, so that the time does not show which one is right.
 fn has_wrong_mac(ring: Option<&Ring>, bytes: &[u8]) -> bool
     requires { AUTH_BYTES ≤ length bytes.now }
     ensures { result ≡ has_wrong_mac (option_copied ring.entry) bytes.now }
@@ -112,8 +112,8 @@ fn has_wrong_mac(ring: Option<&Ring>, bytes: &[u8]) -> bool
     }
 }
 
-/// Whether a frame that was read is signed as it has to be: with a ring it has the MAC of one of its keys, and
-/// without one anything will do. `head` is that of the message that these bytes spell.
+/// Returns whether a frame is signed as it must be: with a ring it needs the MAC by one of its keys, and without a
+/// ring anything is accepted. `head` is the head of the message that these bytes spell.
 pub fn is_signed(ring: Option<&Ring>, head: &Head, bytes: &[u8]) -> bool
     requires { AUTH_BYTES ≤ length bytes.now }
     ensures { result ≡ is_signed (option_copied ring.entry) head.now bytes.now }
@@ -173,9 +173,10 @@ fn leads(cmd: Cmd) -> bool
     match cmd {
         Cmd::RVot | Cmd::HrtB | Cmd::UpdE => true,
         Cmd::Stat | Cmd::MIdx | Cmd::VtFr | Cmd::Ack | Cmd::Revk | Cmd::Rjc => false,
-        Cmd::CLst | Cmd::Peer | Cmd::CGnt | Cmd::CRvk => false,
+        Cmd::CLst | Cmd::CTkt | Cmd::Peer | Cmd::CGnt | Cmd::CRvk => false,
         Cmd::ASet | Cmd::AGet | Cmd::ADel | Cmd::ALst => false,
-        Cmd::RLst | Cmd::RPer | Cmd::RALs | Cmd::RGnt | Cmd::RRvk | Cmd::RAtr => false,
+        Cmd::RLst | Cmd::RTkt | Cmd::RPer | Cmd::RALs => false,
+        Cmd::RGnt | Cmd::RRvk | Cmd::RAtr => false,
     }
 }
 
@@ -221,10 +222,14 @@ fn admitted<'a>(
     Ok(message)
 }
 
-/// The message of a datagram, or the first of its eight faults. `now` is this member's reading in ms.
+/// Returns the message of a datagram. `now` is this member's clock reading in ms.
 ///
-/// With a ring the frame has to show the MAC of one of its keys, and the sender's clock may not be further behind
-/// this one than the configuration allows. Without one an authentication part is not looked at.
+/// With a ring, the frame must carry the MAC by one of its keys, and the sender's clock may not be further behind
+/// this one than the configuration allows. Without a ring the authentication part is ignored.
+///
+/// # Errors
+///
+/// The first of the eight faults, in the order of `DropFault`.
 pub fn gate<'a>(
     config: &Config,
     ring: Option<&Ring>,

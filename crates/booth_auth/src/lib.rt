@@ -1,4 +1,4 @@
-//! What lets a datagram in: the gate, and the seal of what is sent.
+//! The gate, which accepts or drops datagrams, and the seal of each message that is sent.
 #![tactic(auto)]
 
 mod admission;

@@ -1,4 +1,4 @@
-//! The seal: the time and the MAC of what is sent.
+//! The seal: the time and the MAC of a message that is sent.
 ghost use Rattle.std.specs.Prelude.{◌≡◌, ◌++◌, true, is_some};
 ghost use Rattle.std.specs.Option.{option_copied};
 ghost use Rattle.booth_wire.specs.Command.{kind_of};
@@ -13,10 +13,10 @@ use booth_wire::{AUTH_BYTES, Frame, Head, Message, encode};
 /// The bytes of the hash in an authentication part.
 pub(crate) const HASH_BYTES: usize = 24;
 
-/// The number of SHA-256 in an authentication part.
+/// The number that stands for SHA-256 in an authentication part.
 pub(crate) const SHA256_ID: u32 = 3;
 
-// The number of SHA-1 there.
+// The number that stands for SHA-1 there.
 const SHA1_ID: u32 = 2;
 
 fn stamped_head(head: &Head, auth: bool, now: u64) -> Head
@@ -56,7 +56,7 @@ fn short_hash(key: &Key, bytes: &[u8]) -> [u8; HASH_BYTES]
     hash
 }
 
-/// The first bytes of a MAC by SHA-256, as many as a frame has.
+/// Returns the first bytes of a MAC by SHA-256, as many as a frame has.
 pub(crate) fn long_hash(key: &Key, bytes: &[u8]) -> [u8; HASH_BYTES]
     ensures { result ≡ hash_of Sha256 key.now bytes.now }
 {
@@ -84,11 +84,10 @@ fn sign(frame: &mut Frame, ring: &Ring)
     frame.set_auth(number_of(ring.hash), &code);
 }
 
-/// Writes the message as it is sent at this reading in ms: with the time, and where there is a ring with the MAC by
-/// its first key. The message's own `auth`, `secs` and `usecs` are not looked at.
+/// Writes the message as it is sent at this reading in ms: with the time and, if there is a ring, with the MAC by its
+/// first key. The message's own `auth`, `secs` and `usecs` are ignored.
 ///
-/// `secs` are the whole seconds of the reading, or 2^32 - 1 where they are more, and `usecs` the
-/// rest.
+/// `secs` becomes the whole seconds of the reading, at most 2^32 - 1, and `usecs` the rest.
 pub fn seal(message: &Message<'_>, ring: Option<&Ring>, now: u64, into: &mut Frame)
     requires kind { kind_in (content_of message.now.body) ≡ kind_of message.now.head.cmd }
     requires named { is_named message.now.head.cmd (content_of message.now.body) ≡ true }

@@ -29,24 +29,24 @@ use Rattle.booth_outcomes.specs.Keys.{HasRing, IsKeyless, KeyTexts, key_calls}
 use Rattle.booth_outcomes.specs.Texts.{audit_text, out_of_memory_text, unprinted_text, unread_text}
 use Rattle.booth_daemon.specs.declared.auditing.Files.{Files}
 
--- ---- what is printed
+-- ---- the output
 
--- the name of the ticket at this place; that of a holding has one
+-- the name of the ticket at this place; a holding is of a place that has a ticket
 abbrev pub ticket_at : ConfigSays → ℕ → List ℕ
 ticket_at config place =
     option_map_or (λ (ticket : TicketConf). ticket.name) (slice_get config.tickets place) []
 
--- the address of the member at this place, as text; that of a holding has one
+-- the address of the member at this place, as text; a holding is of a place that has a member
 abbrev pub site_at : ConfigSays → ℕ → List ℕ
 site_at config place =
     option_map_or (λ (member : Member). printed member.address) (slice_get config.members place) []
 
--- which ticket was held, and where
+-- the ticket that was held, and the site
 abbrev pub held_text : ConfigSays → Holding → List ℕ
 held_text config held =
     codes "ticket " ++ ticket_at config held.ticket ++ codes ", site " ++ site_at config held.member
 
--- from when until when
+-- the start and the end of a holding
 abbrev pub span_text : Holding → List ℕ
 span_text held = codes ", from " ++ decimal held.from ++ codes " until " ++ decimal held.until ++ codes "\n"
 
@@ -68,7 +68,7 @@ pub record AreJournals (paths texts : List (List ℕ)) (entries : List Entry) : 
   pub each : length texts ≡ length paths
   pub calls : entries ≡ map journal_call (zip paths texts)
 
--- the journals before this one were read, and it was not
+-- the journals before this one were read, and this one could not be
 pub record IsUnreadAt (paths : List (List ℕ)) (fault : ReadFault) (path : List ℕ) (entries : List Entry) : Type 0 where
   pub before : List (List ℕ)
   pub after : List (List ℕ)
@@ -78,7 +78,7 @@ pub record IsUnreadAt (paths : List (List ℕ)) (fault : ReadFault) (path : List
   pub read : AreJournals before texts early
   pub whole : entries ≡ early ++ ReadFile path (Err fault) ∷ []
 
--- a journal could not be read, or there was no memory for it, or none for any
+-- a journal could not be read, or memory for it was out, or memory for all of them
 abbrev pub AreJournalsUnread : List (List ℕ) → Outcome → List ℕ → List Entry → Type 0
 AreJournalsUnread paths JournalUnread said entries =
     (path : List ℕ) × (said ≡ unread_text path) × IsUnreadAt paths reads.Failed path entries
@@ -94,7 +94,7 @@ pub record IsKeyed (conf : List ℕ) (config : ConfigSays) (ring : Option Ring) 
   pub holds : HasRing config key_texts ring
   pub whole : entries ≡ ReadFile conf (Ok text) ∷ key_calls config key_texts
 
--- and then the journals
+-- and then the journals were read
 pub record AreAllRead (asked : AuditWords) (config : ConfigSays) (ring : Option Ring) (texts : List (List ℕ))
     (entries : List Entry) : Type 0 where
   pub early : List Entry
@@ -105,7 +105,7 @@ pub record AreAllRead (asked : AuditWords) (config : ConfigSays) (ring : Option 
 
 -- ---- the ends
 
--- a configuration was read, and no key
+-- a configuration was read, and a key could not be
 pub record IsUnkeyed (asked : AuditWords) (outcome : Outcome) (said : List ℕ) (entries : List Entry) : Type 0 where
   pub text : List ℕ
   pub config : ConfigSays
@@ -114,7 +114,7 @@ pub record IsUnkeyed (asked : AuditWords) (outcome : Outcome) (said : List ℕ) 
   pub whole : entries ≡ ReadFile asked.conf (Ok text) ∷ rest
   pub here : IsKeyless config outcome said rest
 
--- configuration and keys were read, and not every journal
+-- configuration and keys were read, and a journal could not be
 pub record IsWanting (asked : AuditWords) (outcome : Outcome) (said : List ℕ) (entries : List Entry) : Type 0 where
   pub config : ConfigSays
   pub ring : Option Ring
@@ -124,8 +124,8 @@ pub record IsWanting (asked : AuditWords) (outcome : Outcome) (said : List ℕ) 
   pub whole : entries ≡ early ++ rest
   pub here : AreJournalsUnread asked.journals.items outcome said rest
 
--- How the audit of these texts ends: who held what was printed, or could not be printed; or this is their first fault;
--- or there was no memory.
+-- How the audit of these texts ends: the holdings were printed, or could not be printed; or this is their first
+-- fault; or memory was out.
 abbrev pub IsAuditEnd :
     ConfigSays → Option Ring → List (List ℕ) → List (List ℕ) → Outcome → List ℕ → List Entry → Type 0
 IsAuditEnd config ring paths texts Done said entries = (said ≡ [])
@@ -139,7 +139,7 @@ IsAuditEnd config ring paths texts (AuditBad fault) said entries = (fault ≡ au
 IsAuditEnd config ring paths texts OutOfMemory said entries = (said ≡ out_of_memory_text) × (entries ≡ [])
 IsAuditEnd config ring paths texts outcome said entries = ⊥
 
--- the calls of the audit that was asked for, up to where its outcome is decided
+-- the calls of the audit of these arguments, up to the one that decides its outcome
 pub data IsAuditing (asked : AuditWords) (outcome : Outcome) (said : List ℕ) (entries : List Entry) : Type 0 where
   Unread : IsUnread asked.conf outcome said entries → IsAuditing asked outcome said entries
   Unkeyed : IsUnkeyed asked outcome said entries → IsAuditing asked outcome said entries
@@ -166,7 +166,7 @@ IsAuditOutcome outcome = T (is_audit_outcome outcome)
 
 -- ---- in the code
 
--- no journal came from this path
+-- the journal at this path could not be read
 abbrev pub IsJournalUnread : List ℕ → Outcome → List ℕ → List Entry → Type 0
 IsJournalUnread path JournalUnread said entries =
     (said ≡ unread_text path) × (entries ≡ ReadFile path (Err reads.Failed) ∷ [])
@@ -179,19 +179,19 @@ abbrev pub IsJournalRead : List ℕ → Result (List ℕ) Ended → List Entry �
 IsJournalRead path (Ok text) entries = entries ≡ ReadFile path (Ok text) ∷ []
 IsJournalRead path (Err ended) entries = IsJournalUnread path ended.outcome ended.said entries
 
--- what the files say, or how the audit ends without them
+-- the contents of the files, or how the audit ends without them
 abbrev pub AreFilesRead : AuditWords → Result Files Ended → List Entry → Type 0
 AreFilesRead asked (Ok files) entries = AreAllRead asked files.config files.ring files.journals.items entries
 AreFilesRead asked (Err ended) entries = IsAuditing asked ended.outcome ended.said entries
 
--- how an audit ends whose journals have this fault
+-- how an audit ends if its journals have this fault
 abbrev pub IsBadEnd : List (List ℕ) → AuditFault → Outcome → List ℕ → Type 0
 IsBadEnd paths fault OutOfMemory said = said ≡ out_of_memory_text
 IsBadEnd paths fault (AuditBad told) said =
     (told ≡ fault) × (fault ≡ audits.OutOfMemory → ⊥) × (said ≡ audit_text paths fault)
 IsBadEnd paths fault outcome said = ⊥
 
--- the print of who held what
+-- the print of the holdings
 abbrev pub IsPrinted : ConfigSays → List Holding → Outcome → List ℕ → List Entry → Type 0
 IsPrinted config holdings Done said entries = (said ≡ [])
     × (entries ≡ Out (holdings_text config holdings) (Ok tt) ∷ [])

@@ -1,4 +1,4 @@
--- Runs in which the outside does not fail, and words and files are as they must be.
+-- Runs in which the environment does not fail, and arguments and files are valid.
 use Rattle.std.specs.Prelude.{◌≡◌, ℕ, true, List, Contains, Option, Some, Ok, Err, false, Bool, T}
 use Rattle.booth_base.specs.declared.address.Address.{Address}
 use Rattle.booth_conf.specs.Config.{ConfigSays}
@@ -23,14 +23,14 @@ use Rattle.booth_daemon.specs.Run.{IsRun}
 
 -- ---- a daemon
 
--- the text says a configuration, which has a member at this address
+-- the text spells a configuration, which has a member at this address
 pub record IsValid (address : Address) (text : List ℕ) : Type 0 where
   pub config : ConfigSays
   pub says : Says text config
   pub member : has_member config address ≡ true
 
--- No file, no lock, no socket and no record failed, and the lock was free; what was read at the path says a
--- configuration with this member, and what was read at a key file that it names holds a key.
+-- No file, lock, socket or record failed, and the lock was free; the file at the path spells a configuration with
+-- this member, and the key file that it names holds a key.
 pub record IsFaultless (asked : DaemonWords) (entries : List Entry) : Type 0 where
   pub read : (file : List ℕ) → Contains entries (ReadFile file (Err reads.Failed)) → ⊥
   pub valid : (text : List ℕ) → Contains entries (ReadFile asked.conf (Ok text)) →
@@ -44,7 +44,7 @@ pub record IsFaultless (asked : DaemonWords) (entries : List Entry) : Type 0 whe
       Contains entries (Open local port records conf (Err failed)) → ⊥
   pub kept : (ticket : List ℕ) (failed : Failed) → Contains entries (Kept ticket (Err failed)) → ⊥
 
--- the outcomes that are no one's fault
+-- the outcomes without a fault
 abbrev pub ends_well : Outcome → Bool
 ends_well Done = true
 ends_well TurnsSpent = true
@@ -54,11 +54,11 @@ ends_well outcome = false
 abbrev pub EndsWell : Outcome → Type 0
 EndsWell outcome = T (ends_well outcome)
 
--- the same of what the words ask for
+-- the same for a run with these arguments
 abbrev pub AreFaultless : List (List ℕ) → List Entry → Type 0
 AreFaultless words entries = (asked : DaemonWords) → AsksDaemon words asked → IsFaultless asked entries
 
--- Valid words, valid files, a free lock and an outside that does not fail give Done, TurnsSpent or
+-- Valid arguments, valid files, a free lock and an environment that does not fail give Done, TurnsSpent or
 -- OutOfMemory.
 abbrev pub FaultlessRuns : Type 0
 FaultlessRuns = (words : List (List ℕ)) (outcome : Outcome) (entries : List Entry) →
@@ -67,7 +67,7 @@ FaultlessRuns = (words : List (List ℕ)) (outcome : Outcome) (entries : List En
 
 -- ---- a simulation
 
--- what was read at the path of the configuration says one, and neither a read nor a print failed
+-- the file at the path of the configuration spells one, and neither a read nor a print failed
 pub record IsFaultlessFor (asked : SimulationWords) (entries : List Entry) : Type 0 where
   pub read : (file : List ℕ) → Contains entries (ReadFile file (Err reads.Failed)) → ⊥
   pub valid : (path text : List ℕ) → asked.conf ≡ Some path → Contains entries (ReadFile path (Ok text)) →
@@ -82,7 +82,7 @@ is_summed_well outcome = false
 abbrev pub Sums : Outcome → Type 0
 Sums outcome = T (is_summed_well outcome)
 
--- Valid words, a valid file and an outside that does not fail give Done or OutOfMemory.
+-- Valid arguments, a valid file and an environment that does not fail give Done or OutOfMemory.
 abbrev pub FaultlessSimulations : Type 0
 FaultlessSimulations = (words : List (List ℕ)) (outcome : Outcome) (entries : List Entry) →
     AreValid Boothd words verbs.Simulate → IsRun words outcome entries →
@@ -90,8 +90,8 @@ FaultlessSimulations = (words : List (List ℕ)) (outcome : Outcome) (entries : 
 
 -- ---- an audit
 
--- What was read at the path of the configuration says one, what was read at a key file that it names holds a key, and
--- neither a read nor a print failed.
+-- The file at the path of the configuration spells one, the key file that it names holds a key, and neither a read
+-- nor a print failed.
 pub record IsFaultlessAudit (asked : AuditWords) (entries : List Entry) : Type 0 where
   pub read : (file : List ℕ) → Contains entries (ReadFile file (Err reads.Failed)) → ⊥
   pub valid : (text : List ℕ) → Contains entries (ReadFile asked.conf (Ok text)) →
@@ -110,13 +110,13 @@ is_audited_well outcome = false
 abbrev pub Audits : Outcome → Type 0
 Audits outcome = T (is_audited_well outcome)
 
--- Valid words, a valid file, its keys and an outside that does not fail give Done, AuditBad or OutOfMemory.
+-- Valid arguments, a valid file, its keys and an environment that does not fail give Done, AuditBad or OutOfMemory.
 abbrev pub FaultlessAudits : Type 0
 FaultlessAudits = (words : List (List ℕ)) (outcome : Outcome) (entries : List Entry) →
     AreValid Boothd words verbs.Audit → IsRun words outcome entries →
     ((asked : AuditWords) → AsksAudit words asked → IsFaultlessAudit asked entries) → Audits outcome
 
--- ---- a look at the lock
+-- ---- `boothd status`
 
 -- neither the lock nor a print failed
 pub record IsUnfailing (entries : List Entry) : Type 0 where
@@ -132,7 +132,7 @@ is_told_well outcome = false
 abbrev pub Tells : Outcome → Type 0
 Tells outcome = T (is_told_well outcome)
 
--- Valid words and an outside that does not fail give Done, NotRunning or OutOfMemory.
+-- Valid arguments and an environment that does not fail give Done, NotRunning or OutOfMemory.
 abbrev pub FaultlessLooks : Type 0
 FaultlessLooks = (words : List (List ℕ)) (outcome : Outcome) (entries : List Entry) →
     AreValid Boothd words verbs.Status → IsRun words outcome entries → IsUnfailing entries → Tells outcome

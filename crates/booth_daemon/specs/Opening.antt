@@ -1,4 +1,4 @@
--- The opening of a daemon, in the order of its stages: each by its calls, or by how the daemon ends there.
+-- The opening of a daemon, in the order of its stages: each by its calls, or by how the daemon ends at it.
 use Rattle.std.specs.Prelude.{◌≡◌, ◌++◌, ℕ, true, false, List, [], ◌∷◌, Option, Some}
 use Rattle.std.specs.Prelude.{Result, Ok, Err, codes}
 use Rattle.booth_keys.specs.declared.ring.Ring.{Ring}
@@ -40,7 +40,7 @@ reads_of {address} {config} path ready = ReadFile path
 
 -- ---- the lock
 
--- the lock is another's, or failed
+-- another process has the lock, or the lock failed
 abbrev pub IsLockless : List ℕ → Outcome → List ℕ → List Entry → Type 0
 IsLockless lock Running said entries = (said ≡ codes "already running")
     × (entries ≡ Lock lock (Ok false) ∷ [])
@@ -55,7 +55,7 @@ IsLocked lock (Err ended) entries = IsLockless lock ended.outcome ended.said ent
 
 -- ---- the clock, the socket, the records and the node
 
--- the calls behind the reads; the socket's answer is the last
+-- the calls after the reads; the socket's answer is the last
 abbrev pub opened : DaemonWords → ConfigSays → ℕ → Result (Unit {0}) Failed → List Entry
 opened asked config reading answer = Lock asked.lock (Ok true) ∷ Now reading
     ∷ Open (Some asked.site) config.port asked.records asked.conf answer ∷ []
@@ -68,7 +68,7 @@ pub record IsBehindSocket (asked : DaemonWords) (config : ConfigSays) (after : L
   pub whole : entries ≡ opened asked config reading (Ok tt) ++ rest
   pub here : after rest
 
--- the socket failed, or a record could not be read, or there is no memory for the records or for the node
+-- the socket failed, or a record could not be read, or memory for the records or for the node was out
 abbrev pub IsUnopened : DaemonWords → ConfigSays → Outcome → List ℕ → List Entry → Type 0
 IsUnopened asked config OpenFault said entries = (said ≡ unopened_text)
     × (reading : ℕ) × (failed : Failed) × (entries ≡ opened asked config reading (Err failed))
@@ -89,7 +89,7 @@ pub record IsFresh (address : Address) (config : ConfigSays) (ring : Option Ring
   pub own : node_config node ≡ member_config address config ring
   pub state : state_of node ≡ start_state (member_config address config ring) records reading
 
--- the calls behind the reads, up to the last record, and the node
+-- the calls after the reads, up to the last record, and the node
 pub record IsStarted (asked : DaemonWords) (config : ConfigSays) (ring : Option Ring) (node : Node)
     (entries : List Entry) : Type 0 where
   pub reading : ℕ
@@ -99,7 +99,7 @@ pub record IsStarted (asked : DaemonWords) (config : ConfigSays) (ring : Option 
   pub fresh : IsFresh asked.site config ring records reading node
   pub whole : entries ≡ opened asked config reading (Ok tt) ++ kept
 
--- the calls behind the lock, and the node
+-- the calls after the lock, and the node
 abbrev pub IsNodeOpened : DaemonWords → ConfigSays → Option Ring → Result Node Ended →
     List Entry → Type 0
 IsNodeOpened asked config ring (Ok node) entries =

@@ -1,4 +1,4 @@
--- The records that a daemon starts from: one is read for each ticket, in the order of the file.
+-- The records from which a daemon starts: it reads one for each ticket, in the order of the file.
 use Rattle.std.specs.Prelude.{◌≡◌, ◌++◌, ◌⊎◌, ℕ, List, [], ◌∷◌, length, map, Option, Result, Ok, Err}
 use Rattle.std.specs.List.{zip}
 use Rattle.booth_conf.specs.declared.tickets.TicketConf.{TicketConf}
@@ -11,7 +11,7 @@ use Rattle.booth_outcomes.specs.declared.outcome.Outcome.TheVariants.{RecordUnre
 use Rattle.booth_outcomes.specs.declared.outcome.Ended.{Ended}
 use Rattle.booth_outcomes.specs.Texts.{unread_record_text, out_of_memory_text}
 
--- a ticket's record, or that none was kept, was read
+-- a ticket's record was read, or was found missing
 abbrev pub kept_call : TicketConf × Option Record → Entry
 kept_call p = Kept p.0.name (Ok p.1)
 
@@ -41,14 +41,14 @@ AreNoneOrAll tickets entries = (entries ≡ [])
 
 -- ---- in the code
 
--- the record of the ticket of this name
+-- the record of the ticket with this name
 abbrev pub IsRecordRead : List ℕ → Result (Option Record) Ended → List Entry → Type 0
 IsRecordRead ticket (Ok rec) entries = entries ≡ Kept ticket (Ok rec) ∷ []
 IsRecordRead ticket (Err ended) entries = (ended.outcome ≡ RecordUnread)
     × (ended.said ≡ unread_record_text ticket)
     × (failed : Failed) × (entries ≡ Kept ticket (Err failed) ∷ [])
 
--- a record could not be read, or there is no memory for the records
+-- a record could not be read, or memory for the records was out
 abbrev pub AreUnread : List TicketConf → Outcome → List ℕ → List Entry → Type 0
 AreUnread tickets RecordUnread said entries = IsRecordUnread tickets said entries
 AreUnread tickets OutOfMemory said entries = (said ≡ out_of_memory_text) × (entries ≡ [])

@@ -20,7 +20,7 @@ use Rattle.booth_daemon.specs.Status.{IsStatus}
 use Rattle.booth_daemon.specs.Simulating.{IsSimulated}
 use Rattle.booth_daemon.specs.Auditing.{IsAuditing}
 
--- the calls up to where the outcome is decided, by what the words ask for
+-- the calls up to the one that decides the outcome, for these arguments
 pub data IsMade (words : List (List ℕ)) (outcome : Outcome) (said : List ℕ)
     (entries : List Entry) : Type 0 where
   Unasked : IsUnasked Boothd words outcome said entries → IsMade words outcome said entries
@@ -33,7 +33,7 @@ pub data IsMade (words : List (List ℕ)) (outcome : Outcome) (said : List ℕ)
   Looked : (lock : List ℕ) → AsksStatus words lock → IsStatus lock outcome said entries →
       IsMade words outcome said entries
 
--- all calls of a run on these words, the last of which says how it ended
+-- all calls of a run with these arguments, the last of which reports how it ended
 pub record IsRun (words : List (List ℕ)) (outcome : Outcome) (entries : List Entry) : Type 0 where
   pub said : List ℕ
   pub body : List Entry
@@ -42,36 +42,36 @@ pub record IsRun (words : List (List ℕ)) (outcome : Outcome) (entries : List E
   pub made : IsMade words outcome said body
   pub told : IsText Boothd said last
 
--- ---- over every host
+-- ---- for every host
 
--- the words ask for a daemon, whatever they say of it
+-- the arguments start a daemon, with any options
 pub record AskForDaemon (words : List (List ℕ)) : Type 0 where
   pub asked : DaemonWords
   pub asks : AsksDaemon words asked
 
--- the words ask whether a daemon runs, by whatever lock
+-- the arguments are those of `status`, with any lock
 pub record AskForStatus (words : List (List ℕ)) : Type 0 where
   pub lock : List ℕ
   pub asks : AsksStatus words lock
 
--- the words ask for a simulation, whatever they say of it
+-- the arguments are those of `sim`, with any options
 pub record AskForSimulation (words : List (List ℕ)) : Type 0 where
   pub asked : SimulationWords
   pub asks : AsksSimulation words asked
 
--- the words ask for an audit, whatever they say of it
+-- the arguments are those of `audit`, with any options
 pub record AskForAudit (words : List (List ℕ)) : Type 0 where
   pub asked : AuditWords
   pub asks : AsksAudit words asked
 
--- the words ask for a simulation of a configuration that they name
+-- the arguments are those of `sim` with a configuration
 pub record AskForNamed (words : List (List ℕ)) : Type 0 where
   pub asked : SimulationWords
   pub asks : AsksSimulation words asked
   pub named : IsSome asked.conf
 
--- Usage comes only for words that are not taken, and BadWord exactly where that word is the first refused; want of memory
--- only where there is a command
+-- Usage comes only for invalid arguments, and BadWord exactly if that argument is the first invalid one; out of
+-- memory comes only if there is a command
 abbrev pub FitsWords : List (List ℕ) → Outcome → Type 0
 FitsWords words (Usage None) = verb_in Boothd words ≡ None
 FitsWords words (Usage (Some kind)) = IsUntaken Boothd words kind

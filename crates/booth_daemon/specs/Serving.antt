@@ -1,4 +1,4 @@
--- The calls of a daemon that was asked for, up to where its outcome is decided, and what it then says.
+-- The calls of a daemon, up to the one that decides its outcome, and the text that it then prints.
 use Rattle.std.specs.Prelude.{◌≡◌, ◌<◌, ◌++◌, ◌⊎◌, ℕ, List, [], ◌∷◌}
 use Rattle.std.specs.Prelude.{Option, Some, None, unwrap_or, Result, Ok, Err, codes, IsSomeAnd}
 use Rattle.booth_keys.specs.declared.ring.Ring.{Ring}
@@ -25,7 +25,7 @@ use Rattle.booth_outcomes.specs.Keys.{IsKeyless}
 use Rattle.booth_daemon.specs.Opening.{IsReady, reads_of, IsLockless, opened, IsUnopened}
 use Rattle.booth_daemon.specs.Opening.{IsStarted, member_config}
 
--- ---- how far it came
+-- ---- how far the daemon got
 
 -- a configuration was read that this daemon does not serve
 pub record IsRefused (asked : DaemonWords) (outcome : Outcome) (said : List ℕ)
@@ -36,7 +36,7 @@ pub record IsRefused (asked : DaemonWords) (outcome : Outcome) (said : List ℕ)
   pub whole : entries ≡ ReadFile asked.conf (Ok text) ∷ []
   pub here : IsUnserved asked.site config outcome said
 
--- a fit configuration was read, and no key
+-- a configuration that it serves was read, and a key could not be
 pub record IsUnkeyed (asked : DaemonWords) (outcome : Outcome) (said : List ℕ)
     (entries : List Entry) : Type 0 where
   pub text : List ℕ
@@ -56,18 +56,18 @@ pub record IsStuck (asked : DaemonWords) (after : ConfigSays → List Entry → 
   pub whole : entries ≡ reads_of asked.conf ready ++ rest
   pub here : after config rest
 
--- fewer turns than so many, and one more that stopped
+-- fewer turns than the limit, and one more that stopped
 pub record IsStoppedWithin (node : NodeConfig) (old : State) (limit : ℕ) (new : State)
     (entries : List Entry) : Type 0 where
   pub stopped : IsStoppedLog node old new entries
   pub within : stopped.count < limit
 
--- as many turns as were asked for
+-- as many turns as the arguments say
 abbrev pub AreAllTurns : NodeConfig → State → Option ℕ → State → List Entry → Type 0
 AreAllTurns node old turns new entries = IsSomeAnd turns (λ count. IsNodeLog node old count new entries)
 
--- The turns of a node, from one state to another, by the outcome that they lead to. Where no count is
--- asked for, there are at most `MOST_TURNS`.
+-- The turns of a node, from one state to another, by the outcome that they lead to. Without a number in the arguments
+-- there are at most `MOST_TURNS`.
 abbrev pub IsNodeRun : NodeConfig → Option ℕ → State → State → Outcome → List ℕ →
     List Entry → Type 0
 IsNodeRun node turns old new Done said entries = (said ≡ [])
@@ -77,7 +77,7 @@ IsNodeRun node turns old new TurnsSpent said entries = (turns ≡ None)
     × (said ≡ codes "turns spent") × IsNodeLog node old MOST_TURNS new entries
 IsNodeRun node turns old new outcome said entries = ⊥
 
--- in the code: how a daemon ends that made all its turns
+-- in the code: how a daemon ends after all its turns
 abbrev pub AreSpent : Option ℕ → Outcome → List ℕ → Type 0
 AreSpent (Some count) Done said = said ≡ []
 AreSpent None TurnsSpent said = said ≡ codes "turns spent"
@@ -100,7 +100,7 @@ pub record IsTurning (asked : DaemonWords) (outcome : Outcome) (said : List ℕ)
   pub log : IsNodeRun (member_config asked.site config ring) asked.turns
       (start_state (member_config asked.site config ring) records reading) last outcome said turns
 
--- the first stage of the opening that did not go on, or the turns behind them all
+-- the first stage of the opening that failed, or the turns after all stages
 pub data IsServing (asked : DaemonWords) (outcome : Outcome) (said : List ℕ)
     (entries : List Entry) : Type 0 where
   Unread : IsUnread asked.conf outcome said entries → IsServing asked outcome said entries

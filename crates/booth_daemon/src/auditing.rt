@@ -1,4 +1,4 @@
-//! `boothd audit`: the journals of members, from their files, and who held what by them.
+//! `boothd audit`: reads the journals of members from their files, and prints the holdings.
 ghost use Rattle.std.specs.Prelude.{◌≤◌, ℕ, IfErr, MatchResult};
 ghost use Rattle.booth_host.specs.Past.{GrewSome};
 ghost use Rattle.booth_outcomes.specs.Outcomes.{HasBlame};
@@ -16,16 +16,16 @@ use booth_keys::Ring;
 use booth_outcomes::{Ended, ErrorLine, Outcome, read_config, read_ring, texts};
 use std::alloc::Global;
 
-/// What the files of an audit say.
+/// The contents of the files of an audit.
 #[derive(Drop)]
 struct Files {
     config: Config,
     ring: Option<Ring>,
-    /// The texts of the journals, in the order of the words.
+    /// The texts of the journals, in the order of the arguments.
     journals: Vec<ByteText>,
 }
 
-// The journal in the file at this path.
+// Reads the journal in the file at this path.
 fn read_journal<H: Host>(alloc: Global, path: &PathText, host: &mut H) -> Result<ByteText, Ended>
     ensures past { GrewSome (IsJournalRead path.now result) (H.past host.old) (H.past host.new) }
     ensures outcome { IfErr result (λ ended. IsAuditOutcome ended.outcome) }
@@ -42,7 +42,7 @@ fn read_journal<H: Host>(alloc: Global, path: &PathText, host: &mut H) -> Result
     }
 }
 
-// The journals in the files at these paths, in their order.
+// Reads the journals in the files at these paths, in their order.
 fn read_journals<H: Host>(
     alloc: Global,
     paths: &[PathText],
@@ -64,7 +64,7 @@ fn read_journals<H: Host>(
     Ok(journals)
 }
 
-// All files of an audit.
+// Reads all files of an audit.
 fn read_files<H: Host>(alloc: Global, asked: &AuditWords, host: &mut H) -> Result<Files, Ended>
     ensures past { GrewSome (AreFilesRead asked.now result) (H.past host.old) (H.past host.new) }
     ensures outcome { IfErr result (λ ended. IsAuditOutcome ended.outcome) }
@@ -81,7 +81,7 @@ fn read_files<H: Host>(alloc: Global, asked: &AuditWords, host: &mut H) -> Resul
     })
 }
 
-// Prints who held what.
+// Prints the holdings.
 fn print<H: Host>(alloc: Global, config: &Config, holdings: &[Holding], host: &mut H) -> Ended
     ensures past { GrewSome (IsPrinted config.now holdings.now result.outcome result.said) (H.past host.old)
         (H.past host.new) }
@@ -104,7 +104,7 @@ fn print<H: Host>(alloc: Global, config: &Config, holdings: &[Holding], host: &m
     }
 }
 
-// How an audit ends whose journals, at these paths, have this fault.
+// Returns how an audit ends if the journals at these paths have this fault.
 fn refuse(paths: &[PathText], fault: AuditFault) -> Ended
     ensures end { IsBadEnd paths.now fault result.outcome result.said }
     ensures outcome { IsAuditOutcome result.outcome }
@@ -119,7 +119,7 @@ fn refuse(paths: &[PathText], fault: AuditFault) -> Ended
     }
 }
 
-// Audits what was read at these paths, and tells what came of it.
+// Audits the files at these paths, and prints the result.
 fn conclude<H: Host>(alloc: Global, paths: &[PathText], files: &Files, host: &mut H) -> Ended
     ensures past { GrewSome (IsAuditEnd files.now.config files.now.ring paths.now files.now.journals.items
         result.outcome result.said) (H.past host.old) (H.past host.new) }
@@ -133,7 +133,7 @@ fn conclude<H: Host>(alloc: Global, paths: &[PathText], files: &Files, host: &mu
     }
 }
 
-/// The calls of the audit that was asked for, up to where its outcome is decided.
+/// Makes the calls of the audit, up to the one that decides its outcome.
 pub(crate) fn audit<H: Host>(alloc: Global, asked: &AuditWords, host: &mut H) -> Ended
     ensures past { GrewSome (IsAuditing asked.now result.outcome result.said) (H.past host.old) (H.past host.new) }
     ensures outcome { IsAuditOutcome result.outcome }

@@ -1,4 +1,4 @@
-//! The text of who held what.
+//! The text of the holdings.
 ghost use Rattle.std.specs.Prelude.{◌≡◌, ◌≤◌, ◌+◌, ◌++◌, decimal, length, IfOk};
 ghost use Rattle.booth_daemon.specs.declared.holdings_text.TheConstants.{LINE_BYTES};
 ghost use Rattle.booth_daemon.specs.Auditing.{held_text, holding_text, holdings_text, site_at, span_text, ticket_at};
@@ -28,7 +28,7 @@ fn put_number(line: &mut ArrayVec<u8, LINE_BYTES>, number: u64)
     put(line, digits.format(number).as_bytes());
 }
 
-// The name of the ticket at this place.
+// Returns the name of the ticket at this place.
 fn ticket_at(config: &Config, place: u32) -> &[u8]
     ensures value { result.now ≡ ticket_at config.now place }
     ensures short { length result.now ≤ 63 }
@@ -39,7 +39,7 @@ fn ticket_at(config: &Config, place: u32) -> &[u8]
     ticket.name.bytes()
 }
 
-// The address of the member at this place.
+// Returns the address of the member at this place.
 fn site_at(config: &Config, place: u32) -> ArrayString<39>
     ensures { result.bytes ≡ site_at config.now place }
 {
@@ -49,7 +49,7 @@ fn site_at(config: &Config, place: u32) -> ArrayString<39>
     }
 }
 
-// Which ticket was held, and where.
+// Returns the ticket that was held, and the site.
 fn held_text(config: &Config, held: &Holding) -> ArrayVec<u8, LINE_BYTES>
     ensures bytes { result.items ≡ held_text config.now held.now }
     ensures len { length result.items ≤ 116 }
@@ -62,7 +62,7 @@ fn held_text(config: &Config, held: &Holding) -> ArrayVec<u8, LINE_BYTES>
     line
 }
 
-// Appends from when until when it was held.
+// Appends the start and the end of a holding.
 fn put_span(line: &mut ArrayVec<u8, LINE_BYTES>, held: &Holding)
     requires { length line.old.items ≤ 116 }
     ensures { line.new.items ≡ line.old.items ++ span_text held.now }
@@ -82,7 +82,7 @@ fn holding_text(config: &Config, held: &Holding) -> ArrayVec<u8, LINE_BYTES>
     line
 }
 
-/// A line for each holding.
+/// Returns a line for each holding.
 #[tactic(auto, using(std::proofs::lemmas::List::flat_map_more))]
 pub(crate) fn holdings_text(
     alloc: Global,

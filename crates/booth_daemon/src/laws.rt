@@ -2,35 +2,34 @@
 ghost use Rattle.booth_daemon.specs.Faultless.{FaultlessAudits, FaultlessRuns, FaultlessSimulations, FaultlessLooks};
 ghost use Rattle.booth_daemon.specs.Headline.{CutRunsAreSessions, DaemonsTurn, RunsAreSessions};
 
-/// Valid words and files, a free lock and an outside that does not fail give Done, TurnsSpent or
-/// OutOfMemory.
+/// Valid arguments and files, a free lock and an environment that does not fail give Done, TurnsSpent or OutOfMemory.
 pub fn faultless_runs()
     ensures { FaultlessRuns }
 {}
 
-/// Valid words, a valid file and an outside that does not fail have `sim` give Done or OutOfMemory.
+/// Valid arguments, a valid file and an environment that does not fail give Done or OutOfMemory for `sim`.
 pub fn faultless_simulations()
     ensures { FaultlessSimulations }
 {}
 
-/// Valid words, a valid file, its keys and an outside that does not fail have `audit` give Done, AuditBad or
-/// OutOfMemory.
+/// Valid arguments, a valid file, its keys and an environment that does not fail give Done, AuditBad or OutOfMemory
+/// for `audit`.
 pub fn faultless_audits()
     ensures { FaultlessAudits }
 {}
 
-/// Valid words and an outside that does not fail have `status` give Done, NotRunning or OutOfMemory.
+/// Valid arguments and an environment that does not fail give Done, NotRunning or OutOfMemory for `status`.
 pub fn faultless_looks()
     ensures { FaultlessLooks }
 {}
 
-/// What a run of the daemon did behind its opening, from its start on, is a session of a member: its start with the
+/// What a run of the daemon did after its opening, from its start on, is a session of a member: its start with the
 /// reading and the records that the opening read, and then the calls of its turns.
 pub fn runs_are_sessions()
     ensures { RunsAreSessions }
 {}
 
-/// So is what it did up to any call, where it is cut off behind it.
+/// The same holds for what it did up to any call, if it is cut off after that call.
 pub fn cut_runs_are_sessions()
     ensures { CutRunsAreSessions }
 {}

@@ -1,4 +1,4 @@
-//! The program `boothd` over any host: words in, calls on the host, texts and outcome out.
+//! The program `boothd` over any host: arguments in, calls on the host, texts and an outcome out.
 #![tactic(auto)]
 
 mod auditing;

@@ -20,7 +20,7 @@ use booth_node::Node;
 use booth_outcomes::{Ended, Outcome, read_config, read_ring, texts};
 use std::alloc::Global;
 
-// The lock that this daemon alone is to hold.
+// Takes the lock, which only this daemon may hold.
 fn lock<H: Host>(path: &PathText, host: &mut H) -> Result<(), Ended>
     ensures past { GrewSome (IsLocked path.now result) (H.past host.old) (H.past host.new) }
     ensures served { IfErr result (λ ended. IsServed ended.outcome) }
@@ -55,8 +55,7 @@ fn open_socket<H: Host>(asked: &DaemonWords, port: u16, host: &mut H) -> Result<
     host.open(&place)
 }
 
-// The node of this member, behind its open socket: its tickets start from their records at the clock's
-// reading.
+// Opens the node of this member, after its socket: its tickets start from their records at the clock's reading.
 fn open_node<H: Host>(
     alloc: Global,
     asked: &DaemonWords,
@@ -88,7 +87,7 @@ fn open_node<H: Host>(
     }
 }
 
-/// The whole opening, up to a node that can make its first turn.
+/// Makes the whole opening, up to a node that can make its first turn.
 pub(crate) fn open<H: Host>(alloc: Global, asked: &DaemonWords, host: &mut H) -> Result<Node, Ended>
     ensures past { GrewSome (IsOpened asked.now result) (H.past host.old) (H.past host.new) }
     ensures served { IfErr result (λ ended. IsServed ended.outcome) }

@@ -1,4 +1,4 @@
-//! The records that a daemon starts from, one for each ticket.
+//! The records from which a daemon starts, one for each ticket.
 ghost use Rattle.std.specs.Prelude.{◌≡◌, ◌≤◌, IfErr, IfOk, MatchResult, length};
 ghost use Rattle.booth_host.specs.Past.{GrewSome};
 ghost use Rattle.booth_outcomes.specs.Outcomes.{HasBlame, IsServed};
@@ -11,7 +11,7 @@ use booth_outcomes::{Ended, Outcome, texts};
 use booth_rec::Record;
 use std::alloc::Global;
 
-// The record of this ticket, where one was kept.
+// Reads the record of this ticket, if there is one.
 fn read_record<H: Host>(ticket: &Name, host: &mut H) -> Result<Option<Record>, Ended>
     ensures past { GrewSome (IsRecordRead ticket.now result) (H.past host.old) (H.past host.new) }
     ensures served { IfErr result (λ ended. IsServed ended.outcome) }
@@ -27,7 +27,7 @@ fn read_record<H: Host>(ticket: &Name, host: &mut H) -> Result<Option<Record>, E
     }
 }
 
-/// The record of each of these tickets, where one was kept, in their order.
+/// Reads the record of each of these tickets, if there is one, in their order.
 pub(crate) fn read_records<H: Host>(
     alloc: Global,
     tickets: &[TicketConf],

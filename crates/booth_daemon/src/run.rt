@@ -16,7 +16,7 @@ use booth_outcomes::{Ended, Outcome, tell, tell_error, texts};
 use booth_world::laws;
 use std::alloc::Global;
 
-// The calls of a run up to where its outcome is decided.
+// Makes the calls of a run, up to the one that decides its outcome.
 fn run_words<H: Host>(alloc: Global, words: &[String], host: &mut H) -> Ended
     ensures past { GrewSome (IsMade (map string_bytes words.now) result.outcome result.said)
         (H.past host.old) (H.past host.new) }
@@ -42,26 +42,26 @@ fn run_words<H: Host>(alloc: Global, words: &[String], host: &mut H) -> Ended
     }
 }
 
-/// Runs `boothd` with these words, without the program's name, over this host.
+/// Runs `boothd` with these arguments, without the program's name, with this host.
 ///
-/// `daemon` reads the configuration, its key where `authfile` is set, takes the lock, opens its socket, reads the
-/// record of each ticket, and makes turns at the member's address until the host says `Stop` or the turns that were
-/// asked for are made. `status` says whether a daemon holds the lock. `sim` runs a whole cluster in memory through
-/// generated events, and prints what was counted. `audit` reads the journals of members and says who held which ticket
-/// when, or where they are not true. Help and version are printed; of all other words it is said what is
-/// wrong with them.
+/// `daemon` reads the configuration and, if `authfile` is set, its key; takes the lock; opens its socket; reads the
+/// record of each ticket; and makes turns at the member's address until the host returns `Stop`, or for as many turns
+/// as the arguments say. `status` prints whether a daemon holds the lock. `sim` runs a whole cluster in memory
+/// through generated events, and prints the counts. `audit` reads the journals of members, and prints which member
+/// held which ticket when, or where the journals are not true. Help and version are printed. For all other arguments
+/// the program prints what is wrong with them.
 #[tactic(auto, using(crate::proofs::RunLemmas::run_of, crate::proofs::SessionLemmas::safe_run))]
 pub fn boothd<H: Host>(alloc: Global, words: &[String], host: &mut H) -> Outcome
-    // Where the host tells its calls: exactly these, by how the run ended.
+    // If the host records its calls, they are exactly these, by how the run ended.
     ensures past { GrewSome (IsRun (map string_bytes words.now) result) (H.past host.old) (H.past host.new) }
 
-    // What its daemon did is a session of a member. In every world that has it: no automatic ticket is held at two
-    // sites, and no kept term falls; who tells of itself as the holder is it, where what it tells is not over. Where
-    // all sessions of such a world are of version 2, a later holder has a later term; and then leases are told apart by
-    // their terms even in a world of which nothing is asked of the clocks but that they rise.
+    // What its daemon did is a session of a member. In every world that has this session, no automatic ticket is held
+    // at two sites, and no written term falls; and a member that names itself as the holder is the holder, until the
+    // end that it names. If all sessions of such a world are of version 2, a later holder has a later term; and then
+    // leases are distinguished by their terms even in a world whose clocks only rise.
     ensures worlds { GrewSome (IsSafe (map string_bytes words.now) result) (H.past host.old) (H.past host.new) }
 
-    // Over every host.
+    // For every host.
     ensures words { FitsWords (map string_bytes words.now) result }
     ensures blame { HasBlame result (H.faults host.old) (H.faults host.new) }
     ensures later { H.faults host.old ≤ H.faults host.new }
@@ -76,7 +76,7 @@ pub fn boothd<H: Host>(alloc: Global, words: &[String], host: &mut H) -> Outcome
     ended.outcome
 }
 
-/// Runs `boothd` over a host without failures: no failure is ever answered.
+/// Runs `boothd` with a host that has no failures: no call returns a failure.
 pub fn quiet_boothd(alloc: Global, words: &[String], host: &mut QuietHost) -> Outcome
     ensures past { GrewSome (IsRun (map string_bytes words.now) result) (quiet_past host.old)
         (quiet_past host.new) }

@@ -14,15 +14,15 @@ use booth_node::{Node, Turn};
 use booth_outcomes::{Ended, ErrorLine, Outcome, texts};
 use std::alloc::Global;
 
-/// How a row of turns ended.
+/// How a sequence of turns ended.
 enum Ending {
     /// The last turn stopped.
     Stopped,
-    /// All turns were made, and none stopped.
+    /// All turns were made, and none of them stopped.
     Spent,
 }
 
-// So many turns, or those up to the first that stops.
+// Makes this many turns, or those up to the first that stops.
 fn make_turns<H: Host>(node: &mut Node, count: u64, host: &mut H) -> Ending
     ensures past { MatchEnding result
         (GrewSome (λ es. IsStoppedWithin (node_config node.old) (state_of node.old) count
@@ -40,7 +40,7 @@ fn make_turns<H: Host>(node: &mut Node, count: u64, host: &mut H) -> Ending
     Ending::Spent
 }
 
-// How a daemon ends that made all its turns.
+// Returns how a daemon ends after all its turns.
 fn spent(turns: Option<u64>) -> Ended
     ensures { AreSpent turns result.outcome result.said }
 {
@@ -56,7 +56,7 @@ fn spent(turns: Option<u64>) -> Ended
     }
 }
 
-// The turns of a node, as many as were asked for, and how the daemon ends with them.
+// Makes the turns of a node, as many as the arguments say, and returns how the daemon ends with them.
 fn run_node<H: Host>(node: &mut Node, turns: Option<u64>, host: &mut H) -> Ended
     ensures past { GrewSome (IsNodeRun (node_config node.old) turns (state_of node.old)
         (state_of node.new) result.outcome result.said) (H.past host.old) (H.past host.new) }
@@ -73,7 +73,7 @@ fn run_node<H: Host>(node: &mut Node, turns: Option<u64>, host: &mut H) -> Ended
     }
 }
 
-/// The calls of the daemon that was asked for, up to where its outcome is decided.
+/// Makes the calls of the daemon, up to the one that decides its outcome.
 pub(crate) fn serve<H: Host>(alloc: Global, asked: &DaemonWords, host: &mut H) -> Ended
     ensures past { GrewSome (IsServing asked.now result.outcome result.said)
         (H.past host.old) (H.past host.new) }

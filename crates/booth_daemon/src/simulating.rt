@@ -15,15 +15,15 @@ use booth_outcomes::{Ended, ErrorLine, Outcome, read_config, texts};
 use booth_sim::{Summary, simulate as run_cluster};
 use std::alloc::Global;
 
-// What words may ask for is within what a simulation may have.
+// The arguments allow no more events than a simulation may have.
 const _: () = prove!(MOST_EVENTS <= booth_sim::MOST_EVENTS);
 
-/// The configuration of a simulation, where none is named.
+/// The configuration of a simulation, if the arguments name none.
 const EXAMPLE: &[u8] =
     b"site=\"192.168.201.100\"\nsite=\"192.168.202.100\"\narbitrator=\"192.168.203.100\"\n\
     ticket=\"ticket-db8\"\n";
 
-// The configuration of the example, which has no fault: only memory may be missing.
+// Returns the configuration of the example, which has no fault: only memory may be out.
 fn example(alloc: Global) -> Result<Config, Ended>
     ensures config { IfOk result (λ config. Says example_text config) }
     ensures memory { IfErr result HasNoMemory }
@@ -34,7 +34,7 @@ fn example(alloc: Global) -> Result<Config, Ended>
     }
 }
 
-// The configuration in the file at the path that is named, or else the example.
+// Reads the configuration in the file at the path, or returns the example.
 fn choose<H: Host>(alloc: Global, path: &Option<PathText>, host: &mut H) -> Result<Config, Ended>
     ensures past { GrewSome (IsConfigChosen path.now result) (H.past host.old) (H.past host.new) }
     ensures outcome { IfErr result (λ ended. IsSimulationEnd path.now ended.outcome) }
@@ -47,7 +47,7 @@ fn choose<H: Host>(alloc: Global, path: &Option<PathText>, host: &mut H) -> Resu
     }
 }
 
-// Prints what was counted.
+// Prints the counts.
 fn print<H: Host>(summary: &Summary, host: &mut H) -> Ended
     ensures past { GrewSome (IsPrinted summary.now result.outcome result.said) (H.past host.old) (H.past host.new) }
     ensures outcome { (conf : Option (List ℕ)) → IsSimulationEnd conf result.outcome }
@@ -66,7 +66,7 @@ fn print<H: Host>(summary: &Summary, host: &mut H) -> Ended
     }
 }
 
-// Runs the cluster of this configuration, and prints what was counted.
+// Runs the cluster of this configuration, and prints the counts.
 fn run<H: Host>(alloc: Global, config: Config, asked: &SimulationWords, host: &mut H) -> Ended
     requires { asked.now.events ≤ MOST_EVENTS }
     ensures past { GrewSome (IsSummed config asked.now result.outcome result.said) (H.past host.old)
@@ -81,7 +81,7 @@ fn run<H: Host>(alloc: Global, config: Config, asked: &SimulationWords, host: &m
     }
 }
 
-/// The calls of the simulation that was asked for, up to where its outcome is decided.
+/// Makes the calls of the simulation, up to the one that decides its outcome.
 pub(crate) fn simulate<H: Host>(alloc: Global, asked: &SimulationWords, host: &mut H) -> Ended
     requires { asked.now.events ≤ MOST_EVENTS }
     ensures past { GrewSome (IsSimulated asked.now result.outcome result.said) (H.past host.old)

@@ -28,7 +28,7 @@ fn found(is_free: bool) -> Outcome
     }
 }
 
-// Prints whether the lock was free, and ends with that.
+// Prints whether the lock was free, and ends.
 fn print<H: Host>(is_free: bool, host: &mut H) -> Ended
     ensures past { GrewSome (IsPrinted is_free result.outcome result.said) (H.past host.old)
         (H.past host.new) }
@@ -48,7 +48,7 @@ fn print<H: Host>(is_free: bool, host: &mut H) -> Ended
     }
 }
 
-/// Says whether a daemon holds this lock. A free lock is let go with the process.
+/// Prints whether a daemon holds this lock. A lock that was free is released when the process ends.
 pub(crate) fn status<H: Host>(lock: &PathText, host: &mut H) -> Ended
     ensures past { GrewSome (IsStatus lock.now result.outcome result.said) (H.past host.old)
         (H.past host.new) }

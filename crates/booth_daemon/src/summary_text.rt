@@ -1,4 +1,4 @@
-//! The text of what a simulation counted.
+//! The text of a simulation's counts.
 ghost use Rattle.std.specs.Prelude.{◌≡◌, ◌≤◌, ◌+◌, ◌++◌, length};
 ghost use Rattle.booth_daemon.specs.Simulating.{cluster_text, row_text, summary_text, ticket_text};
 
@@ -9,7 +9,7 @@ use itoa::Buffer;
 /// The most bytes of the text.
 const SUMMARY_BYTES: usize = 300;
 
-// Appends a line of a name and a number.
+// Appends a line with a name and a number.
 fn put_row(text: &mut ArrayVec<u8, SUMMARY_BYTES>, name: &str, number: u64)
     requires name { length name.now ≤ 30 }
     requires room { length text.old.items + length name.now + 23 ≤ 300 }
@@ -24,7 +24,7 @@ fn put_row(text: &mut ArrayVec<u8, SUMMARY_BYTES>, name: &str, number: u64)
     text.try_extend_from_slice(b"\n").unwrap();
 }
 
-// Appends what became of the cluster.
+// Appends the counts of the cluster.
 fn put_cluster(text: &mut ArrayVec<u8, SUMMARY_BYTES>, summary: &Summary)
     requires room { length text.old.items ≤ 100 }
     ensures bytes { text.new.items ≡ text.old.items ++ cluster_text summary.now }
@@ -36,7 +36,7 @@ fn put_cluster(text: &mut ArrayVec<u8, SUMMARY_BYTES>, summary: &Summary)
     put_row(text, "restarts", summary.restarts);
 }
 
-// Appends what became of its tickets.
+// Appends the counts of its tickets.
 fn put_tickets(text: &mut ArrayVec<u8, SUMMARY_BYTES>, summary: &Summary)
     requires room { length text.old.items ≤ 150 }
     ensures bytes { text.new.items ≡ text.old.items ++ ticket_text summary.now }
@@ -47,7 +47,7 @@ fn put_tickets(text: &mut ArrayVec<u8, SUMMARY_BYTES>, summary: &Summary)
     put_row(text, "most holders at one moment", summary.most_holders);
 }
 
-/// A line for each number.
+/// Returns a line for each number.
 pub(crate) fn summary_text(summary: &Summary) -> ArrayVec<u8, SUMMARY_BYTES>
     ensures { result.items ≡ summary_text summary.now }
 {

@@ -1,5 +1,5 @@
--- A test of worlds: of their form and of five premises, and of what is read of the clocks. What it lets pass is a world
--- whose members begin free, and whose clocks are true.
+-- A test of worlds: of their form, of five premises, and of the clock readings in them. A world that passes, with
+-- members that begin free and clocks that are true, is a world.
 use Rattle.std.specs.Prelude.{ℕ, suc, Bool, true, false, not, ◌&&◌, ◌||◌, ◌==◌, nat_le, nat_lt, List, [], ◌∷◌, ◌++◌, Option, Some, None, Result, Ok, Err, bytes_eq}
 use Rattle.std.specs.List.{list_all, list_any, range_with_len}
 use Rattle.booth_auth.specs.Verdict.{verdict}
@@ -30,12 +30,12 @@ use Rattle.booth_examples.specs.Premises.{Premise, NothingHeld, SameMembers, Tru
 use Rattle.booth_examples.specs.Same.{same_id, same_list, same_member, same_option, same_record}
 use Rattle.booth_examples.specs.Sessions.{are_sessions}
 
--- the test passes of each entry, with those before it
+-- each entry passes the test, with those before it
 abbrev pub along : (List WorldEntry → WorldEntry → Bool) → List WorldEntry → List WorldEntry → Bool
 along test before [] = true
 along test before (entry ∷ entries) = test before entry && along test (before ++ entry ∷ []) entries
 
--- the test passes of each ticket, with its place
+-- each ticket passes the test, with its place
 abbrev pub each_ticket : (ℕ → TicketConf → Bool) → ℕ → List TicketConf → Bool
 each_ticket test place [] = true
 each_ticket test place (ticket ∷ tickets) = test place ticket && each_ticket test (suc place) tickets
@@ -55,7 +55,7 @@ config_of members ticket = record {
   tickets = ticket ∷ [];
 }
 
--- the ticket of a one-letter name, with short times
+-- the ticket with a one-letter name and short times
 abbrev pub least_ticket : TicketConf
 least_ticket = record {
   name = 97 ∷ [];
@@ -117,7 +117,7 @@ sent_bytes (Makes (calls.Send to bytes answer)) = Some bytes
 sent_bytes (IsCut (CutSend to bytes)) = Some bytes
 sent_bytes what = None
 
--- the member of this id sent these bytes, by this entry
+-- the member with this id sent these bytes, by this entry
 abbrev pub is_sent_by : World → MemberId → List ℕ → WorldEntry → Bool
 is_sent_by w from bytes entry =
     same_id (id_at w entry.member) from && same_option bytes_eq (sent_bytes entry.what) (Some bytes)
@@ -126,7 +126,7 @@ abbrev pub was_said : World → List WorldEntry → List ℕ → MemberId → Di
 was_said w before bytes from BetweenMembers = list_any (is_sent_by w from bytes) before
 was_said w before bytes from direction = true
 
--- where the bytes are let in as a member's message, that member sent these very bytes
+-- if the bytes are accepted as a member's message, that member sent exactly these bytes
 abbrev pub was_sent : World → List WorldEntry → List ℕ → Result PlainMessage DropFault → Bool
 was_sent w before bytes (Err fault) = true
 was_sent w before bytes (Ok message) = was_said w before bytes message.head.from (direction_of message.head.cmd)
@@ -136,7 +136,7 @@ hears_sent w before (Hearing node old (Ok (arrivals.Datagram from)) bytes) (Make
     was_sent w before bytes (verdict node.config node.ring node.me (used old.last_reading reading) bytes)
 hears_sent w before stand what = true
 
--- where a member stands after an entry, which may be another's
+-- the state of a member after an entry, which may be another member's
 abbrev pub stand_next : Bool → Stand → SessionEntry → Stand
 stand_next true stand what = after_entry stand what
 stand_next false stand what = stand
@@ -145,7 +145,7 @@ abbrev pub hears_if : Bool → World → List WorldEntry → Stand → SessionEn
 hears_if true w before stand what = hears_sent w before stand what
 hears_if false w before stand what = true
 
--- what this member heard was sent, from where it stands after the entries before
+-- what this member received was sent, from its state after the entries before
 abbrev pub hears_along : World → ℕ → Stand → List WorldEntry → List WorldEntry → Bool
 hears_along w m stand before [] = true
 hears_along w m stand before (entry ∷ entries) =
@@ -189,7 +189,7 @@ is_second_start what = true
 abbrev pub is_second_world : World → Bool
 is_second_world w = along (λ before entry. is_second_start entry.what) [] w.entries
 
--- ---- a world but for a premise
+-- ---- a world that lacks one premise
 
 abbrev pub same_premise : Premise → Premise → Bool
 same_premise NothingHeld NothingHeld = true
@@ -201,7 +201,8 @@ same_premise MembersSpeak MembersSpeak = true
 same_premise OneDaemon OneDaemon = true
 same_premise a b = false
 
--- what it tests of each premise: nothing of what members begin with, and of clocks what is read of them
+-- the part of the test for each premise: nothing about the records with which members begin, and about clocks only
+-- their readings
 abbrev pub is_met : World → Premise → Bool
 is_met w NothingHeld = true
 is_met w SameMembers = same_members w
@@ -219,7 +220,7 @@ abbrev pub is_world_but : Premise → World → Bool
 is_world_but broken w =
     has_form w && list_all (λ premise. same_premise premise broken || is_met w premise) premises
 
--- ---- what members begin with
+-- ---- the records with which members begin
 
 abbrev pub is_member_id : World → MemberId → Bool
 is_member_id w id = list_any (λ m. same_id (id_at w m) id) (range_with_len 0 (members_of w))
@@ -231,7 +232,7 @@ abbrev pub is_past : World → Record → ℕ → Promise → Bool
 is_past w kept reading promise =
     is_member_id w promise.to && (nat_le promise.term kept.term && nat_le kept.abstain reading)
 
--- a record holds nothing where its member's clock first reads this
+-- a record holds nothing if its member's clock first reads this
 abbrev pub holds_nothing : World → ℕ → ℕ → Record → Bool
 holds_nothing w m reading kept =
     each (λ lease. is_over lease reading) kept.lease

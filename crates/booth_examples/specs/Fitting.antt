@@ -1,4 +1,4 @@
--- Tests of what has a form: configurations that a text says, and messages that have a spelling.
+-- Tests of forms: configurations that a text spells, and messages that have a spelling.
 use Rattle.std.specs.Prelude.{ℕ, ◌^◌, Bool, true, false, not, ◌&&◌, nat_le, nat_lt, [], length, is_some}
 use Rattle.std.specs.List.{list_all}
 use Rattle.booth_base.specs.Name.{is_name, is_value}
@@ -24,7 +24,7 @@ is_sound c =
 
 -- ---- messages
 
--- it fits into four bytes
+-- the number fits into four bytes
 abbrev pub is_short : ℕ → Bool
 is_short n = nat_lt n (2 ^ 32)
 

@@ -1,4 +1,4 @@
--- Tests of who holds a ticket at a moment of a world.
+-- Tests of the holders of a ticket at a moment of a world.
 use Rattle.std.specs.Prelude.{ℕ, Bool, true, false, not, ◌&&◌, ◌||◌, ◌==◌, nat_le, nat_lt, if◌then◌else◌, List, [], ◌∷◌, Option, Some, None, bytes_eq}
 use Rattle.std.specs.List.{list_any}
 use Rattle.booth_conf.specs.declared.tickets.TicketConf.{TicketConf}
@@ -13,7 +13,7 @@ use Rattle.booth_examples.specs.Same.{same_bool, same_times}
 
 -- ---- the ticket
 
--- where it has the ticket's name, it is of its kind and has its times
+-- a ticket with the same name has the same kind and times
 abbrev pub is_alike : TicketConf → TicketConf → Bool
 is_alike ticket own =
     not (bytes_eq own.name ticket.name)
@@ -42,13 +42,13 @@ abbrev pub later_than : ℕ → List WorldEntry → List WorldEntry
 later_than time [] = []
 later_than time (entry ∷ entries) = if nat_le entry.time time then later_than time entries else entry ∷ entries
 
--- ---- who holds
+-- ---- holders
 
 abbrev pub lasts : Option Lease → ℕ → Bool
 lasts None reading = false
 lasts (Some lease) reading = nat_lt reading lease.until
 
--- the records that a member may have kept of the ticket at this true time
+-- the records that a member may have written for the ticket at this true time
 abbrev pub may_then : World → TicketConf → ℕ → ℕ → List Record
 may_then w ticket m time =
     may_be_kept ticket.name (begins_with w m ticket.name) (entries_of m (up_to time w.entries))
@@ -59,7 +59,7 @@ holds_then w ticket m time =
     nat_lt m (members_of w)
     && list_any (λ kept. lasts kept.lease (clock_at w m time)) (may_then w ticket m time)
 
--- at this true time the member holds the ticket, which is granted by votes
+-- at this true time the member holds the automatic ticket
 abbrev pub holds_at : World → TicketConf → ℕ → ℕ → Bool
 holds_at w ticket m time =
     is_automatic w ticket && (nat_lt time w.span && holds_then w ticket m time)

@@ -1,4 +1,4 @@
--- What the tests let pass is so.
+-- What passes a test has the property.
 use Rattle.std.specs.Prelude.{◌≡◌, ◌≢◌, ℕ, ◌<◌, true, List, length}
 use Rattle.booth_conf.specs.declared.tickets.TicketConf.{TicketConf}
 use Rattle.booth_rec.specs.declared.record.Record.{Record}
@@ -18,13 +18,14 @@ pub record HasGoodClocks (w : World) : Type 0 where
 abbrev pub CheckedWorldsAreWorlds : Type 0
 CheckedWorldsAreWorlds = (w : World) → BeginsFree w → HasGoodClocks w → is_world w ≡ true → IsWorld w
 
--- of a world but for a premise, what the test leaves out is asked for alone where the premise is another
+-- for a world that lacks one premise: the clocks and the beginnings, which the test leaves out, are premises unless
+-- they are the one that is missing
 abbrev pub CheckedWorldsLackOne : Type 0
 CheckedWorldsLackOne =
     (w : World) (broken : Premise) → (NothingHeld ≢ broken → BeginsFree w) → (TrueClocks ≢ broken → HasGoodClocks w)
     → is_world_but broken w ≡ true → IsWorldBut broken w
 
--- where a member begins with one record of each ticket, and that holds nothing, it begins free
+-- if a member begins with one record for each ticket, and the record holds nothing, the member begins free
 abbrev pub CheckedBeginningsAreFree : Type 0
 CheckedBeginningsAreFree =
     (w : World) (kept : ℕ → Record) → ((m : ℕ) (name : List ℕ) → begins_with w m name ≡ kept m)

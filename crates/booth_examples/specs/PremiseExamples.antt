@@ -1,4 +1,4 @@
--- For each premise a world that meets the others, and in which two hold at one moment.
+-- For each premise a world that meets the others, and in which two members hold at one moment.
 use Rattle.std.specs.Prelude.{◌≡◌, ◌≢◌, ◌<◌, ℕ, zero, suc, ◌*◌, List, [], ◌∷◌, ◌++◌, length, map, false, Some, None}
 use Rattle.std.specs.List.{range_with_len}
 use Rattle.booth_conf.specs.declared.members.Member.{Member}
@@ -9,16 +9,16 @@ use Rattle.booth_examples.specs.WorldExamples.{site_one, site_two, arbitrator, a
 
 -- ---- without 'records return'
 
--- two sites start, and each reads the record of a lease that it never kept
+-- two sites start, and each reads the record of a lease that it never wrote
 abbrev pub with_foreign_records : World
 with_foreign_records = world_with two_sites (
     at 0 0 (starts two_sites site_one 0 (Some (lease 1 6000)))
     ∷ at 0 1 (starts two_sites site_two 0 (Some (lease 1 6000)))
     ∷ [])
 
--- Site two votes for site one in term 1, and the vote is late. Site one starts again, but its record
--- of that term does not return. Site two is given a lease. Then site one asks in term 1 once more, and
--- the late vote counts for that round.
+-- Site two votes for site one in term 1, and the vote is late. Site one starts again, but its record of that term
+-- does not return. Site two gets a lease. Then site one requests votes in term 1 once more, and the late vote counts
+-- for that round.
 abbrev pub with_a_lost_record : World
 with_a_lost_record = world_with three_members (
     at 0 0 (starts three_members site_one 0 None)
@@ -61,15 +61,15 @@ with_a_lost_record = world_with three_members (
 
 -- ---- without 'nothing held'
 
--- each of two sites begins with a record of a lease that is in force, and starts from it
+-- each of two sites begins with a record of a lease in force, and starts from it
 abbrev pub with_leases_at_first : World
 with_leases_at_first =
     record with_foreign_records { begins = λ m. record { second = false; records = λ name. lease 1 6000 } }
 
 -- ---- without 'members speak'
 
--- Both sites are asked by clients, and open a round. Nobody votes, but to each comes a forged vote of
--- the other.
+-- Both sites get a request from a client, and open a round. No member votes, but each gets a forged vote of the
+-- other.
 abbrev pub with_forged_votes : World
 with_forged_votes = world_with two_sites (
     at 0 0 (starts two_sites site_one 0 None)
@@ -97,7 +97,7 @@ with_forged_votes = world_with two_sites (
 abbrev pub other_alone : List Member
 other_alone = site_two ∷ []
 
--- by its own configuration each of two sites is alone, and so it needs nobody's vote
+-- by its own configuration each of two sites is alone, so it needs no other vote
 abbrev pub with_two_configurations : World
 with_two_configurations = world_with two_sites (
     at 0 0 (starts alone site_one 0 None)
@@ -114,7 +114,7 @@ with_two_configurations = world_with two_sites (
 
 -- ---- without 'true clocks'
 
--- a clock that runs twice as fast as true time
+-- a clock at twice the rate of true time
 abbrev pub double_clock : List ℕ
 double_clock = map (λ time. 2 * time) (range_with_len 0 60000)
 
@@ -124,8 +124,8 @@ one_is_fast zero = exact_clock
 one_is_fast (suc zero) = double_clock
 one_is_fast (suc (suc m)) = exact_clock
 
--- Site two votes for site one, but by its own clock that lease is over in half the time. Then it is
--- asked for the ticket, and the arbitrator votes for it.
+-- Site two votes for site one, but by its own clock that lease is over in half the time. Then it gets a request for
+-- the ticket, and the arbitrator votes for it.
 abbrev pub with_a_fast_clock : World
 with_a_fast_clock = world_by one_is_fast three_members (
     at 0 0 (starts three_members site_one 0 None)
@@ -159,7 +159,7 @@ with_a_fast_clock = world_by one_is_fast three_members (
     ∷ at 10120 1 (keeps (lease 2 26200))
     ∷ [])
 
--- the clock of each other member is true, and all that is read is what clocks read
+-- the clock of each other member is true, and all readings are those of the clocks
 pub record AreTrueBut (broken : ℕ) (w : World) : Type 0 where
   pub long : (m : ℕ) → m < members_of w → length (w.clock m) ≡ w.span
   pub clocks : (m : ℕ) → m < members_of w → m ≢ broken → IsClock w.ticks (w.clock m)
@@ -167,7 +167,7 @@ pub record AreTrueBut (broken : ℕ) (w : World) : Type 0 where
 
 -- ---- without 'one daemon'
 
--- two daemons of the arbitrator start, and the one never hears what the other answered
+-- two daemons of the arbitrator start, and neither knows what the other answered
 abbrev pub daemon_starts : SessionEntry
 daemon_starts = starts three_members arbitrator 0 None
 
@@ -187,13 +187,13 @@ votes_for_two =
     ∷ sends (port_of site_two) (votes arbitrator site_two 1 8010)
     ∷ []
 
--- the entries of this member are those of two daemons, of which each alone does what a daemon does
+-- the entries of this member are those of two daemons, each of which alone does what a daemon does
 pub record HasTwoDaemons (w : World) (m : ℕ) (start : SessionEntry) (first second : List SessionEntry) : Type 0 where
   pub entries : entries_of m w.entries ≡ start ∷ start ∷ first ++ second
   pub first_alone : AreSessions Down (start ∷ first)
   pub second_alone : AreSessions Down (start ∷ second)
 
--- each daemon votes for another site, in one term
+-- each daemon votes for another site, in the same term
 abbrev pub with_two_daemons : World
 with_two_daemons = world_with three_members (
     at 0 0 (starts three_members site_one 0 None)

@@ -1,4 +1,4 @@
--- The seven premises of a world, by name, and what it is to need one.
+-- The seven premises of a world, by name, and what it means that one is needed.
 use Rattle.std.specs.Prelude.{◌≡◌, ◌≢◌, ℕ, ◌<◌}
 use Rattle.booth_conf.specs.declared.tickets.TicketConf.{TicketConf}
 use Rattle.booth_node.specs.Session.{Down, AreSessions}
@@ -24,11 +24,11 @@ Meets w VersionsRise = AtEach w (λ before entry. StaysSecond w before entry ent
 Meets w MembersSpeak = AtEach w (λ before entry. HearsSent w before (stand_after entry.member before) entry.what)
 Meets w OneDaemon = (m : ℕ) → m < members_of w → AreSessions Down (entries_of m w.entries)
 
--- a world but for this premise: it has the form of one, and meets each other
+-- a world that lacks this premise: it has the form of a world, and meets each other premise
 abbrev pub IsWorldBut : Premise → World → Type 0
 IsWorldBut broken w = HasForm w × ((premise : Premise) → premise ≢ broken → Meets w premise)
 
--- at one moment an automatic ticket is held at two members
+-- at one moment two members hold an automatic ticket
 pub record TwoHold (w : World) : Type 0 where
   pub ticket : TicketConf
   pub automatic : IsAutomatic w ticket
@@ -46,6 +46,6 @@ pub record HoldsAt (w : World) (ticket : TicketConf) (member time : ℕ) : Type 
   pub at : moment.time ≡ time
   pub holds : Holds w ticket member moment
 
--- where two hold, the premise that is left out is not met
+-- if two members hold, the missing premise is not met
 abbrev pub PremisesAreNeeded : Type 0
 PremisesAreNeeded = (w : World) (broken : Premise) → IsWorldBut broken w → TwoHold w → Meets w broken → ⊥

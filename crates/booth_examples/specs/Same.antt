@@ -1,4 +1,4 @@
--- Whether two values are the same, as tests.
+-- Tests of whether two values are equal.
 use Rattle.std.specs.Prelude.{Bool, true, false, not, ◌&&◌, ◌==◌, List, [], ◌∷◌, Option, Some, None, bytes_eq}
 use Rattle.booth_base.specs.declared.address.Address.{Address}
 use Rattle.booth_base.specs.declared.address.Address.TheVariants.{V4, V6}

@@ -1,4 +1,4 @@
--- A test of sessions: whether each entry may be done where its member stands.
+-- A test of sessions: each entry must be allowed in the state of its member.
 use Rattle.std.specs.Prelude.{Bool, true, false, ◌&&◌, ◌==◌, List, [], ◌∷◌, length, Option, bytes_eq}
 use Rattle.booth_auth.specs.Sealed.{sealed}
 use Rattle.booth_base.specs.Tree.{Ends, Does}
@@ -10,7 +10,7 @@ use Rattle.booth_node.specs.Session.{SessionEntry, Starts, Makes, IsCut, CutCall
 use Rattle.booth_examples.specs.Fitting.{fits}
 use Rattle.booth_examples.specs.Same.{same_peer, same_record, same_job}
 
--- the call is what was asked; its answer may be any
+-- the call is the requested one, with any answer
 abbrev pub is_done : Option Ring → Ask → Entry → Bool
 is_done ring (Send peer message) (calls.Send to bytes answer) =
     same_peer to peer && (bytes_eq bytes (sealed ring message) && fits message)

@@ -1,12 +1,12 @@
--- A member that tells of itself as a ticket's holder, by what is not over as it tells it.
+-- A member that names itself as a ticket's holder, with a claim that has not ended.
 use Rattle.std.specs.Prelude.{◌≡◌, ℕ}
 use Rattle.booth_conf.specs.declared.tickets.TicketConf.{TicketConf}
 use Rattle.booth_node.specs.Held.{Moment, IsAutomatic}
 use Rattle.booth_node.specs.World.{World, WorldEntry}
 use Rattle.booth_world.specs.Tellers.{Claim, IsLive, IsNext, Tells}
 
--- At a moment of this true time an entry of the member comes next that tells so of an automatic ticket. The claim is not
--- over at what the member's clock reads then.
+-- At a moment of this true time the next entry is one of the member that names it as the holder of an automatic
+-- ticket. The claim has not ended at what the member's clock reads then.
 pub record TellsAt (w : World) (ticket : TicketConf) (member time : ℕ) (claim : Claim) : Type 0 where
   pub automatic : IsAutomatic w ticket
   pub moment : Moment w

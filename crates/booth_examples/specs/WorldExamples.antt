@@ -1,4 +1,4 @@
--- What small worlds of version 1 are made of, and the smallest, in which a member that is alone holds its ticket.
+-- The parts of small worlds of version 1, and the smallest world, in which a member that is alone holds its ticket.
 use Rattle.std.specs.Prelude.{ℕ, ◌/◌, ◌%◌, ◌*◌, false, true, List, [], ◌∷◌, codes, Option, Some, None, Ok}
 use Rattle.std.specs.List.{range_with_len}
 use Rattle.booth_base.specs.declared.address.Address.TheVariants.{V4}
@@ -34,7 +34,7 @@ site_two = record { site = true; address = V4 (192 ∷ 0 ∷ 2 ∷ 2 ∷ []); id
 abbrev pub arbitrator : Member
 arbitrator = record { site = false; address = V4 (192 ∷ 0 ∷ 2 ∷ 3 ∷ []); id = record { 0 = 4231397922 } }
 
--- a lease of six seconds, which is the shortest that a configuration may have
+-- a lease of six seconds, which is the shortest that a configuration allows
 abbrev pub web : TicketConf
 web = record {
   name = codes "web";
@@ -65,7 +65,7 @@ config_with members = record {
 
 -- ---- clocks and worlds
 
--- a minute of a clock that reads the true time
+-- a minute of an exact clock
 abbrev pub exact_clock : List ℕ
 exact_clock = range_with_len 0 60000
 
@@ -85,7 +85,7 @@ world_with = world_by (λ m. exact_clock)
 
 -- ---- entries
 
--- at a true time the member at a place does this
+-- the member at a place does this at a true time
 abbrev pub at : ℕ → ℕ → SessionEntry → WorldEntry
 at time place what = record { member = place; time = time; what = what }
 
@@ -107,11 +107,11 @@ keeps kept = Makes (calls.Keep (codes "web") kept (Ok tt))
 abbrev pub sends : Peer → PlainMessage → SessionEntry
 sends to message = Makes (calls.Send to (sealed None message) (Ok tt))
 
--- it is cut while it keeps
+-- the member is interrupted while it writes
 abbrev pub is_cut_keeping : Record → SessionEntry
 is_cut_keeping tried = IsCut (CutKeep (codes "web") tried)
 
--- it is cut while it sends: the datagram may be on its way
+-- the member is interrupted while it sends: the datagram may be on its way
 abbrev pub is_cut_sending : Peer → PlainMessage → SessionEntry
 is_cut_sending to message = IsCut (CutSend to (sealed None message))
 
@@ -130,8 +130,8 @@ client = record { address = V4 (198 ∷ 51 ∷ 100 ∷ 7 ∷ []); port = 40000 }
 abbrev pub port_of : Member → Peer
 port_of member = record { address = member.address; port = 9929 }
 
--- what a message about the ticket says: who sends it, when by its own clock, a request's number, a
--- reason, a result, a leader and a term
+-- the content of a message about the ticket: the sender, the time by its own clock, a request number, a reason, a
+-- result, a leader and a term
 abbrev pub says : MemberId → ℕ → Cmd → ℕ → ℕ → ℕ → MemberId → ℕ → ℕ → PlainMessage
 says from reading cmd request reason result leader number seconds = record {
   head = record {
@@ -148,7 +148,7 @@ says from reading cmd request reason result leader number seconds = record {
   content = Ticket (record { ticket = codes "web"; leader = leader; term = number; valid_for = seconds });
 }
 
--- a client asks for the ticket, or that it is given back
+-- a client requests a grant of the ticket, or a revocation
 abbrev pub grant_it : PlainMessage
 grant_it = says (record { 0 = 0 }) 0 CGnt 1 0 0 NO_ONE 0 0
 
@@ -157,7 +157,7 @@ revoke_it = says (record { 0 = 0 }) 0 CRvk 2 0 0 NO_ONE 0 0
 
 -- ---- messages of members
 
--- a site asks for votes in a term, at this reading
+-- a site requests votes in a term, at this reading
 abbrev pub asks_votes : Member → ℕ → ℕ → PlainMessage
 asks_votes site number reading = says site.id reading RVot 0 ADMN 0 site.id number 0
 
@@ -165,15 +165,15 @@ asks_votes site number reading = says site.id reading RVot 0 ADMN 0 site.id numb
 abbrev pub votes : Member → Member → ℕ → ℕ → PlainMessage
 votes member site number reading = says member.id reading VtFr 0 0 0 site.id number 0
 
--- a site tells that it holds for so many seconds, and a member asks for the state of a ticket that it
--- knows no holder of
+-- a site announces its lease, with this many seconds left; and a member that knows of no holder asks for the state of
+-- a ticket
 abbrev pub tells_lease : Member → ℕ → ℕ → ℕ → PlainMessage
 tells_lease site number reading seconds = says site.id reading UpdE 0 0 0 site.id number seconds
 
 abbrev pub asks_state : Member → ℕ → ℕ → PlainMessage
 asks_state member number reading = says member.id reading Stat 0 0 0 NO_ONE number 0
 
--- a client is told that its round is open
+-- a client is informed that the round is open
 abbrev pub is_open : Member → ℕ → ℕ → PlainMessage
 is_open site number reading = says site.id reading RGnt 1 0 ASYN NO_ONE number 0
 
@@ -182,8 +182,8 @@ is_open site number reading = says site.id reading RGnt 1 0 ASYN NO_ONE number 0
 abbrev pub alone : List Member
 alone = site_one ∷ []
 
--- it begins with the record of a lease that is over, and starts from it; when it may answer itself, a client asks, and
--- it keeps the next term beside that lease, and then a lease of that term
+-- it begins with the record of a lease that has ended, and starts from it; when it may answer itself, a client sends
+-- a request, and it writes the next term beside that lease, and then a lease of that term
 abbrev pub one_goes_on : World
 one_goes_on = record (world_with alone (
     at 0 0 (starts alone site_one 0 (Some (lease 7 0)))
@@ -193,7 +193,8 @@ one_goes_on = record (world_with alone (
     ∷ at 7002 0 (keeps (lease 8 13000))
     ∷ [])) { begins = λ m. record { second = false; records = λ name. lease 7 0 } }
 
--- it starts without a record; when it may answer itself, a client asks, and it keeps a term, and then a lease
+-- it starts without a record; when it may answer itself, a client sends a request, and it writes a term, and then a
+-- lease
 abbrev pub one_holds : World
 one_holds = world_with alone (
     at 0 0 (starts alone site_one 0 None)

@@ -1,4 +1,5 @@
-//! Small worlds, each the contract of a function that does nothing: the laws speak of something, and need each premise.
+//! Small worlds, each the contract of a function that does nothing: they show that the laws are not empty, and need
+//! each premise.
 ghost use Rattle.std.specs.Prelude.{ℕ, ◌<◌};
 ghost use Rattle.booth_world.specs.Shadows.{HasShadow};
 ghost use Rattle.booth_node.specs.Held.{Moment};
@@ -13,7 +14,7 @@ ghost use Rattle.booth_examples.specs.VersionExamples.{promises_kept, one_after_
 ghost use Rattle.booth_examples.specs.WorldExamples.{one_goes_on, one_holds, site_one, site_two, tells_lease, web};
 ghost use Rattle.booth_world.specs.Tellers.{EndsIn, HasLeft};
 
-/// Without the premise that records return: two sites start from a record that they never kept.
+/// Without the premise that records return: two sites start from a record that they never wrote.
 pub fn foreign_records_are_held()
     ensures others { IsWorldBut RecordsReturn with_foreign_records }
     ensures two_hold { TwoHold with_foreign_records }
@@ -25,27 +26,26 @@ pub fn leases_at_first_are_held()
     ensures two_hold { TwoHold with_leases_at_first }
 {}
 
-/// A member that is alone begins with the record of a lease that is over, and holds its ticket by the next term.
+/// A member that is alone begins with the record of a lease that has ended, and holds its ticket in the next term.
 pub fn one_member_goes_on()
     ensures world { IsWorld one_goes_on }
     ensures holds { HoldsAt one_goes_on web 0 12999 }
 {}
 
-/// A member that is alone starts, is asked by a client for its ticket, and holds it.
+/// A member that is alone starts, gets a client's request for its ticket, and holds it.
 pub fn one_member_holds()
     ensures world { IsWorld one_holds }
     ensures holds { HoldsAt one_holds web 0 12999 }
 {}
 
-/// Without the premise that members speak for themselves: to each of two sites comes a forged
-/// vote of the other.
+/// Without the premise that members send their own messages: each of two sites gets a forged vote of the other.
 pub fn forged_votes_give_leases()
     ensures others { IsWorldBut MembersSpeak with_forged_votes }
     ensures two_hold { TwoHold with_forged_votes }
 {}
 
-/// A ticket is granted, its holder crashes in the middle of a keep and starts again, and when the
-/// lease is over another takes the ticket over. Each tells the other site of its lease, with six seconds left.
+/// A ticket is granted, its holder crashes in the middle of a write and starts again, and when the lease has ended
+/// another member takes the ticket over. Each announces its lease to the other site, with six seconds left.
 pub fn ticket_is_taken_over()
     ensures world { IsWorld taken_over }
     ensures first { HoldsAt taken_over web 0 12999 }
@@ -55,30 +55,30 @@ pub fn ticket_is_taken_over()
     ensures shadows { (moment : Moment taken_over) → HasShadow taken_over web moment }
 {}
 
-/// Without the premise that all have one configuration: by its own each of two sites is alone.
+/// Without the premise that all have one configuration: by its own configuration each of two sites is alone.
 pub fn two_configurations_give_leases()
     ensures others { IsWorldBut SameMembers with_two_configurations }
     ensures two_hold { TwoHold with_two_configurations }
 {}
 
-/// Without the premise that clocks are true: the clock of a site that voted runs twice as fast,
-/// and so it votes for itself while the first lease is in force.
+/// Without the premise that clocks are true: the clock of a site that voted runs twice as fast, so it votes for
+/// itself while the first lease is in force.
 pub fn fast_clock_gives_a_lease()
     ensures others { IsWorldBut TrueClocks with_a_fast_clock }
     ensures only_one { AreTrueBut 1 with_a_fast_clock }
     ensures two_hold { TwoHold with_a_fast_clock }
 {}
 
-/// The same in version 2 alone. It is an untimed world: nothing is asked of its clocks but that they rise, and there
-/// leases are told apart by their terms.
+/// The same in version 2 alone. It is an untimed world, whose clocks only rise, and leases in it are distinguished by
+/// their terms.
 pub fn fast_clock_gives_a_lease_of_its_term()
     ensures untimed { IsUntimedWorld fast_in_second }
     ensures second { IsSecondWorld fast_in_second }
     ensures two_hold { TwoHold fast_in_second }
 {}
 
-/// Without the premise that one daemon of each member runs: two of an arbitrator's vote for two
-/// sites in one term.
+/// Without the premise that one daemon of each member runs: two daemons of an arbitrator vote for two sites in one
+/// term.
 pub fn two_daemons_vote_twice()
     ensures others { IsWorldBut OneDaemon with_two_daemons }
     ensures two_daemons { HasTwoDaemons with_two_daemons 2 daemon_starts votes_for_one votes_for_two }
@@ -86,16 +86,15 @@ pub fn two_daemons_vote_twice()
     ensures two_hold { TwoHold with_two_daemons }
 {}
 
-/// A site holds in version 1, and it and an arbitrator start in version 2. The arbitrator promises to
-/// another site, crashes after its keep, starts from that record and answers at once, and the ticket
-/// is held there.
+/// A site holds in version 1, and it and an arbitrator start in version 2. The arbitrator promises another site,
+/// crashes after its write, starts from that record and answers at once, and that site holds the ticket.
 pub fn promises_are_kept()
     ensures world { IsWorld promises_kept }
     ensures first { HoldsAt promises_kept web 0 12999 }
     ensures second { HoldsAt promises_kept web 1 25999 }
 {}
 
-/// In version 2 alone a site holds, and when its lease is over another one does.
+/// In version 2 alone a site holds, and when its lease has ended another one does.
 pub fn second_holder_follows()
     ensures world { IsWorld one_after_another }
     ensures second { IsSecondWorld one_after_another }
@@ -103,9 +102,10 @@ pub fn second_holder_follows()
     ensures then_holds { HoldsAt one_after_another web 1 25999 }
 {}
 
-/// With a key, a ticket that has a handler and one that is granted by hand, a send, a next, a keep and a start of a
-/// handler fail, and calls of each kind are cut. A vote comes to another member as well. A site holds by a keep that is
-/// coming, by the same when it failed, and by one that was cut. Its handler is told the second in which its lease ends.
+/// With a key, a ticket with a handler and a manual ticket, a send, a `next`, a write and a start of a handler fail,
+/// and calls of each kind are interrupted. A vote reaches another member as well. A site holds by a write without a
+/// result yet, by the same write when it failed, and by an interrupted one. Its handler is told the second in which
+/// its lease ends.
 pub fn many_kinds_happen()
     ensures world { IsWorld of_many_kinds }
     ensures second { IsSecondWorld of_many_kinds }
@@ -122,14 +122,14 @@ pub fn falling_version_gives_leases()
     ensures two_hold { TwoHold with_a_falling_version }
 {}
 
-/// Without the premise that records return: a site starts without the term that it kept, and a
-/// vote of its earlier round counts for a later one.
+/// Without the premise that records return: a site starts without the term that it wrote, and a vote for its earlier
+/// round counts for a later one.
 pub fn lost_record_gives_a_lease()
     ensures others { IsWorldBut RecordsReturn with_a_lost_record }
     ensures two_hold { TwoHold with_a_lost_record }
 {}
 
-/// So in each of these worlds the premise that is left out is not met.
+/// In each of these worlds the missing premise is not met.
 pub fn premises_are_needed()
     ensures { PremisesAreNeeded }
 {}

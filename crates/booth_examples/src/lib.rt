@@ -1,4 +1,4 @@
-//! Example worlds, which a test finds to be worlds: no clock runs here, and nothing is sent.
+//! Example worlds, which a test shows to be worlds: no clock runs here, and no message is sent.
 #![tactic(auto)]
 
 pub mod examples;

@@ -1,4 +1,4 @@
--- Which name a transport has in the environment.
+-- The name of each transport in the environment.
 use Rattle.std.specs.Prelude.{ℕ, List, [], codes}
 use Rattle.booth_links.specs.declared.transport.Transport.{Transport}
 use Rattle.booth_links.specs.declared.transport.Transport.TheVariants.{Udp, Tcp, Either}

@@ -7,10 +7,10 @@ use booth_host::{Arrival, Datagram, Failed, Host, Job, Place, ReadFault};
 use booth_rec::Record;
 use std::alloc::Global;
 
-/// A host whose requests go over TCP where a transport says so. It tells nothing of its calls.
+/// A host whose requests go over TCP if the transport says so. It does not record its calls.
 ///
-/// A datagram that came over a link is one that its member sent. A request that is repeated over a link is one that
-/// the network brings twice.
+/// A datagram that arrives over a link was sent by the member of that link. A request that is repeated over a link
+/// counts as one that the network delivers twice.
 #[derive(Drop)]
 pub struct ClientHost<H> {
     host: H,
@@ -18,7 +18,7 @@ pub struct ClientHost<H> {
 }
 
 impl<H: Host> ClientHost<H> {
-    /// This host of the program of this name, and no link yet.
+    /// Returns this host for the program with this name, without a link.
     pub fn new(
         rt: HostRuntime,
         name: &'static str,
@@ -31,7 +31,8 @@ impl<H: Host> ClientHost<H> {
         }
     }
 
-    /// Says on standard error what is known of why no member answered: how its TCP port took the repeated request.
+    /// Prints on standard error what is known about why no member answered: how its TCP port took the repeated
+    /// request.
     pub fn say_silence(&self) {
         self.ways.say_silence();
     }
@@ -46,7 +47,7 @@ impl<H: Host> Host for ClientHost<H> {
         self.host.open(place)
     }
 
-    /// What came over a link is first. A wait ends early where a link is open.
+    /// What arrives over a link comes first. A wait ends early if a link is open.
     fn next(&mut self, wait_ms: u64, into: &mut Datagram) -> Result<Arrival, Failed> {
         if let Some(peer) = self.ways.receive(wait_ms, into) {
             return Ok(Arrival::Datagram(peer));

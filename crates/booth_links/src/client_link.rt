@@ -17,7 +17,7 @@ const CONNECT_MS: u64 = 1_000;
 /// How many pieces one call reads: those of the longest frame, and one more.
 const READS: u32 = 6;
 
-/// A link that is open, and what came over it.
+/// An open link, and the bytes that arrived over it.
 #[derive(Drop)]
 pub(crate) struct ClientLink {
     peer: Peer,
@@ -31,12 +31,12 @@ pub(crate) struct ClientLink {
     count: usize,
 }
 
-/// What a link brought.
+/// What arrived over a link.
 #[derive(Clone, Copy, PartialEq, Eq)]
 pub(crate) enum Received {
     Frame,
     Nothing,
-    /// The link is over.
+    /// The link has ended.
     End,
 }
 
@@ -55,7 +55,7 @@ fn wait_for(stream: &TcpStream, poll: &mut Poll, events: &mut Events) -> io::Res
     }
 }
 
-// A stream to this member, watched for bytes.
+// Connects a stream to this member, and watches it for bytes.
 fn connect(
     rt: &HostRuntime,
     peer: &Peer,
@@ -96,21 +96,21 @@ impl ClientLink {
         })
     }
 
-    /// The member at its other end.
+    /// Returns the member at its other end.
     pub(crate) fn peer(&self) -> &Peer {
         &self.peer
     }
 
-    /// Sends these bytes, whole.
+    /// Sends all of these bytes.
     ///
     /// # Errors
     ///
-    /// The link is over, or takes no more.
+    /// The link has ended, or takes no more.
     pub(crate) fn write(&mut self, bytes: &[u8]) -> io::Result<()> {
         self.stream.write_all(bytes)
     }
 
-    // Takes the next frame of what came, if it is whole.
+    // Takes the next frame of the bytes that arrived, if it is whole.
     fn feed(&mut self, into: &mut Datagram) -> Received {
         let count = self.count.min(self.piece.len());
         let seen = self.seen.min(count);
@@ -132,7 +132,7 @@ impl ClientLink {
         Ok(count)
     }
 
-    // The next frame that came, if it is whole.
+    // Returns the next frame that arrived, if it is whole.
     fn next(&mut self, into: &mut Datagram) -> Received {
         for _ in 0..READS {
             match self.feed(into) {

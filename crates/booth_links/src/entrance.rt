@@ -1,4 +1,4 @@
-//! Where peers come in: the listener of a place, and the pending peers.
+//! The listener of a place, and the pending peers.
 ghost use Rattle.std.specs.Prelude.{◌≡◌, None, IfOk, take};
 
 use crate::addresses::{listen, peer_at};
@@ -15,7 +15,7 @@ use std::net::SocketAddr;
 /// The token of the listener. The lines have those of their seats.
 pub(crate) const LISTENER: usize = LINKS;
 
-/// How long no connection is accepted after one could not be, in milliseconds.
+/// How long no connection is accepted after an accept failed, in milliseconds.
 const REST_MS: u64 = 1_000;
 
 /// The most connections that are accepted at once.
@@ -25,7 +25,7 @@ const AT_ONCE: u32 = 32;
 #[derive(Clone, Copy)]
 enum Accepting {
     AtOnce,
-    /// One could not be accepted. It is tried again at this moment.
+    /// An accept failed. It is tried again at this moment.
     From(u64),
 }
 
@@ -64,7 +64,7 @@ impl Entrance {
         self.pending.limit(count);
     }
 
-    /// Begins to listen at this place. What listened before is closed first, and pending peers stay.
+    /// Starts to listen at this place. A listener from before is closed first, and pending peers stay.
     pub(crate) fn listen_at(
         &mut self,
         rt: &HostRuntime,
@@ -89,7 +89,7 @@ impl Entrance {
         }
     }
 
-    // Makes a connection pending. One from the port of the daemons is closed: what is sent to a daemon there would go
+    // Makes a connection pending. A connection from the daemons' port is closed: messages to a daemon there would go
     // into the link.
     fn admit(
         &mut self,
@@ -107,7 +107,7 @@ impl Entrance {
             .take_in(PendingPeer::new(stream, peer, now), registry)
     }
 
-    // No connection was accepted. If the system has no room for one, it is tried again after a rest.
+    // Handles an accept that failed. If the system has no room for a connection, it is tried again after a rest.
     fn miss(&mut self, error: io::Error, now: u64) -> io::Result<()> {
         match error.kind() {
             ErrorKind::WouldBlock | ErrorKind::Interrupted | ErrorKind::ConnectionAborted => Ok(()),
@@ -118,8 +118,11 @@ impl Entrance {
         }
     }
 
-    /// Accepts the connections that wait, and no more than `AT_ONCE`: others are reported again. It fails if one could
-    /// not be accepted.
+    /// Accepts the waiting connections, and no more than `AT_ONCE`: others are reported again.
+    ///
+    /// # Errors
+    ///
+    /// An accept failed.
     pub(crate) fn accept(&mut self, now: u64, registry: &Registry) -> io::Result<()> {
         if self.pending.is_closed() {
             return Ok(());
@@ -130,7 +133,7 @@ impl Entrance {
                 return Err(unopened());
             };
             match listener.accept() {
-                // (one that is gone already is none)
+                // (one that has gone already does not count)
                 Ok((stream, from)) => {
                     let _ = self.admit(stream, from, now, registry);
                 }
@@ -140,7 +143,7 @@ impl Entrance {
         Ok(())
     }
 
-    /// Accepts again once the rest after a connection that could not be accepted is over.
+    /// Accepts again when the rest after a failed accept has passed.
     pub(crate) fn end_rest(&mut self, now: u64, registry: &Registry) -> io::Result<()> {
         match self.accepting {
             Accepting::From(moment) if moment <= now => self.watch(registry),
@@ -153,7 +156,7 @@ impl Entrance {
         matches!(self.accepting, Accepting::From(_)) || self.pending.has_peers()
     }
 
-    /// Notes what the peer with this token has sent. `is_last` says that it sends no more.
+    /// Notes the bytes that the peer with this token has sent. `is_last`: it sends no more.
     pub(crate) fn hear(&mut self, token: usize, is_last: bool) {
         self.pending.hear(token, is_last);
     }

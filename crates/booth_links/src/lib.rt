@@ -1,4 +1,5 @@
-//! Links over TCP: the real `Links` of booth_stream, beside the real host, and the host of a client, which opens one.
+//! Links over TCP: the real `Links` of booth_stream, which a daemon uses with the real host; and the host of a client,
+//! which opens one link.
 #![tactic(auto)]
 
 mod addresses;

@@ -1,4 +1,4 @@
-//! The stream of one link, and what its peer has not yet taken.
+//! The stream of one link, and the bytes that its peer has not taken yet.
 ghost use Rattle.std.specs.Prelude.{◌≡◌, ◌≤◌, [], IfNone, IfSome, IsFalse, IsTrue, drop, length};
 ghost use Rattle.booth_links.specs.Queue.{KeepsOrder};
 
@@ -9,7 +9,7 @@ use std::alloc::{AllocError, Global};
 use std::io;
 use std::io::{ErrorKind, Read, Write};
 
-/// What the system watches a line for.
+/// The event for which the system watches a line.
 #[derive(Clone, Copy)]
 enum Watch {
     Bytes,
@@ -17,7 +17,7 @@ enum Watch {
     Room,
 }
 
-/// The stream at a seat, where there is one.
+/// The stream at a seat, if there is one.
 #[derive(Drop)]
 pub(crate) struct Line {
     stream: Option<TcpStream>,
@@ -25,19 +25,19 @@ pub(crate) struct Line {
     watch: Watch,
 }
 
-/// What a line brought.
+/// The result of looking at a line.
 #[derive(Clone, Copy)]
 pub(crate) enum Heard {
-    /// So many bytes came.
+    /// This many bytes arrived.
     Bytes(usize),
-    /// The peer took some of what was queued.
+    /// The peer took some of the queued bytes.
     Took,
     Nothing,
-    /// The stream is over.
+    /// The stream has ended.
     End,
 }
 
-// Gives the system of these bytes what it takes at once, or says that the stream is over.
+// Writes as many of these bytes as the system takes at once, and returns how many, or none if the stream has ended.
 fn give(stream: &mut TcpStream, bytes: &[u8]) -> Option<usize>
     ensures { IfSome result (λ given. given ≤ length bytes.now) }
 {
@@ -50,7 +50,7 @@ fn give(stream: &mut TcpStream, bytes: &[u8]) -> Option<usize>
     }
 }
 
-// Takes what came into the buffer.
+// Reads the bytes that arrived into the buffer.
 fn take(stream: &mut TcpStream, buffer: &mut [u8]) -> Heard {
     match stream.read(buffer) {
         Ok(0) => Heard::End,
@@ -62,7 +62,7 @@ fn take(stream: &mut TcpStream, buffer: &mut [u8]) -> Heard {
     }
 }
 
-// Queues what there is room for of the bytes behind those that went to the system, and says how many were taken.
+// Queues as many of the bytes after those that went to the system as fit, and returns how many were taken.
 #[tactic(auto, using(crate::proofs::QueueLemmas::some_given))]
 fn queue_rest(queue: &mut Queue, bytes: &[u8], given: usize) -> usize
     requires empty { queue.old ≡ [] }
@@ -75,7 +75,7 @@ fn queue_rest(queue: &mut Queue, bytes: &[u8], given: usize) -> usize
 }
 
 impl Line {
-    /// A line without a stream, with the memory of its queue.
+    /// Returns a line without a stream, with the memory of its queue.
     pub(crate) fn new(alloc: Global) -> Result<Line, AllocError> {
         Ok(Line {
             stream: None,
@@ -84,20 +84,20 @@ impl Line {
         })
     }
 
-    /// Begins with this stream, which the system watches for bytes.
+    /// Starts with this stream, which the system watches for bytes.
     pub(crate) fn begin(&mut self, stream: TcpStream) {
         self.queue.clear();
         self.watch = Watch::Bytes;
         self.stream = Some(stream);
     }
 
-    /// Closes the stream. What is queued is dropped.
+    /// Closes the stream, and drops the queued bytes.
     pub(crate) fn end(&mut self) {
         self.queue.clear();
         self.stream = None;
     }
 
-    /// Whether something is queued.
+    /// Returns whether bytes are queued.
     pub(crate) fn has_queued(&self) -> bool
         ensures nothing { IsFalse result → self.now.queue ≡ [] }
         ensures some { IsTrue result → self.now.queue ≡ [] → ⊥ }
@@ -105,7 +105,7 @@ impl Line {
         !self.queue.is_empty()
     }
 
-    // Gives the peer what it takes of the queue, and says how many bytes that is, where the stream goes on.
+    // Writes queued bytes to the peer, and returns how many it took, or none if the stream has ended.
     fn drain(&mut self) -> Option<usize>
         ensures passed { IfSome result (λ count. (count ≤ length self.old.queue)
             × (self.new.queue ≡ drop count self.old.queue)) }
@@ -117,8 +117,8 @@ impl Line {
         Some(given)
     }
 
-    /// What this line has. Nothing is read before the peer has taken what is queued, so that one which asks and does
-    /// not read is not read either.
+    /// Looks at this line. Nothing is read before the peer has taken the queued bytes: from a peer that sends
+    /// requests and does not read, the daemon does not read either.
     pub(crate) fn hear(&mut self, buffer: &mut [u8]) -> Heard {
         if self.queue.is_empty() {
             return match &mut self.stream {
@@ -133,7 +133,7 @@ impl Line {
         }
     }
 
-    // The same of a line, but for what the peer takes of its queue now.
+    // The same, except for the queued bytes that the peer takes now.
     #[tactic(auto, using(crate::proofs::QueueLemmas::nothing_taken, crate::proofs::QueueLemmas::all_queued))]
     fn add(&mut self, bytes: &[u8]) -> usize
         ensures fits { result ≤ length bytes.now }
@@ -151,8 +151,8 @@ impl Line {
         queue_rest(&mut self.queue, bytes, given)
     }
 
-    /// Takes of these bytes what the peer takes at once, and behind it what there is room for. It says how many bytes
-    /// that is: none where the stream is over, or where the queue is full.
+    /// Writes as many of these bytes as the peer takes at once, and queues as many of the others as fit. Returns how
+    /// many bytes that is: none if the stream has ended or the queue is full.
     #[tactic(auto, using(crate::proofs::QueueLemmas::nothing_taken, crate::proofs::QueueLemmas::first_passed))]
     pub(crate) fn write(&mut self, bytes: &[u8]) -> usize
         ensures fits { result ≤ length bytes.now }
@@ -164,8 +164,8 @@ impl Line {
         self.add(bytes)
     }
 
-    /// Whether the system reports this line by itself when it has more: it is watched for bytes, and a read that had
-    /// room for more took all that were there (epoll(7), "Do I need to continuously read").
+    /// Returns whether the system reports this line by itself when more arrives: it is watched for bytes, and a read
+    /// with room for more took all that were there (epoll(7), "Do I need to continuously read").
     pub(crate) fn is_read_out(&self, heard: Heard, room: usize) -> bool {
         match (heard, self.watch) {
             (Heard::Bytes(count), Watch::Bytes) => count < room,
@@ -174,8 +174,8 @@ impl Line {
         }
     }
 
-    /// Has the system report this line: when there is room for what is queued, or else when bytes came. What is so
-    /// already is reported at once.
+    /// Has the system report this line: when there is room for the queued bytes, or else when bytes arrive. What
+    /// holds already is reported at once.
     pub(crate) fn watch(&mut self, registry: &Registry, seat: usize) -> io::Result<()> {
         let wanted = if self.queue.is_empty() {
             self.watch = Watch::Bytes;

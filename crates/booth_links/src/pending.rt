@@ -41,11 +41,11 @@ struct Preview {
     buffer: Vec<u8>,
 }
 
-/// Places of pending peers. Each new one gets the place that was given away longest ago.
+/// Places of pending peers. Each new peer gets the place that was given out longest ago.
 #[derive(Drop)]
 pub(crate) struct Pending {
     places: Vec<Option<PendingPeer>>,
-    /// The place that is given away next.
+    /// The place that is given out next.
     next: usize,
     /// Whether a peer may be pending. If none is, no place is looked at.
     is_used: bool,
@@ -56,13 +56,13 @@ pub(crate) struct Pending {
     preview: Preview,
 }
 
-/// What a peer has sent.
+/// What a peer has sent so far.
 #[derive(Clone, Copy)]
 enum Said {
-    /// A whole frame, or more than is looked at.
+    /// A whole frame, or more bytes than are looked at.
     Enough,
     Less,
-    /// Bytes that begin no frame, or the end of the stream.
+    /// Bytes with which no frame begins, or the end of the stream.
     End,
 }
 
@@ -75,7 +75,7 @@ impl Preview {
         })
     }
 
-    // What the first `count` bytes of the buffer are. `is_last` says that their peer sends no more.
+    // Returns what the first `count` bytes of the buffer are. `is_last`: their peer sends no more.
     fn judge(&mut self, count: usize, is_last: bool) -> Said {
         let count = count.min(self.buffer.len());
         self.cutter.restart();
@@ -88,7 +88,7 @@ impl Preview {
         }
     }
 
-    // What the peer of a stream has sent. `is_last` says that it sends no more.
+    // Returns what the peer of a stream has sent. `is_last`: it sends no more.
     fn look(&mut self, stream: &TcpStream, is_last: bool) -> Said {
         match stream.peek(&mut self.buffer) {
             Ok(count) => self.judge(count, is_last),
@@ -100,7 +100,7 @@ impl Preview {
     }
 }
 
-// Whether the peer of a place has waited for too long.
+// Returns whether the peer of a place has waited for too long.
 fn is_over(place: &Option<PendingPeer>, now: u64) -> bool {
     match place {
         Some(waiting) => waiting.since.saturating_add(IDLE_MS) <= now,
@@ -115,7 +115,7 @@ fn is_ready(place: &Option<PendingPeer>) -> bool {
     }
 }
 
-// Notes what the peer of a place has sent. One that sends no frame is closed.
+// Notes what the peer of a place has sent. A peer that sends no frame is closed.
 fn note(place: &mut Option<PendingPeer>, said: Said) {
     match said {
         Said::Enough => {
@@ -202,7 +202,7 @@ impl Pending {
         Ok(())
     }
 
-    /// Notes what the peer with this token has sent. `is_last` says that it sends no more.
+    /// Notes what the peer with this token has sent. `is_last`: it sends no more.
     pub(crate) fn hear(&mut self, token: usize, is_last: bool) {
         let Some(place) = self.places.get_mut(token.saturating_sub(FIRST)) else {
             return;
@@ -234,7 +234,7 @@ impl Pending {
         self.may_be_ready
     }
 
-    // The place of the first peer that has sent a whole frame.
+    // Returns the place of the first peer that has sent a whole frame.
     fn first_ready(&self) -> Option<usize> {
         let next = self.next.min(self.places.len());
         let (late, early) = self.places.split_at(next);

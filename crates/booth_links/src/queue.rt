@@ -1,11 +1,11 @@
-//! What a link took and its peer has not, in order, whose memory is taken once.
+//! The bytes that a link took and its peer has not, in order, in memory that is allocated once.
 ghost use Rattle.std.specs.Prelude.{◌≡◌, ◌≤◌, ◌-◌, ◌++◌, [], IfOk, IsFalse, IsTrue, drop, length, min, take};
 ghost use Rattle.booth_links.specs.Queue.{room};
 
 use std::alloc::{AllocError, Global};
 use std::marker::Model;
 
-/// The most bytes that a link keeps for its peer.
+/// The most bytes that a link stores for its peer.
 const QUEUE_BYTES: usize = 1_048_576;
 
 /// Up to a mebibyte. Contracts see it as a list.
@@ -26,7 +26,7 @@ impl Model for Queue {
 }
 
 impl Queue {
-    /// An empty queue, with all its memory.
+    /// Returns an empty queue, with all its memory.
     pub(crate) fn new(alloc: Global) -> Result<Queue, AllocError>
         ensures { IfOk result (λ queue. queue ≡ []) }
     {
@@ -35,7 +35,7 @@ impl Queue {
         })
     }
 
-    /// Its bytes, the oldest first.
+    /// Returns its bytes, the oldest first.
     pub(crate) fn bytes(&self) -> &[u8]
         ensures value { result.now ≡ self.now }
         ensures short { length result.now ≤ QUEUE_BYTES }
@@ -43,7 +43,7 @@ impl Queue {
         &self.bytes
     }
 
-    /// Whether it has none.
+    /// Returns whether it has no bytes.
     pub(crate) fn is_empty(&self) -> bool
         ensures empty { IsTrue result → self.now ≡ [] }
         ensures filled { IsFalse result → self.now ≡ [] → ⊥ }
@@ -58,7 +58,7 @@ impl Queue {
         self.bytes.clear();
     }
 
-    /// Drops the first so many bytes.
+    /// Drops the first bytes, this many.
     pub(crate) fn pass(&mut self, count: usize)
         requires { count ≤ length self.old }
         ensures { self.new ≡ drop count self.old }
@@ -66,7 +66,7 @@ impl Queue {
         self.bytes.drain(..count);
     }
 
-    /// Adds of these bytes what there is room for, and says how many these are.
+    /// Appends as many of these bytes as fit, and returns how many that is.
     pub(crate) fn put(&mut self, more: &[u8]) -> usize
         ensures taken { result ≡ min (room self.old) (length more.now) }
         ensures kept { self.new ≡ self.old ++ take result more.now }

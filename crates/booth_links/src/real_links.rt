@@ -1,4 +1,4 @@
-//! Links over a TCP listener. They tell nothing of their calls, and no call waits.
+//! Links over a TCP listener. They do not record their calls, and no call waits.
 ghost use Rattle.std.specs.Prelude.{◌≡◌, ◌≤◌, ◌/◌, [], ◌∷◌, IfOk, None, is_some, length, min, negsuc, take, true};
 ghost use Rattle.booth_host.specs.Causes.{HasCause, IsCounted, raised};
 ghost use Rattle.booth_links.specs.Turn.{TakesTurn};
@@ -33,7 +33,7 @@ pub struct RealLinks {
     buffer: Vec<u8>,
     /// When the first place was opened, by a clock that is never set.
     start: Option<Instant>,
-    /// The milliseconds from then to the last reading.
+    /// The milliseconds from then to the last reading of the clock.
     moment: u64,
     /// Whether a link may have to leave, connections are accepted again after a rest, or peers are pending.
     is_timed: bool,
@@ -41,7 +41,7 @@ pub struct RealLinks {
     faults: u64,
 }
 
-// The number of the link at a seat, which is one of sixteen.
+// Returns the number of the link at a seat, which is one of sixteen.
 fn number_of(seat: usize) -> u32
     ensures { seat ≤ 16 → result ≡ seat }
 {
@@ -59,7 +59,7 @@ fn new_lines(alloc: Global) -> Result<Vec<Line>, AllocError> {
 }
 
 impl RealLinks {
-    /// Links before any place is opened. No peer reaches them.
+    /// Returns links before any place is opened. No peer reaches them.
     pub fn new(rt: HostRuntime, alloc: Global) -> Result<RealLinks, AllocError>
         ensures unopened { IfOk result (λ links. links.entrance.listener ≡ None) }
         ensures turn { IfOk result (λ links. links.turn ≡ Turn.Links) }
@@ -81,8 +81,8 @@ impl RealLinks {
         })
     }
 
-    /// The file that can be read while these links have something, or a number below 0 where there is none. A host
-    /// waits for it beside its own.
+    /// Returns the file that is readable while these links have something, or a number below 0 if there is none. A
+    /// host waits for it together with its own.
     pub fn ready_file(&self) -> RawFd
         ensures none { self.now.poll ≡ None → result ≡ negsuc 0 }
     {
@@ -92,8 +92,8 @@ impl RealLinks {
         }
     }
 
-    /// What a host sets that waits for this file, once it can be read. From now on a poll asks the system where it is
-    /// set, and unsets it; it is set, too, while more is left of what the system said, so that the host does not wait
+    /// Returns the mark that a waiting host sets when this file is readable. From now on a poll asks the system only
+    /// if the mark is set, and clears it; the mark is also set while reports are left, so that the host does not wait
     /// then.
     pub fn ready_mark(&mut self, alloc: Global) -> Result<Rc<Cell<bool>>, AllocError>
         ensures shared { IfOk result (λ _. is_some self.new.reports.known ≡ true) }
@@ -103,7 +103,7 @@ impl RealLinks {
         self.reports.share(alloc)
     }
 
-    /// Has links and pending peers open no more than `files` files, half of them each, and returns how many links are
+    /// Limits links and pending peers to `files` open files, half of them each, and returns how many links are
     /// served. It is called before a place is opened.
     pub fn serve_within(&mut self, files: usize) -> usize
         ensures count { result ≡ min (files / 2) 16 }
@@ -130,7 +130,7 @@ impl RealLinks {
         Failed
     }
 
-    // Counts what failed.
+    // Counts a call that failed.
     fn checked<T: Drop>(&mut self, answer: io::Result<T>) -> Result<T, Failed>
         ensures cause { HasCause self.old.faults self.new.faults result }
         ensures counted { IsCounted self.old.faults self.new.faults result }
@@ -142,7 +142,7 @@ impl RealLinks {
         }
     }
 
-    // Reads the clock. Where it cannot be read, no time has passed.
+    // Reads the clock. If it cannot be read, no time has passed.
     fn read_clock(&mut self)
         ensures { self.new.faults ≡ self.old.faults }
     {
@@ -154,7 +154,7 @@ impl RealLinks {
         }
     }
 
-    // Begins to listen at this place. Links go on.
+    // Starts to listen at this place. Links go on.
     fn listen_at(&mut self, place: &Place) -> io::Result<()>
         ensures { self.new.faults ≡ self.old.faults }
     {
@@ -175,7 +175,7 @@ impl RealLinks {
         self.seats.set(seat, None);
     }
 
-    // The seat for one more peer: a free one, or that of the link that has been idle for longest.
+    // Returns the seat for one more peer: a free one, or that of the link that has been idle for longest.
     fn seat_for_peer(&self) -> Option<usize> {
         match self.seats.free() {
             Some(seat) => Some(seat),
@@ -183,7 +183,7 @@ impl RealLinks {
         }
     }
 
-    // Has the link of this seat not be idle: it was answered, or took what it was answered.
+    // Makes the link of this seat busy again: it was answered, or took bytes of its answer.
     fn stay(&mut self, seat: usize)
         ensures { self.new.faults ≡ self.old.faults }
     {
@@ -191,7 +191,7 @@ impl RealLinks {
         self.seats.set(seat, Some(idle_from));
     }
 
-    // Ends the link of this seat, and says so.
+    // Ends the link of this seat, and returns the event `Ended` with the link's number.
     fn end(&mut self, seat: usize) -> LinkEvent
         ensures { self.new.faults ≡ self.old.faults }
     {
@@ -199,7 +199,7 @@ impl RealLinks {
         LinkEvent::Ended(number_of(seat))
     }
 
-    // Asks the system for all that is ready, where something may be.
+    // Asks the system for all that is ready, if something may be.
     fn fetch(&mut self) -> io::Result<()>
         ensures { self.new.faults ≡ self.old.faults }
     {
@@ -224,7 +224,7 @@ impl RealLinks {
         }
     }
 
-    // Begins a link at this seat, in the place of the one that was there.
+    // Starts a link at this seat, in place of the one that was there.
     fn begin(&mut self, seat: usize, waiting: PendingPeer) -> io::Result<LinkEvent>
         ensures { self.new.faults ≡ self.old.faults }
     {
@@ -244,7 +244,7 @@ impl RealLinks {
         })
     }
 
-    // Begins the link of a pending peer that has sent a whole frame, if there is one and a seat for it.
+    // Starts the link of a pending peer that has sent a whole frame, if there is one and a seat for it.
     fn seat_pending(&mut self) -> io::Result<Option<LinkEvent>>
         ensures { self.new.faults ≡ self.old.faults }
     {
@@ -260,7 +260,7 @@ impl RealLinks {
         }
     }
 
-    // Accepts the connections that wait.
+    // Accepts the waiting connections.
     fn accept(&mut self) -> io::Result<LinkEvent>
         ensures { self.new.faults ≡ self.old.faults }
     {
@@ -272,7 +272,7 @@ impl RealLinks {
         Ok(LinkEvent::Quiet)
     }
 
-    // What the line of this seat has. One that the system does not watch any longer is over.
+    // Looks at the line of this seat. A line that the system no longer watches has ended.
     fn hear(&mut self, report: Report, into: &mut Piece) -> io::Result<LinkEvent>
         ensures { self.new.faults ≡ self.old.faults }
     {
@@ -301,7 +301,7 @@ impl RealLinks {
         }
     }
 
-    // A link that has to leave, where there are links at all.
+    // Returns a link that must leave, if there are links.
     fn leaving(&mut self) -> Option<usize>
         ensures { self.new.faults ≡ self.old.faults }
     {
@@ -312,7 +312,7 @@ impl RealLinks {
         None
     }
 
-    // Accepts again once the rest after a connection that could not be accepted is over.
+    // Accepts again when the rest after a failed accept has passed.
     fn end_rest(&mut self) -> io::Result<()>
         ensures { self.new.faults ≡ self.old.faults }
     {
@@ -322,7 +322,7 @@ impl RealLinks {
         }
     }
 
-    // The next thing that was reported: new connections, what a pending peer has sent, or what a link has.
+    // Handles the next report: new connections, the bytes of a pending peer, or those of a link.
     fn next_report(&mut self, into: &mut Piece) -> io::Result<LinkEvent>
         ensures { self.new.faults ≡ self.old.faults }
     {
@@ -337,13 +337,14 @@ impl RealLinks {
         }
     }
 
-    // Whether there is no link, and the host knows of nothing. Then neither the clock nor the system is asked.
+    // Returns whether there is no link and the host knows of no event. Then neither the clock nor the system is
+    // asked.
     fn rests(&self) -> bool {
         !self.is_timed && !self.reports.has_more() && !self.reports.may_come()
     }
 
-    // One thing that happened: a link that has to leave, or what was reported. One reading of the clock serves all
-    // that is reported at once.
+    // Handles one event: a link that must leave, or a report. One reading of the clock serves for all reports of one
+    // call.
     fn look(&mut self, into: &mut Piece) -> io::Result<LinkEvent>
         ensures { self.new.faults ≡ self.old.faults }
     {
@@ -363,7 +364,7 @@ impl RealLinks {
         self.next_report(into)
     }
 
-    // Gives bytes to the line of this seat, and says how many it took. It takes none where it cannot be watched for
+    // Writes bytes to the line of this seat, and returns how many it took. It takes none if it cannot be watched for
     // room.
     fn give(&mut self, seat: usize, bytes: &[u8]) -> usize
         ensures fits { result ≤ length bytes.now }
@@ -389,14 +390,17 @@ impl Links for RealLinks {
 
     ghost faults = { λ links. links.faults };
 
-    /// A listener at the place's address and port, which the system chooses where the port is 0. It fails where another
-    /// process listens there.
+    /// Opens a listener at the place's address and port; for port 0 the system chooses one.
+    ///
+    /// # Errors
+    ///
+    /// Another process listens there, or the system refuses.
     fn open(&mut self, place: &Place) -> Result<(), Failed> {
         let answer = self.listen_at(place);
         self.checked(answer)
     }
 
-    /// Every second poll at most brings something: after one that did, the next is Quiet.
+    /// At most every second poll has an event: after an event the next is Quiet.
     fn poll(&mut self, into: &mut Piece) -> Result<LinkEvent, Failed>
         ensures past { CallsGrewBy None None (LinkCall.Poll result into.new ∷ []) }
         ensures cause { HasCause self.old.faults self.new.faults result }
@@ -418,8 +422,8 @@ impl Links for RealLinks {
         }
     }
 
-    /// What the peer does not take at once is queued, up to the room of the queue. A link whose peer is gone takes
-    /// nothing.
+    /// Bytes that the peer does not take at once are queued, as far as the queue has room. A link whose peer has gone
+    /// takes nothing.
     fn write(&mut self, link: u32, bytes: &[u8]) -> Result<usize, Failed> {
         Ok(self.give(link as usize, bytes))
     }

@@ -1,4 +1,4 @@
-//! What the system reports of the links, looked at one by one, and when it is asked.
+//! The system's reports about the links, handled one by one, and when the system is asked.
 ghost use Rattle.std.specs.Prelude.{◌≡◌, ◌+◌, ◌-◌, ◌^◌, [], IfOk, IfSome, OnErr, None, length, min, nat_lt, option_map, slice_get, is_some, true};
 ghost use Rattle.mio.specs.Event.{event_token, is_read_closed};
 ghost use Rattle.mio.specs.Events.{items};
@@ -15,23 +15,23 @@ use std::time::Duration;
 /// All lines, the listener and the pending peers.
 const SOURCES: usize = FIRST + PENDING;
 
-/// Something to look at.
+/// A report.
 #[derive(Clone, Copy)]
 pub(crate) struct Report {
-    /// The token that it was registered with.
+    /// The token of its registration.
     pub(crate) place: usize,
     /// Whether its peer sends no more.
     pub(crate) is_last: bool,
 }
 
-/// What was reported last. Each report is looked at once.
+/// The last reports of the system. Each is handled once.
 #[derive(Drop)]
 pub(crate) struct Reports {
     events: Events,
-    /// How many there are, and how many were looked at.
+    /// How many there are, and how many were handled.
     count: usize,
     seen: usize,
-    /// Whether there is something, as far as the host knows that waits for the links' file; none where no host does.
+    /// Whether there is something, as far as a host knows that waits for the links' file; none if no host does.
     known: Option<Rc<Cell<bool>>>,
 }
 
@@ -46,7 +46,7 @@ fn report_of(event: &Event) -> Report
 }
 
 impl Reports {
-    /// No report, with the memory of all that can come at once.
+    /// Returns a list without reports, with memory for all that can come at once.
     pub(crate) fn new(alloc: Global) -> Result<Reports, AllocError>
         ensures none { IfOk result (λ reports. reports.count ≡ 0) }
         ensures unshared { IfOk result (λ reports. reports.known ≡ None) }
@@ -59,7 +59,8 @@ impl Reports {
         })
     }
 
-    /// What a host sets that waits for the links' file. From now on the system is asked where it is set alone.
+    /// Returns the mark for a host that waits for the links' file. From now on the system is asked only if the mark
+    /// is set.
     pub(crate) fn share(&mut self, alloc: Global) -> Result<Rc<Cell<bool>>, AllocError>
         ensures shared { IfOk result (λ _. is_some self.new.known ≡ true) }
         ensures count { self.new.count ≡ self.old.count }
@@ -72,7 +73,7 @@ impl Reports {
         Ok(known)
     }
 
-    /// Whether the system may have something that was not reported.
+    /// Returns whether the system may have something that was not reported.
     pub(crate) fn may_come(&self) -> bool {
         match &self.known {
             Some(known) => known.get(),
@@ -86,7 +87,7 @@ impl Reports {
         }
     }
 
-    /// Asks the system for all that is ready. What was reported before is dropped.
+    /// Asks the system for all that is ready, and drops the earlier reports.
     pub(crate) fn fetch(&mut self, poll: &mut Poll) -> io::Result<()>
         ensures seen { self.new.seen ≡ 0 }
         ensures count { self.new.count ≡ length (items self.new.events) }
@@ -100,14 +101,14 @@ impl Reports {
         answer
     }
 
-    // The next event, where one is left.
+    // Returns the next event, if one is left.
     fn next(&self) -> Option<&Event>
         ensures { option_map (λ event. event.now) result ≡ slice_get (items self.now.events) self.now.seen }
     {
         self.events.iter().nth(self.seen)
     }
 
-    /// Whether one is left.
+    /// Returns whether a report is left.
     pub(crate) fn has_more(&self) -> bool
         ensures { result ≡ nat_lt self.now.seen self.now.count }
     {

@@ -1,4 +1,4 @@
-//! The sixteen seats of links: which is free, and which link has to leave its own.
+//! The sixteen seats of links: which is free, and which link must leave its seat.
 ghost use Rattle.std.specs.Prelude.{◌≡◌, IfOk, None, is_none, is_some, replicate, set, take};
 ghost use Rattle.std.specs.List.{list_all, list_any, position};
 ghost use Rattle.booth_links.specs.Seats.{has_to_leave, is_since};
@@ -7,14 +7,14 @@ use booth_stream::LINKS;
 use std::alloc::{AllocError, Global};
 use std::marker::Model;
 
-/// How long a link may be idle, in milliseconds, where no peer waits for its seat.
+/// How long a link may be idle, in milliseconds, if no peer waits for its seat.
 pub(crate) const IDLE_MS: u64 = 600_000;
 
-/// For how long a link that was answered is not idle, in milliseconds. One that was never answered is idle from its
-/// beginning on.
+/// How long a link that was answered does not count as idle, in milliseconds. A link that was never answered is idle
+/// from its start.
 pub(crate) const ANSWERED_MS: u64 = 2_000;
 
-/// From when on each link is idle, by its number; none at a seat that is free.
+/// Since when each link is idle, by its number; none for a free seat.
 #[derive(Drop)]
 pub(crate) struct Seats {
     moments: Vec<Option<u64>>,
@@ -28,7 +28,7 @@ impl Model for Seats {
     ghost view = { λ s. s.moments.items };
 }
 
-// Whether a seat is free, or its link is idle from this moment or a later one on.
+// Returns whether a seat is free, or its link has been idle since this moment or a later one.
 fn is_since(moment: u64, other: &Option<u64>) -> bool
     ensures { result ≡ is_since moment other.now }
 {
@@ -38,14 +38,14 @@ fn is_since(moment: u64, other: &Option<u64>) -> bool
     }
 }
 
-// Whether no link is idle from an earlier moment on.
+// Returns whether no link has been idle since an earlier moment.
 fn are_since(moment: u64, moments: &[Option<u64>]) -> bool
     ensures { result ≡ list_all (is_since moment) moments.now }
 {
     moments.iter().all(|other| is_since(moment, other))
 }
 
-// Whether the link of a seat has to leave it.
+// Returns whether the link of a seat must leave it.
 fn has_to_leave(moments: &[Option<u64>], now: u64, limit: u64, moment: &Option<u64>) -> bool
     ensures { result ≡ has_to_leave moments.now now limit moment.now }
 {
@@ -56,7 +56,7 @@ fn has_to_leave(moments: &[Option<u64>], now: u64, limit: u64, moment: &Option<u
 }
 
 impl Seats {
-    /// Free seats.
+    /// Returns free seats.
     pub(crate) fn new(alloc: Global) -> Result<Seats, AllocError>
         ensures { IfOk result (λ seats. seats ≡ replicate 16 None) }
     {
@@ -65,14 +65,14 @@ impl Seats {
         })
     }
 
-    /// Has no more seats than so many. It is called before any link begins.
+    /// Limits the number of seats. It is called before any link starts.
     pub(crate) fn limit(&mut self, count: usize)
         ensures { self.new ≡ take count self.old }
     {
         self.moments.truncate(count);
     }
 
-    /// Has the link of this seat be idle from this moment on, or frees the seat.
+    /// Makes the link of this seat idle from this moment on, or frees the seat.
     pub(crate) fn set(&mut self, seat: usize, moment: Option<u64>)
         ensures { self.new ≡ set self.old seat moment }
     {
@@ -81,22 +81,22 @@ impl Seats {
         }
     }
 
-    /// Whether a seat has a link.
+    /// Returns whether a seat has a link.
     pub(crate) fn has_links(&self) -> bool
         ensures { result ≡ list_any is_some self.now }
     {
         self.moments.iter().any(|moment| moment.is_some())
     }
 
-    /// The first free seat.
+    /// Returns the first free seat.
     pub(crate) fn free(&self) -> Option<usize>
         ensures { result ≡ position is_none self.now }
     {
         self.moments.iter().position(|moment| moment.is_none())
     }
 
-    /// The first link that has been idle for at least so long, and than which none has been idle for longer. One that
-    /// is not idle yet does not leave, whatever the limit is.
+    /// Returns the first link that has been idle for at least this long, while none has been idle for longer. A link
+    /// that is not idle yet does not leave, for any limit.
     pub(crate) fn over(&self, now: u64, limit: u64) -> Option<usize>
         ensures { result ≡ position (has_to_leave self.now now limit) self.now }
     {

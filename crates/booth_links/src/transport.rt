@@ -1,4 +1,4 @@
-//! By which way a client's requests go: a datagram, or a link over TCP.
+//! The transport of a client's requests: datagrams, or a link over TCP.
 ghost use Rattle.std.specs.Prelude.{◌≡◌, IfNone, IfSome};
 ghost use Rattle.booth_links.specs.Transport.{name_of};
 
@@ -13,10 +13,10 @@ use std::time::Instant;
 /// How long a member is silent before a request is repeated over TCP, in milliseconds.
 const SILENCE_MS: u128 = 1_000;
 
-/// How long one look at a link waits, in milliseconds: an answer may come as a datagram as well.
+/// How long one look at a link waits, in milliseconds: an answer may arrive as a datagram as well.
 const LOOK_MS: u64 = 20;
 
-/// By which way requests go.
+/// The transport of requests.
 #[derive(Clone, Copy, PartialEq, Eq)]
 pub enum Transport {
     /// As datagrams.
@@ -37,7 +37,7 @@ struct Unanswered {
     since: Option<Instant>,
 }
 
-/// What became of the repetition of a request that was not answered.
+/// The result of repeating a request that was not answered.
 #[derive(Drop)]
 enum Repeated {
     /// It went over a link.
@@ -46,7 +46,7 @@ enum Repeated {
     NoLink(Peer, io::Error),
 }
 
-/// A client's way to members: its link, and what is to be repeated over one.
+/// A client's transport: its link, and the requests to repeat over one.
 #[derive(Drop)]
 pub(crate) struct Ways {
     rt: HostRuntime,
@@ -55,7 +55,7 @@ pub(crate) struct Ways {
     transport: Transport,
     link: Option<ClientLink>,
     unanswered: Option<Unanswered>,
-    /// What became of the last repetition, until a member answers.
+    /// The result of the last repetition, until a member answers.
     repeated: Option<Repeated>,
 }
 
@@ -86,7 +86,7 @@ impl Ways {
         }
     }
 
-    // Whether a link to this member is open.
+    // Returns whether a link to this member is open.
     fn is_linked(&self, to: &Peer) -> bool {
         match &self.link {
             Some(link) => link.peer() == to,
@@ -94,7 +94,7 @@ impl Ways {
         }
     }
 
-    // Writes these bytes to the link, which is over if it does not take them.
+    // Writes these bytes to the link, which has ended if it does not take them.
     fn write(&mut self, bytes: &[u8]) -> io::Result<()> {
         let written = match &mut self.link {
             Some(link) => link.write(bytes),
@@ -115,7 +115,7 @@ impl Ways {
         self.write(bytes)
     }
 
-    // Says why there is no link, which was asked for.
+    // Prints why there is no link that the arguments demand.
     fn tell(&self, to: &Peer, error: &io::Error) {
         let address = to.address.print();
         let mut stderr = self.rt.stderr();
@@ -125,7 +125,7 @@ impl Ways {
         let _ = write!(stderr, ": {error}; it is asked by UDP\n");
     }
 
-    /// Sends these bytes over TCP if that is their way, and returns whether they went.
+    /// Sends these bytes over TCP if that is their transport, and returns whether they went.
     pub(crate) fn sends(&mut self, to: &Peer, bytes: &[u8]) -> bool {
         self.unanswered = None;
         match self.transport {
@@ -163,7 +163,7 @@ impl Ways {
         self.repeated = None;
     }
 
-    // What was not answered for so long that it is repeated.
+    // Returns a request that was not answered for so long that it is repeated.
     fn overdue(&mut self) -> Option<Unanswered> {
         let since = match &self.unanswered {
             Some(request) => request.since,
@@ -176,7 +176,7 @@ impl Ways {
         self.unanswered.take()
     }
 
-    /// Repeats over TCP what was not answered for a second, once.
+    /// Repeats over TCP a request that was not answered for a second, once.
     pub(crate) fn repeat(&mut self) {
         if let Some(request) = self.overdue() {
             self.repeated = Some(match self.link_and_write(&request.to, &request.bytes) {
@@ -186,7 +186,7 @@ impl Ways {
         }
     }
 
-    // Says this of a member, behind the program's name and its address.
+    // Prints this text about a member, after the program's name and the member's address.
     fn say_of(&self, member: &Peer, text: &str) {
         let address = member.address.print();
         let mut stderr = self.rt.stderr();
@@ -196,7 +196,7 @@ impl Ways {
         let _ = stderr.write_all(text.as_bytes());
     }
 
-    // Says why there is no link to this member.
+    // Prints why there is no link to this member.
     fn say_no_link(&self, member: &Peer, error: &io::Error) {
         if error.kind() == ErrorKind::ConnectionRefused {
             self.say_of(
@@ -210,7 +210,7 @@ impl Ways {
         let _ = write!(stderr, "{error}\n");
     }
 
-    /// Says what is known of why nobody answered.
+    /// Prints what is known about why no member answered.
     pub(crate) fn say_silence(&self) {
         match &self.repeated {
             Some(Repeated::Went(member)) => {
@@ -223,7 +223,7 @@ impl Ways {
         }
     }
 
-    /// Waits a moment for the next frame of the link, and returns who sent it.
+    /// Waits briefly for the next frame of the link, and returns its sender.
     pub(crate) fn receive(&mut self, wait_ms: u64, into: &mut Datagram) -> Option<Peer> {
         let Some(link) = &mut self.link else {
             return None;
@@ -242,7 +242,7 @@ impl Ways {
         }
     }
 
-    /// How long the host may wait for a datagram: not at all beside a link, which is waited for.
+    /// Returns how long the host may wait for a datagram: not at all if there is a link, since the link waits next.
     pub(crate) fn wait_beside(&self, wait_ms: u64) -> u64 {
         if self.link.is_some() { 0 } else { wait_ms }
     }

@@ -1,19 +1,19 @@
-//! Whose turn it is: the links' or the host's beside them.
+//! Who is asked next for an event: the links, or the host that is asked in turn with them.
 ghost use Rattle.std.specs.Prelude.{◌≡◌};
 ghost use Rattle.booth_links.specs.Turn.{turn_after};
 
 use booth_host::Failed;
 use booth_stream::LinkEvent;
 
-/// Who is asked next for what came.
+/// Which of the two is asked next for an arrival.
 #[derive(Clone, Copy)]
 pub(crate) enum Turn {
     Links,
-    /// The links bring nothing, so that the host beside them is asked.
+    /// The links return Quiet, so that the host is asked.
     Host,
 }
 
-/// Whose turn it is after this answer of the links.
+/// Returns whose turn it is after this answer of the links.
 pub(crate) fn turn_after(answer: &Result<LinkEvent, Failed>) -> Turn
     ensures { result ≡ turn_after answer.now }
 {

@@ -1,5 +1,5 @@
--- Which lines a call is told by, given what is known before it; and what is known after it. Together they say of any
--- list of calls, from a start at which nothing is known, all its lines.
+-- The log lines for a call, given what is known before it; and what is known after it. Together they give all lines
+-- for a list of calls, from a start at which nothing is known.
 use Rattle.std.specs.Prelude.{ℕ, ℤ, true, false, pos, List, [], ◌∷◌, ◌++◌, length, Option, None, Some, Result, Ok, Err, option_map, if◌then◌else◌}
 use Rattle.std.specs.Ordering.{int_eq}
 use Rattle.booth_host.specs.declared.entry.Entry.{Entry}
@@ -18,7 +18,7 @@ use Rattle.booth_log.specs.Known.{known_of, stored, ticket_of}
 use Rattle.booth_log.specs.Happenings.{lease_change}
 use Rattle.booth_log.specs.Texts.{line, begins_text, ready_text, of_ticket, happening_text, unstarted_text, status_text, stray_text}
 
--- the line of a text, where there is one
+-- the line of a text, if there is one
 abbrev pub line_of : Option (List ℕ) → List (List ℕ)
 line_of None = []
 line_of (Some text) = line text ∷ []
@@ -30,7 +30,7 @@ abbrev pub found_lease : Option Record → Option Lease
 found_lease None = None
 found_lease (Some kept) = kept.lease
 
--- what becomes of a ticket's lease
+-- the change of a ticket's lease
 abbrev pub lease_lines : List ℕ → Option Happening → List (List ℕ)
 lease_lines ticket happens = line_of (option_map (λ h. of_ticket ticket (happening_text h)) happens)
 
@@ -38,7 +38,7 @@ abbrev pub ending_of : Result (Unit {0}) Failed → Ending
 ending_of (Ok done) = endings.Kept
 ending_of (Err fault) = endings.Failed
 
--- what a keep is told by
+-- the lines for a write of a record
 abbrev pub keep_lines : Seen → List ℕ → Record → Result (Unit {0}) Failed → List (List ℕ)
 keep_lines seen ticket kept answer =
     lease_lines ticket (lease_change (known_of seen.tickets ticket).lease kept.lease (ending_of answer))
@@ -58,13 +58,13 @@ abbrev pub arrival_lines : Seen → Result Arrival Failed → List (List ℕ)
 arrival_lines seen (Ok (Handler job status)) = ended_lines seen job status
 arrival_lines seen answer = []
 
--- the first wait ends the opening: so many records were read
+-- the first wait ends the opening: this many records were read
 abbrev pub opening_lines : Seen → List (List ℕ)
 opening_lines seen = if seen.is_opening then line (ready_text (length seen.tickets)) ∷ [] else []
 
 -- ---- calls
 
--- the lines that a call is told by
+-- the lines for a call
 abbrev pub lines_of : Seen → Entry → List (List ℕ)
 lines_of seen (Open local port records conf_path (Ok done)) = line (begins_text local port records conf_path) ∷ []
 lines_of seen (Kept ticket (Ok found)) = lease_lines ticket (option_map Begins (found_lease found))
@@ -83,7 +83,7 @@ with_job seen ticket number = record seen {
   tickets = stored seen.tickets ticket (record (known_of seen.tickets ticket) { job = Some number });
 }
 
--- what is known after a call: of a keep that failed, the record before may be in force, and counts
+-- what is known after a call: after a write that failed, the record before it may be in force, and counts
 abbrev pub after : Seen → Entry → Seen
 after seen (Open local port records conf_path (Ok done)) = record seen { is_opening = true }
 after seen (Kept ticket (Ok found)) = with_lease seen ticket (found_lease found)

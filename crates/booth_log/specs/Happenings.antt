@@ -1,4 +1,4 @@
--- What a keep did to the lease of a ticket, as a table.
+-- How the write of a record changed the lease of a ticket, as a table.
 use Rattle.std.specs.Prelude.{◌==◌, ◌&&◌, Option, None, Some, if◌then◌else◌}
 use Rattle.booth_rec.specs.declared.record.Lease.{Lease}
 use Rattle.booth_log.specs.declared.happening.Ending.{Ending}
@@ -6,8 +6,8 @@ use Rattle.booth_log.specs.declared.happening.Ending.TheVariants.{Kept, Failed}
 use Rattle.booth_log.specs.declared.happening.Happening.{Happening}
 use Rattle.booth_log.specs.declared.happening.Happening.TheVariants.{Gains, GivesBack, FailsToKeep, FailsToGiveBack}
 
--- By the lease of the last record before, the lease of the record that was to be kept, and how the keep ended. A lease
--- that was kept with another end in the same term is a renewal, and nothing that is told.
+-- Depends on the lease of the record before, the lease of the record to be written, and how the write ended. A lease
+-- that was written with another end in the same term is a renewal, which has no line.
 abbrev pub lease_change : Option Lease → Option Lease → Ending → Option Happening
 lease_change None None ending = None
 lease_change None (Some lease) Kept = Some (Gains lease)

@@ -1,4 +1,4 @@
--- What the lines mean to who reads them.
+-- What the log lines mean to their readers.
 use Rattle.std.specs.Prelude.{◌≡◌, ℕ, List, [], ◌∷◌, Option, None, Some, Result, Ok}
 use Rattle.booth_host.specs.declared.entry.Entry.TheVariants.{Keep}
 use Rattle.booth_host.specs.declared.host.Failed.{Failed}
@@ -10,22 +10,22 @@ use Rattle.booth_log.specs.Known.{known_of}
 use Rattle.booth_log.specs.Calls.{lines_of}
 use Rattle.booth_log.specs.Texts.{line, of_ticket, happening_text}
 
--- the lease that is known of a ticket
+-- the known lease of a ticket
 abbrev pub lease_in : Seen → List ℕ → Option Lease
 lease_in seen ticket = (known_of seen.tickets ticket).lease
 
--- a record that changes no lease, as one of a promise to another site, is told by no line, however its keep ends
+-- a record that changes no lease, for example a promise to another site, has no line, however its write ends
 abbrev pub PromisesAreSilent : Type 0
 PromisesAreSilent = (seen : Seen) (ticket : List ℕ) (kept : Record) (answer : Result (Unit {0}) Failed)
     → kept.lease ≡ lease_in seen ticket → lines_of seen (Keep ticket kept answer) ≡ []
 
--- a lease that was kept with a new end in its term is told by no line
+-- a lease that was written with a new end in its term has no line
 abbrev pub RenewalsAreSilent : Type 0
 RenewalsAreSilent = (seen : Seen) (ticket : List ℕ) (kept : Record) (old new : Lease)
     → lease_in seen ticket ≡ Some old → kept.lease ≡ Some new → old.term ≡ new.term
     → lines_of seen (Keep ticket kept (Ok tt)) ≡ []
 
--- a lease that was kept where none was known is told by its line
+-- a lease that was written when none was known has its line
 abbrev pub GainsAreTold : Type 0
 GainsAreTold = (seen : Seen) (ticket : List ℕ) (kept : Record) (lease : Lease)
     → lease_in seen ticket ≡ None → kept.lease ≡ Some lease

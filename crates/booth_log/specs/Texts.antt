@@ -16,7 +16,7 @@ use Rattle.booth_log.specs.declared.texts.TheConstants.{VERSION}
 abbrev pub line : List ℕ → List ℕ
 line text = codes "boothd: " ++ text ++ codes "\n"
 
--- a path, where each byte of it prints
+-- a path, if each byte of it prints
 abbrev pub printed_path : List ℕ → List ℕ
 printed_path path = if list_all is_text_byte path then path else codes "?"
 
@@ -24,22 +24,22 @@ abbrev pub printed_local : Option Address → List ℕ
 printed_local None = codes "any"
 printed_local (Some address) = printed address
 
--- what the daemon begins with
+-- the first line of a daemon
 abbrev pub begins_text : Option Address → ℕ → List ℕ → List ℕ → List ℕ
 begins_text local port records conf_path =
     codes "begins: version " ++ VERSION.now ++ codes ", address " ++ printed_local local
     ++ codes ", port " ++ decimal port ++ codes ", records " ++ printed_path records ++ codes ", configuration "
     ++ printed_path conf_path
 
--- all records were read, of so many tickets
+-- the daemon has read all records, of this many tickets
 abbrev pub ready_text : ℕ → List ℕ
 ready_text tickets = codes "ready, tickets: " ++ decimal tickets
 
--- on the ticket with this name
+-- a text about the ticket with this name
 abbrev pub of_ticket : List ℕ → List ℕ → List ℕ
 of_ticket name text = codes "ticket " ++ name ++ codes ": " ++ text
 
--- until when a lease runs; that of a manual ticket has no end
+-- when a lease ends; that of a manual ticket has no end
 abbrev pub end_text : ℕ → List ℕ
 end_text until =
     if until == NO_END then codes " without an end" else codes " until " ++ date_text (until / 1000) ++ codes " UTC"
@@ -62,7 +62,7 @@ unstarted_text = codes "its handler cannot be started"
 abbrev pub status_text : ℤ → List ℕ
 status_text status = codes "its handler ended with status " ++ signed_decimal status
 
--- a handler of which the ticket is not known
+-- the status of a handler whose ticket is not known
 abbrev pub stray_text : ℕ → ℤ → List ℕ
 stray_text job status =
     codes "the handler of job " ++ decimal job ++ codes " ended with status " ++ signed_decimal status

@@ -1,28 +1,28 @@
-//! What a keep did to the lease of a ticket.
+//! How the write of a record changed the lease of a ticket.
 ghost use Rattle.std.specs.Prelude.{◌≡◌};
 ghost use Rattle.booth_log.specs.Happenings.{lease_change};
 
 use booth_rec::Lease;
 
-/// What became of a lease by a call.
+/// How a call changed a lease.
 #[derive(Clone, Copy)]
 pub(crate) enum Happening {
     Gains(Lease),
     GivesBack(Lease),
     FailsToKeep(Lease),
     FailsToGiveBack(Lease),
-    /// It was kept before the daemon began.
+    /// It was written before the daemon started.
     Begins(Lease),
 }
 
-/// How a keep ended.
+/// How a write ended.
 #[derive(Clone, Copy)]
 pub(crate) enum Ending {
     Kept,
     Failed,
 }
 
-/// What a keep did, by the lease that was kept before it, the one of its record, and how it ended.
+/// Returns what a write changed, by the lease that was written before it, the lease of its record, and how it ended.
 pub(crate) fn lease_change(
     before: Option<Lease>,
     lease: Option<Lease>,

@@ -1,4 +1,4 @@
-//! What the log knows of tickets: the lease in the last record, and the last job.
+//! What the log knows about tickets: the lease in the last record, and the last handler.
 ghost use Rattle.std.specs.Prelude.{◌≡◌, ◌≤◌, ◌<◌, ◌++◌, ◌∷◌, [], false, bytes_eq, is_some, IfOk, IfSome, length, option_map};
 ghost use Rattle.std.specs.Map.{lookup};
 ghost use Rattle.indexmap.specs.Layout.{set_value_at};
@@ -11,17 +11,17 @@ use indexmap::IndexMap;
 use std::alloc::{AllocError, Global};
 use std::marker::Model;
 
-/// What is known of a ticket.
+/// What is known about a ticket.
 #[derive(Clone, Copy)]
 pub(crate) struct Known {
-    /// The lease in its last record that was read or kept.
+    /// The lease in its last record that was read or written.
     pub(crate) lease: Option<Lease>,
-    /// The number of the last job that was started for it.
+    /// The number of the last handler that was started for it.
     pub(crate) job: Option<u64>,
 }
 
 impl Known {
-    // Whether its last job has this number.
+    // Returns whether its last handler has this number.
     fn has_job(&self, number: u64) -> bool
         ensures { result ≡ has_job number self.now }
     {
@@ -32,8 +32,8 @@ impl Known {
     }
 }
 
-/// What is known of tickets, by their names. It has the memory of as many as a configuration may have, and takes no
-/// more. Contracts see it as a list, in the order in which they were met.
+/// What is known about tickets, by their names. It has memory for as many as a configuration may have, and allocates
+/// no more. Contracts see it as a list, in the order in which the tickets were seen.
 #[derive(Drop)]
 pub(crate) struct Tickets {
     known: IndexMap<Name, Known>,
@@ -53,7 +53,7 @@ impl Model for Tickets {
 }
 
 impl Tickets {
-    /// No ticket so far.
+    /// Returns a table without tickets.
     pub(crate) fn new(alloc: Global) -> Result<Tickets, AllocError>
         ensures { IfOk result (λ tickets. tickets ≡ []) }
     {
@@ -62,7 +62,7 @@ impl Tickets {
         })
     }
 
-    /// How many tickets are known.
+    /// Returns how many tickets are known.
     pub(crate) fn count(&self) -> usize
         ensures count { result ≡ length self.now }
         ensures few { result ≤ TICKETS }
@@ -70,7 +70,7 @@ impl Tickets {
         self.known.len()
     }
 
-    // Where a ticket stands, if it was met.
+    // Returns the place of a ticket that was seen.
     fn place(&self, ticket: &Name) -> Option<usize>
         ensures place { result ≡ place_of self.now ticket.now }
         ensures met { is_some result ≡ is_some (lookup (bytes_eq ticket.now) self.now) }
@@ -79,7 +79,7 @@ impl Tickets {
         self.known.get_index_of(ticket)
     }
 
-    /// What is known of a ticket.
+    /// Returns what is known about a ticket.
     pub(crate) fn known(&self, ticket: &Name) -> Known
         ensures { result ≡ known_of self.now ticket.now }
     {
@@ -92,7 +92,7 @@ impl Tickets {
         }
     }
 
-    // Has this be known of the ticket at this place.
+    // Stores what is known about the ticket at this place.
     fn replace(&mut self, place: usize, known: Known)
         requires { place < length self.old }
         ensures { self.new ≡ set_value_at self.old place known }
@@ -100,7 +100,7 @@ impl Tickets {
         *self.known.get_index_mut(place).unwrap() = known;
     }
 
-    // Has this be known of a ticket that was not met, where there is room.
+    // Adds what is known about a new ticket, if there is room.
     fn add(&mut self, ticket: Name, known: Known)
         requires unmet { is_some (lookup (bytes_eq ticket) self.old) ≡ false }
         requires room { length self.old < TICKETS }
@@ -109,7 +109,7 @@ impl Tickets {
         self.known.insert(ticket, known).unwrap();
     }
 
-    /// Has this be known of a ticket. Beyond the room nothing is.
+    /// Stores what is known about a ticket, if there is room.
     pub(crate) fn store(&mut self, ticket: &Name, known: Known)
         ensures { self.new ≡ stored self.old ticket.now known }
     {
@@ -123,7 +123,7 @@ impl Tickets {
         }
     }
 
-    /// The ticket whose last job has this number.
+    /// Returns the ticket whose last handler has this number.
     pub(crate) fn ticket_of(&self, number: u64) -> Option<&Name>
         ensures { option_map (λ name. name.now) result ≡ ticket_of self.now number }
     {

@@ -1,17 +1,17 @@
-//! What the lines mean to who reads them.
+//! What the log lines mean to their readers.
 ghost use Rattle.booth_log.specs.Laws.{GainsAreTold, PromisesAreSilent, RenewalsAreSilent};
 
-/// A record that changes no lease, as one of a promise to another site, is told by no line.
+/// A record that changes no lease, for example a promise to another site, has no line.
 pub fn promises_are_silent()
     ensures { PromisesAreSilent }
 {}
 
-/// A renewal that was kept is told by no line.
+/// A renewal that was written has no line.
 pub fn renewals_are_silent()
     ensures { RenewalsAreSilent }
 {}
 
-/// A lease that was kept where none was known is told.
+/// A lease that was written when none was known has its line.
 pub fn gains_are_told()
     ensures { GainsAreTold }
 {}

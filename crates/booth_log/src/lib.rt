@@ -1,4 +1,4 @@
-//! The log of a daemon: which line its calls are told by, and a host over any host that says them.
+//! The log of a daemon: the line for each of its calls, and a host over any host that writes the lines.
 #![tactic(auto)]
 
 mod happening;

@@ -1,4 +1,4 @@
-//! The text of a line, whose memory is its own.
+//! The text of a line, in memory of its own.
 ghost use Rattle.std.specs.Prelude.{◌≡◌, ◌≤◌, ◌+◌, ◌++◌, codes, decimal, length};
 ghost use Rattle.std.specs.Fmt.{signed_decimal};
 ghost use Rattle.std.specs.List.{list_all};
@@ -32,7 +32,7 @@ impl Model for Line {
     ghost invariant = { λ line. length line.bytes.items ≤ LINE_BYTES };
 }
 
-// Whether each byte prints.
+// Returns whether each byte prints.
 fn prints(bytes: &[u8]) -> bool
     ensures { result ≡ list_all is_text_byte bytes.now }
 {
@@ -40,7 +40,7 @@ fn prints(bytes: &[u8]) -> bool
 }
 
 impl Line {
-    /// A line that begins with the program's name, as each does.
+    /// Starts a line with the program's name.
     pub(crate) fn begin() -> Line
         ensures { result ≡ codes "boothd: " }
     {
@@ -51,7 +51,7 @@ impl Line {
         line
     }
 
-    /// Appends a piece, for which there is room.
+    /// Appends a text; there must be room for it.
     pub(crate) fn put(&mut self, piece: &[u8])
         requires { length self.old + length piece.now ≤ LINE_BYTES }
         ensures { self.new ≡ self.old ++ piece.now }
@@ -88,7 +88,7 @@ impl Line {
         self.put(date_text(seconds).as_bytes());
     }
 
-    /// Appends a path, or a `?` where a byte of it does not print: a line stays one line.
+    /// Appends a path, or a `?` if a byte of it does not print: a line stays one line.
     pub(crate) fn put_path(&mut self, path: &PathText)
         requires { length self.old + 255 ≤ LINE_BYTES }
         ensures bytes { self.new ≡ self.old ++ printed_path path.now }
@@ -110,7 +110,7 @@ impl Line {
         self.put(b"\n");
     }
 
-    /// The bytes.
+    /// Returns the bytes.
     pub(crate) fn bytes(&self) -> &[u8]
         ensures { result.now ≡ self.now }
     {

@@ -1,13 +1,13 @@
-//! The trait of what takes lines.
+//! The trait of a sink for log lines.
 ghost use Rattle.std.specs.Prelude.{[], ◌∷◌, List, Option, ℕ};
 ghost use Rattle.booth_log.specs.Said.{SaidMore};
 
-/// What takes the lines of a log. A line that cannot be taken at once may be lost.
+/// A sink for the lines of a log. A line that the sink cannot take at once may be lost.
 pub trait Lines {
-    /// All lines so far, the oldest first, where they are told.
+    /// All lines so far, the oldest first, if lines are recorded.
     ghost said: { Self → Option (List (List ℕ)) };
 
-    /// Says a line, which ends with a line feed.
+    /// Writes a line, which ends with a line feed.
     fn say(&mut self, line: &[u8])
         ensures { SaidMore (said self.old) (said self.new) (line.now ∷ []) };
 }

@@ -1,4 +1,4 @@
-//! A host over any host that says of its calls what belongs into a log.
+//! A host over any host that logs its calls.
 ghost use Rattle.std.specs.Prelude.{◌≡◌, ◌≤◌, [], ◌∷◌, IfOk, List, Option, length};
 ghost use Rattle.booth_host.specs.Past.{GrewBy};
 ghost use Rattle.booth_host.specs.Causes.{HasCause, HasReadCause};
@@ -21,8 +21,7 @@ use booth_host::{Arrival, Datagram, Failed, Host, Job, Place, ReadFault};
 use booth_rec::{Lease, Record};
 use std::alloc::{AllocError, Global};
 
-/// A host over a host: each call is the inner one's, and is answered as that one answers. What belongs into a log is
-/// said after it.
+/// A host over a host: it passes each call on, returns the answer, and then logs the call if it has a line.
 #[derive(Drop)]
 pub struct LogHost<H, L> {
     host: H,
@@ -30,7 +29,7 @@ pub struct LogHost<H, L> {
     seen: Seen,
 }
 
-// The lease of a record that was found, if it has one.
+// Returns the lease of a record that was found, if it has one.
 fn found_lease(found: &Option<Record>) -> Option<Lease>
     ensures { result ≡ found_lease found.now }
 {
@@ -40,7 +39,7 @@ fn found_lease(found: &Option<Record>) -> Option<Lease>
     }
 }
 
-// That the handler of a job ended with a status.
+// Returns the line for a handler that ended with a status.
 fn ended_line(tickets: &Tickets, job: u64, status: i32) -> Line
     ensures { result ≡ line (ended_text (ticket_of tickets.now job) job status) }
 {
@@ -51,7 +50,7 @@ fn ended_line(tickets: &Tickets, job: u64, status: i32) -> Line
 }
 
 impl<H: Host, L: Lines> LogHost<H, L> {
-    /// A host over this host, whose lines go to `lines`. It takes here all memory that it will take.
+    /// Returns a host over this host, whose lines go to `lines`. It allocates all its memory here.
     pub fn new(alloc: Global, host: H, lines: L) -> Result<LogHost<H, L>, AllocError>
     where
         H: Drop,
@@ -63,14 +62,14 @@ impl<H: Host, L: Lines> LogHost<H, L> {
         Ok(LogHost { host, lines, seen })
     }
 
-    /// What takes the lines.
+    /// Returns the sink of the lines.
     pub fn lines(&self) -> &L
         ensures { result.now ≡ self.now.lines }
     {
         &self.lines
     }
 
-    // Says what became of a ticket's lease, if anything did.
+    // Logs a change of a ticket's lease, if there is one.
     fn tell_lease(&mut self, ticket: &Name, happens: Option<Happening>)
         ensures says { SaidMore (L.said self.old.lines) (L.said self.new.lines) (lease_lines ticket.now happens) }
         ensures host { self.new.host ≡ self.old.host }
@@ -81,7 +80,7 @@ impl<H: Host, L: Lines> LogHost<H, L> {
         }
     }
 
-    // Says how many tickets there are, where this ends the opening.
+    // Logs how many tickets there are, when the opening ends.
     fn tell_opening(&mut self)
         ensures says { SaidMore (L.said self.old.lines) (L.said self.new.lines) (opening_lines self.old.seen) }
         ensures host { self.new.host ≡ self.old.host }
@@ -93,7 +92,7 @@ impl<H: Host, L: Lines> LogHost<H, L> {
         }
     }
 
-    // Says that the handler of a job ended with a status other than 0.
+    // Logs that a handler ended with a status other than 0.
     fn tell_status(&mut self, job: u64, status: i32)
         ensures says { SaidMore (L.said self.old.lines) (L.said self.new.lines) (ended_lines self.old.seen job status) }
         ensures host { self.new.host ≡ self.old.host }
@@ -105,7 +104,7 @@ impl<H: Host, L: Lines> LogHost<H, L> {
         }
     }
 
-    // Says of an arrival what belongs into a log.
+    // Logs an arrival, if it has a line.
     fn tell_arrival(&mut self, answer: &Result<Arrival, Failed>)
         ensures says { SaidMore (L.said self.old.lines) (L.said self.new.lines)
             (arrival_lines self.old.seen answer.now) }

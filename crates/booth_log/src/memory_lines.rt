@@ -1,4 +1,4 @@
-//! Lines in memory.
+//! Log lines in memory.
 ghost use Rattle.std.specs.Prelude.{◌≡◌, [], ◌∷◌, ◌++◌, OnOk, Some, option_map};
 ghost use Rattle.booth_log.specs.Said.{SaidMore, told_lines};
 
@@ -6,7 +6,7 @@ use crate::Lines;
 use booth_base::ByteText;
 use std::alloc::{AllocError, Global};
 
-/// Lines in memory. They are told while there is room and memory for them, and nothing is told from then on.
+/// Log lines in memory. They are recorded until memory or room runs out, and nothing is recorded from then on.
 #[derive(Drop)]
 pub struct MemoryLines {
     alloc: Global,
@@ -16,7 +16,7 @@ pub struct MemoryLines {
 }
 
 impl MemoryLines {
-    /// No line so far, and room for so many.
+    /// Returns a sink without lines, with room for this many.
     pub fn new(alloc: Global, room: u32) -> MemoryLines
         ensures said { told_lines result ≡ Some [] }
         ensures room { result.room ≡ room }
@@ -29,14 +29,14 @@ impl MemoryLines {
         }
     }
 
-    /// The lines so far, the oldest first, or none where they are no longer told.
+    /// Returns the lines so far, the oldest first, or none if they are no longer recorded.
     pub fn said(&self) -> Option<&[ByteText]>
         ensures { option_map (λ said. said.now) result ≡ told_lines self.now }
     {
         if self.tells { Some(&self.said) } else { None }
     }
 
-    // Adds a line where there is room and memory for it.
+    // Adds a line, if there is room and memory for it.
     fn add(&mut self, line: &[u8]) -> Result<(), AllocError>
         ensures ok { OnOk result (self.new.said.items ≡ self.old.said.items ++ line.now ∷ []) }
         ensures tells { self.new.tells ≡ self.old.tells }

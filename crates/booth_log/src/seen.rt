@@ -12,12 +12,12 @@ use std::alloc::{AllocError, Global};
 #[derive(Drop)]
 pub(crate) struct Seen {
     pub(crate) tickets: Tickets,
-    /// Whether a place was opened, and nothing was waited for since.
+    /// Whether a place was opened and the daemon has not waited since.
     pub(crate) is_opening: bool,
 }
 
 impl Seen {
-    /// Nothing.
+    /// Returns the state in which nothing is known.
     pub(crate) fn new(alloc: Global) -> Result<Seen, AllocError>
         ensures { IfOk result (λ seen. seen ≡ at_first) }
     {
@@ -27,14 +27,14 @@ impl Seen {
         })
     }
 
-    /// The lease of a ticket.
+    /// Returns the lease of a ticket.
     pub(crate) fn lease(&self, ticket: &Name) -> Option<Lease>
         ensures { result ≡ (known_of self.now.tickets ticket.now).lease }
     {
         self.tickets.known(ticket).lease
     }
 
-    /// Has this be the lease of a ticket.
+    /// Stores the lease of a ticket.
     pub(crate) fn set_lease(&mut self, ticket: &Name, lease: Option<Lease>)
         ensures { self.new ≡ with_lease self.old ticket.now lease }
     {
@@ -42,7 +42,7 @@ impl Seen {
         self.tickets.store(ticket, Known { lease, ..known });
     }
 
-    /// Has this be the last job of a ticket.
+    /// Stores the last handler of a ticket.
     pub(crate) fn set_job(&mut self, ticket: &Name, number: u64)
         ensures { self.new ≡ with_job self.old ticket.now number }
     {

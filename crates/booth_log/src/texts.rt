@@ -13,7 +13,7 @@ use booth_rec::Lease;
 /// The version of the daemon.
 const VERSION: &str = "0.2.0";
 
-// Appends the address to listen at.
+// Appends the local address.
 fn put_local(local: &Option<Address>, line: &mut Line)
     requires { length line.old ≤ 100 }
     ensures bytes { line.new ≡ line.old ++ printed_local local.now }
@@ -25,7 +25,7 @@ fn put_local(local: &Option<Address>, line: &mut Line)
     }
 }
 
-/// What the daemon begins with.
+/// Returns the first line of a daemon.
 pub(crate) fn begins_line(place: &Place) -> Line
     ensures { result ≡ line (begins_text place.now.local place.now.port place.now.records place.now.conf_path) }
 {
@@ -44,7 +44,7 @@ pub(crate) fn begins_line(place: &Place) -> Line
     line
 }
 
-/// That all records were read: of how many tickets.
+/// Returns the line that all records were read, with the number of tickets.
 pub(crate) fn ready_line(tickets: usize) -> Line
     ensures { result ≡ line (ready_text tickets) }
 {
@@ -55,7 +55,7 @@ pub(crate) fn ready_line(tickets: usize) -> Line
     line
 }
 
-// The begin of a line on a ticket.
+// Starts a line about a ticket.
 fn begin_of(ticket: &Name) -> Line
     ensures bytes { result ≡ codes "boothd: " ++ (codes "ticket " ++ ticket.now ++ codes ": ") }
     ensures len { length result ≤ 100 }
@@ -78,7 +78,7 @@ fn put_until(until: u64, line: &mut Line)
     line.put(b" UTC");
 }
 
-// Appends until when a lease runs.
+// Appends when a lease ends.
 fn put_end(until: u64, line: &mut Line)
     requires { length line.old ≤ 300 }
     ensures bytes { line.new ≡ line.old ++ end_text until }
@@ -91,7 +91,7 @@ fn put_end(until: u64, line: &mut Line)
     }
 }
 
-// Appends what became of a lease.
+// Appends how a lease changed.
 fn put_lease(words: &[u8], lease: &Lease, line: &mut Line)
     requires begun { length line.old ≤ 100 }
     requires short { length words.now ≤ 20 }
@@ -118,7 +118,7 @@ fn put_happening(happening: &Happening, line: &mut Line)
     }
 }
 
-/// What became of a ticket's lease.
+/// Returns the line for a change of a ticket's lease.
 pub(crate) fn happening_line(ticket: &Name, happening: &Happening) -> Line
     ensures { result ≡ line (of_ticket ticket.now (happening_text happening.now)) }
 {
@@ -128,7 +128,7 @@ pub(crate) fn happening_line(ticket: &Name, happening: &Happening) -> Line
     line
 }
 
-/// The handler of a ticket could not be started.
+/// Returns the line that the handler of a ticket could not be started.
 pub(crate) fn unstarted_line(ticket: &Name) -> Line
     ensures { result ≡ line (of_ticket ticket.now unstarted_text) }
 {
@@ -148,7 +148,7 @@ fn put_status_text(status: i32, line: &mut Line)
     line.put_status(status);
 }
 
-/// The handler of a ticket ended with a status.
+/// Returns the line for the status of a ticket's handler.
 pub(crate) fn status_line(ticket: &Name, status: i32) -> Line
     ensures { result ≡ line (of_ticket ticket.now (status_text status)) }
 {
@@ -158,7 +158,7 @@ pub(crate) fn status_line(ticket: &Name, status: i32) -> Line
     line
 }
 
-/// The handler of a job ended with a status, and its ticket is not known.
+/// Returns the line for the status of a handler whose ticket is not known.
 pub(crate) fn stray_line(job: u64, status: i32) -> Line
     ensures { result ≡ line (stray_text job status) }
 {

@@ -1,4 +1,4 @@
--- The rules grant, again and revoke: what each keeps, and what the keep's answer leads to.
+-- The rules grant, again and revoke: what each writes, and what follows the write.
 use Rattle.std.specs.Prelude.{ℕ, ◌+◌, Bool, true, false, nat_le, Option, Some, None, if◌then◌else◌}
 use Rattle.booth_rec.specs.declared.record.Lease.{Lease}
 use Rattle.booth_rec.specs.declared.record.Record.{Record}
@@ -11,17 +11,17 @@ use Rattle.booth_manual.specs.declared.view.ManualView.{ManualView}
 use Rattle.booth_manual.specs.Messages.{revokes, tells_grant}
 use Rattle.booth_manual.specs.Outcome.{Keep, Outcome, quiet, saying}
 
--- the last term was used: no further term is asked for
+-- the last term was used: no grant is possible any more
 abbrev pub are_terms_spent : ManualView → Bool
 are_terms_spent view = nat_le LAST_TERM view.term
 
--- The record of a term and perhaps a lease, in the version that the rules keep. A manual ticket has no promises, so it
--- pledges nothing.
+-- The record of a term and perhaps a lease, in the version that the rules write. A manual ticket has no promises, so
+-- its record has no pledge.
 abbrev pub kept_by_hand : Setup → ℕ → Option Lease → Record
 kept_by_hand setup term lease =
     record no_record { version = if setup.second then 2 else 1; term = term; lease = lease }
 
--- a call asks for a keep, and waits for its answer
+-- a call requests a write, and waits for its result
 abbrev pub keeping : ManualView → Call → Record → Keep
 keeping view call tried = record {
   view = record view { waiting = Some (record { call = call; tried = tried }) };
@@ -44,14 +44,14 @@ grant setup view = keeping (record view {
   shown = None;
 }) calls.Grant (granted_record setup view)
 
--- Grant, the keep's answer: it is told where the record is kept
+-- Grant, after the write: the site announces the grant if the record was written
 abbrev pub finish_grant : Setup → ManualView → Bool → Outcome
 finish_grant setup view true = saying (record view { sure = true }) (tells_grant setup view.term)
 finish_grant setup view false = quiet (record view { sure = false })
 
 -- ---- again
 
--- Again: the view's record is kept once more, and nothing is said of it
+-- Again: the site writes the view's record once more, and announces nothing
 abbrev pub again : Setup → ManualView → Keep
 again setup view = keeping view calls.Again (kept_by_hand setup view.kept.term view.kept.lease)
 
@@ -61,25 +61,25 @@ finish_again view tried false = quiet (record view { sure = false })
 
 -- ---- revoke
 
--- Revoke: a record without a lease is kept, and until then this site holds the ticket
+-- Revoke: the site writes a record without a lease, and holds the ticket until that is done
 abbrev pub revoke : Setup → ManualView → Keep
 revoke setup view = keeping view calls.Revoke (kept_by_hand setup view.term None)
 
--- Revoke, the keep's answer: where the record is kept, this site holds the ticket no more, and says so
+-- Revoke, after the write: if the record was written, this site no longer holds the ticket, and announces it
 abbrev pub finish_revoke : Setup → ManualView → Record → Bool → Outcome
 finish_revoke setup view tried true =
     saying (record view { kept = tried; sure = true; owner = false }) (revokes setup view.term)
 finish_revoke setup view tried false = quiet (record view { sure = false })
 
--- ---- the answer of a keep
+-- ---- after a write
 
--- the call that waits goes on by the answer
+-- the call that waits goes on with the result of its write
 abbrev pub goes_on : Setup → ManualView → Call → Record → Bool → Outcome
 goes_on setup view calls.Grant tried ok = finish_grant setup view ok
 goes_on setup view calls.Again tried ok = finish_again view tried ok
 goes_on setup view calls.Revoke tried ok = finish_revoke setup view tried ok
 
--- nothing waits any longer; where nothing waited, nothing follows
+-- no call waits any longer; if none waited, nothing follows
 abbrev pub finish : Setup → ManualView → Bool → Outcome
 finish setup view ok = elim (view.waiting) [
   | None ↦ quiet view

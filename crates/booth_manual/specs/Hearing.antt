@@ -1,4 +1,4 @@
--- What a member's message shows, and what it is answered.
+-- What a member learns from another member's message, and how it answers.
 use Rattle.std.specs.Prelude.{Bool, false, not, ◌&&◌, is_none, Option, Some, None, if◌then◌else◌}
 use Rattle.booth_base.specs.declared.address.MemberId.{MemberId}
 use Rattle.booth_base.specs.declared.address.TheConstants.{NO_ONE}
@@ -11,7 +11,7 @@ use Rattle.booth_manual.specs.declared.view.ManualView.{ManualView}
 use Rattle.booth_manual.specs.Messages.{is_same, tells_state}
 use Rattle.booth_manual.specs.Outcome.{Outcome, quiet, saying}
 
--- a member tells that it holds the ticket: it is shown, but at the owner
+-- a member announces that it holds the ticket: it becomes the known holder, but not at the owner
 abbrev pub updated : ManualView → MemberId → ManualView
 updated view site = if view.owner then view else record view { shown = Some site }
 
@@ -19,11 +19,11 @@ abbrev pub is_shown : Option MemberId → MemberId → Bool
 is_shown None member = false
 is_shown (Some other) member = is_same other member
 
--- a member tells that it gave the ticket back: no one is shown, where it was shown
+-- a member announces that it released the ticket: if it was the known holder, there is none any more
 abbrev pub revoked : ManualView → MemberId → ManualView
 revoked view site = if is_shown view.shown site then record view { shown = None } else view
 
--- a message of state names another member as the holder: it is shown where no one is, but not at
+-- a message of state names another member as the holder: it becomes the known holder if there was none, but not at
 -- the owner
 abbrev pub learned : Setup → ManualView → MemberId → ManualView
 learned setup view leader =
@@ -32,8 +32,8 @@ learned setup view leader =
     then record view { shown = Some leader }
     else view
 
--- Terms that are heard are not looked at. Who asks for the state is told what was known before it
--- asked. All other commands are none of these rules'.
+-- The rules ignore the terms in messages. A request for the state is answered with what was known before it. All
+-- other commands are not for these rules.
 abbrev pub hear : Setup → ManualView → Head → TicketPart → Cmd → Outcome
 hear setup view head part cmds.UpdE = quiet (updated view head.from)
 hear setup view head part cmds.Revk = quiet (revoked view head.from)

@@ -1,5 +1,5 @@
--- What the rules say to members. A member says `from` itself; `auth`, `secs` and `usecs` are set when
--- it is sent.
+-- The messages that the rules send to members. A member sets `from` itself, and `auth`, `secs` and `usecs` when it
+-- sends.
 use Rattle.std.specs.Prelude.{ℕ, Bool, ◌==◌, Option, Some, None, false, if◌then◌else◌}
 use Rattle.booth_base.specs.declared.address.MemberId.{MemberId}
 use Rattle.booth_base.specs.declared.address.TheConstants.{NO_ONE}
@@ -38,32 +38,32 @@ abbrev pub shown_or_none : Option MemberId → MemberId
 shown_or_none None = NO_ONE
 shown_or_none (Some member) = member
 
--- who holds the ticket, as far as this member knows: itself, or who is shown, or no one
+-- the holder as far as this member knows: itself, or the known holder, or no one
 abbrev pub holder : Setup → ManualView → MemberId
 holder setup view = if view.owner then setup.me else shown_or_none view.shown
 
--- a manual lease has no end, and no one's has no time left
+-- a manual lease has no end; without a holder there is no time left
 abbrev pub seconds_for : MemberId → ℕ
 seconds_for leader = if is_same leader NO_ONE then 0 else NO_END_SECONDS
 
--- the state that messages tell: who holds the ticket, the own term, the seconds left
+-- the state in messages: the holder, the own term, the seconds left
 abbrev pub state_part : Setup → ManualView → TicketPart
 state_part setup view = part_of setup (holder setup view) view.term (seconds_for (holder setup view))
 
--- all are asked for their state
+-- asks all members for their state
 abbrev pub asks_state : Setup → ManualView → Say
 asks_state setup view = says.All (head_of setup Stat 0 NONE) (state_part setup view)
 
--- who asked for the state is told it
+-- answers a member that asked for the state
 abbrev pub tells_state : Setup → ManualView → Head → Say
 tells_state setup view asked =
     says.Reply (head_of setup MIdx asked.request NONE) (state_part setup view)
 
--- all are told that this site holds the ticket
+-- announces to all members that this site holds the ticket
 abbrev pub tells_grant : Setup → ℕ → Say
 tells_grant setup term =
     says.All (head_of setup UpdE 0 NONE) (part_of setup setup.me term NO_END_SECONDS)
 
--- all are told that the ticket was given back
+-- announces to all members that the ticket was released
 abbrev pub revokes : Setup → ℕ → Say
 revokes setup term = says.All (head_of setup Revk 0 ADMN) (part_of setup NO_ONE term 0)

@@ -1,4 +1,4 @@
--- What contracts see of a manual ticket.
+-- The part of a manual ticket that contracts see.
 use Rattle.booth_wire.specs.declared.message.Setup.{Setup}
 use Rattle.booth_manual.specs.declared.view.ManualView.{ManualView}
 

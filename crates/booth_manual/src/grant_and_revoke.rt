@@ -1,4 +1,4 @@
-//! The rules grant, again and revoke: what each keeps, and what the keep's answer leads to.
+//! The rules grant, again and revoke: what each writes, and what follows the write.
 ghost use Rattle.std.specs.Prelude.{◌≡◌, ◌<◌, IsTrue};
 ghost use Rattle.booth_manual.specs.GrantAndRevoke.{are_terms_spent, grant, again, kept_by_hand, revoke, keeping};
 ghost use Rattle.booth_manual.specs.GrantAndRevoke.{finish_grant, finish_again, finish_revoke, finish};
@@ -8,14 +8,14 @@ use crate::view::{Call, LAST_TERM, ManualView, NO_END, Waiting};
 use booth_rec::{Lease, Record};
 use booth_wire::{Say, Setup};
 
-/// No further term is asked for: the term is at least `LAST_TERM`.
+/// Returns whether no grant is possible any more: the term is at least `LAST_TERM`.
 pub fn are_terms_spent(view: &ManualView) -> bool
     ensures { result ≡ are_terms_spent view.now }
 {
     view.term >= LAST_TERM
 }
 
-// The record of a term and perhaps a lease. The setup says by its version that it is one of version 2.
+// Returns the record of a term and perhaps a lease, in the version that the setup names.
 fn kept_by_hand(setup: &Setup, term: u32, lease: Option<Lease>) -> Record
     requires { IsTrue setup.now.second }
     ensures { result ≡ kept_by_hand setup.now term lease }
@@ -23,7 +23,7 @@ fn kept_by_hand(setup: &Setup, term: u32, lease: Option<Lease>) -> Record
     Record::plain(term, lease)
 }
 
-// A call asks for a keep, and waits for its answer.
+// Requests a write for a call, which waits for its result.
 fn keeping(view: &mut ManualView, call: Call, tried: Record) -> Record
     ensures view { view.new ≡ (keeping view.old call tried).view }
     ensures record { result ≡ (keeping view.old call tried).tried }
@@ -32,7 +32,7 @@ fn keeping(view: &mut ManualView, call: Call, tried: Record) -> Record
     tried
 }
 
-// The ticket is granted: a lease without an end, in a new term.
+// Grants the ticket: a lease without an end, in a new term.
 pub(crate) fn grant(setup: &Setup, view: &mut ManualView) -> Record
     requires second { IsTrue setup.now.second }
     requires terms { view.old.term < LAST_TERM }
@@ -52,7 +52,7 @@ pub(crate) fn grant(setup: &Setup, view: &mut ManualView) -> Record
     keeping(view, Call::Grant, tried)
 }
 
-// The record is kept again.
+// Writes the record again.
 pub(crate) fn again(setup: &Setup, view: &mut ManualView) -> Record
     requires { IsTrue setup.now.second }
     ensures view { view.new ≡ (again setup.now view.old).view }
@@ -62,7 +62,7 @@ pub(crate) fn again(setup: &Setup, view: &mut ManualView) -> Record
     keeping(view, Call::Again, tried)
 }
 
-// The ticket is given back: a record without a lease.
+// Releases the ticket, with the write of a record without a lease.
 pub(crate) fn revoke(setup: &Setup, view: &mut ManualView) -> Record
     requires { IsTrue setup.now.second }
     ensures view { view.new ≡ (revoke setup.now view.old).view }
@@ -72,7 +72,7 @@ pub(crate) fn revoke(setup: &Setup, view: &mut ManualView) -> Record
     keeping(view, Call::Revoke, tried)
 }
 
-// The keep of a grant was answered.
+// Goes on after the write of a grant.
 fn finish_grant(setup: &Setup, view: &mut ManualView, ok: bool) -> Say
     ensures view { view.new ≡ (finish_grant setup.now view.old ok).view }
     ensures say { result ≡ (finish_grant setup.now view.old ok).say }
@@ -85,7 +85,7 @@ fn finish_grant(setup: &Setup, view: &mut ManualView, ok: bool) -> Say
     }
 }
 
-// The keep of the record again was answered.
+// Goes on after the repeated write of the record.
 fn finish_again(view: &mut ManualView, tried: Record, ok: bool) -> Say
     ensures view { view.new ≡ (finish_again view.old tried ok).view }
     ensures say { result ≡ (finish_again view.old tried ok).say }
@@ -98,7 +98,7 @@ fn finish_again(view: &mut ManualView, tried: Record, ok: bool) -> Say
     Say::Nothing
 }
 
-// The keep of a revocation was answered.
+// Goes on after the write of a revocation.
 fn finish_revoke(setup: &Setup, view: &mut ManualView, tried: Record, ok: bool) -> Say
     ensures view { view.new ≡ (finish_revoke setup.now view.old tried ok).view }
     ensures say { result ≡ (finish_revoke setup.now view.old tried ok).say }
@@ -112,7 +112,7 @@ fn finish_revoke(setup: &Setup, view: &mut ManualView, tried: Record, ok: bool) 
     revokes(setup, view.term)
 }
 
-// The keep that waits was answered.
+// Goes on with the call that waits, after its write.
 pub(crate) fn finish(setup: &Setup, view: &mut ManualView, ok: bool) -> Say
     ensures view { view.new ≡ (finish setup.now view.old ok).view }
     ensures say { result ≡ (finish setup.now view.old ok).say }

@@ -1,4 +1,4 @@
-//! What a member's message shows, and what it is answered.
+//! What a member learns from another member's message, and how it answers.
 ghost use Rattle.std.specs.Prelude.{◌≡◌};
 ghost use Rattle.booth_manual.specs.Hearing.{updated, revoked, learned, hear};
 
@@ -7,7 +7,7 @@ use crate::view::ManualView;
 use booth_base::{MemberId, NO_ONE};
 use booth_wire::{Cmd, Head, Say, Setup, TicketPart};
 
-// A member told that it holds the ticket.
+// Handles the announcement of a member that it holds the ticket.
 fn updated(view: &mut ManualView, site: MemberId)
     ensures { view.new ≡ updated view.old site }
 {
@@ -16,7 +16,7 @@ fn updated(view: &mut ManualView, site: MemberId)
     }
 }
 
-// A member told that it gave the ticket back.
+// Handles the announcement of a member that it released the ticket.
 fn revoked(view: &mut ManualView, site: MemberId)
     ensures { view.new ≡ revoked view.old site }
 {
@@ -25,7 +25,7 @@ fn revoked(view: &mut ManualView, site: MemberId)
     }
 }
 
-// A member told who holds the ticket.
+// Handles a message that names the holder of the ticket.
 fn learned(setup: &Setup, view: &mut ManualView, leader: MemberId)
     ensures { view.new ≡ learned setup.now view.old leader }
 {
@@ -34,7 +34,7 @@ fn learned(setup: &Setup, view: &mut ManualView, leader: MemberId)
     }
 }
 
-// A member's message is heard.
+// Handles a message of a member.
 pub(crate) fn hear(setup: &Setup, view: &mut ManualView, head: &Head, part: &TicketPart) -> Say
     ensures view { view.new ≡ (hear setup.now view.old head.now part.now head.now.cmd).view }
     ensures say { result ≡ (hear setup.now view.old head.now part.now head.now.cmd).say }
@@ -61,6 +61,7 @@ pub(crate) fn hear(setup: &Setup, view: &mut ManualView, head: &Head, part: &Tic
         Cmd::RVot | Cmd::VtFr | Cmd::HrtB | Cmd::Ack | Cmd::Rjc => Say::Nothing,
         // (what clients ask and are answered)
         Cmd::CLst
+        | Cmd::CTkt
         | Cmd::Peer
         | Cmd::CGnt
         | Cmd::CRvk
@@ -69,6 +70,7 @@ pub(crate) fn hear(setup: &Setup, view: &mut ManualView, head: &Head, part: &Tic
         | Cmd::ADel
         | Cmd::ALst
         | Cmd::RLst
+        | Cmd::RTkt
         | Cmd::RPer
         | Cmd::RALs
         | Cmd::RGnt

@@ -1,4 +1,4 @@
-//! The rules of one manual ticket, which is granted by hand alone: no clock, no bytes, no clients.
+//! The rules of one manual ticket, which only an operator grants: no clock, no bytes, no clients.
 #![tactic(auto)]
 
 mod grant_and_revoke;

@@ -13,7 +13,8 @@ use std::marker::Model;
 
 /// The rules of one manual ticket at one member.
 ///
-/// A record that a call gives is to be kept, and the next call is then `kept`. No call takes memory.
+/// The caller writes the record that a call returns to disk, and then calls `kept` before any other call. No call
+/// allocates memory.
 #[derive(Drop)]
 pub struct Manual {
     setup: Setup,
@@ -41,7 +42,7 @@ impl Manual {
     ghost use Rattle.booth_manual.specs.Start.{started};
     ghost use Rattle.booth_manual.specs.State.{State, with_view};
 
-    /// A member starts, from the record that it kept.
+    /// Starts a member from the record that it wrote last.
     pub fn start(setup: &Setup, kept: Option<&Record>) -> Manual
         requires { IsTrue setup.now.second }
         ensures { result ≡
@@ -54,7 +55,7 @@ impl Manual {
         }
     }
 
-    /// What the member knows of the ticket.
+    /// Returns what the member knows about the ticket.
     pub fn view(&self) -> &ManualView
         ensures value { result.now ≡ self.now.view }
         ensures facts { ViewFacts self.now.setup self.now.view }
@@ -62,22 +63,25 @@ impl Manual {
         &self.view
     }
 
-    /// The setup that it started with.
+    /// Returns the setup with which it started.
     pub fn setup(&self) -> &Setup
         ensures { result.now ≡ self.now.setup }
     {
         &self.setup
     }
 
-    /// All members are to be asked for their state, as at the first deadline after the start.
+    /// Asks all members for their state, as at the first deadline after the start.
     pub fn hello(&self) -> Say
         ensures { result ≡ asks_state self.now.setup self.now.view }
     {
         asks_state(&self.setup, &self.view)
     }
 
-    /// The ticket is granted to this site: the record that is to be kept. Where the terms are spent,
-    /// nothing changes.
+    /// Grants the ticket to this site, and returns the record to write.
+    ///
+    /// # Errors
+    ///
+    /// `TermSpent` if no term is left; the ticket is then unchanged.
     pub fn grant(&mut self) -> Result<Record, TermSpent>
         requires idle { self.old.view.waiting ≡ None }
         ensures spent { IsErr result ↔ (LAST_TERM ≤ self.old.view.term) }
@@ -91,7 +95,7 @@ impl Manual {
         Ok(grant(&self.setup, &mut self.view))
     }
 
-    /// The owner's record is to be kept again, since its last keep failed.
+    /// Returns the owner's record, to write it again after a write that failed.
     pub fn again(&mut self) -> Record
         requires idle { self.old.view.waiting ≡ None }
         requires owner { IsTrue self.old.view.owner }
@@ -102,7 +106,7 @@ impl Manual {
         again(&self.setup, &mut self.view)
     }
 
-    /// The owner gives the ticket back: the record that is to be kept.
+    /// Releases the ticket at its owner, and returns the record to write.
     pub fn revoke(&mut self) -> Record
         requires idle { self.old.view.waiting ≡ None }
         requires owner { IsTrue self.old.view.owner }
@@ -112,7 +116,7 @@ impl Manual {
         revoke(&self.setup, &mut self.view)
     }
 
-    /// The keep that waits was answered: `ok` where the record is kept. What is then said.
+    /// Goes on after the write that waits (`ok` if the record was written), and returns the message that follows.
     pub fn kept(&mut self, ok: bool) -> Say
         requires waiting { IsSome self.old.view.waiting }
         ensures view { self.new ≡ with_view self.old (finish self.old.setup self.old.view ok).view }
@@ -122,7 +126,7 @@ impl Manual {
         finish(&self.setup, &mut self.view, ok)
     }
 
-    /// A message of another member is heard.
+    /// Handles a message of another member.
     pub fn hear(&mut self, head: &Head, part: &TicketPart) -> Say
         requires idle { self.old.view.waiting ≡ None }
         ensures view { self.new ≡ with_view self.old

@@ -1,4 +1,4 @@
-//! What the rules say to members.
+//! The messages that the rules send to members.
 ghost use Rattle.std.specs.Prelude.{◌≡◌};
 ghost use Rattle.booth_manual.specs.Messages.{head_of, part_of, holder, seconds_for, state_part};
 ghost use Rattle.booth_manual.specs.Messages.{asks_state, tells_state, tells_grant, revokes};
@@ -35,7 +35,7 @@ fn part_of(setup: &Setup, leader: MemberId, term: u32, valid_for: u32) -> Ticket
     }
 }
 
-/// Who holds the ticket, as far as this member knows: itself, or who is shown, or `NO_ONE`.
+/// Returns the holder as far as this member knows: itself, or the known holder, or `NO_ONE`.
 pub fn holder(setup: &Setup, view: &ManualView) -> MemberId
     ensures { result ≡ holder setup.now view.now }
 {
@@ -59,14 +59,14 @@ fn state_part(setup: &Setup, view: &ManualView) -> TicketPart
     part_of(setup, leader, view.term, seconds_for(leader))
 }
 
-// All are asked for their state.
+// Asks all members for their state.
 pub(crate) fn asks_state(setup: &Setup, view: &ManualView) -> Say
     ensures { result ≡ asks_state setup.now view.now }
 {
     Say::All(head_of(setup, Cmd::Stat, 0, NONE), state_part(setup, view))
 }
 
-// Who asked for the state is told it.
+// Answers a member that asked for the state.
 pub(crate) fn tells_state(setup: &Setup, view: &ManualView, asked: &Head) -> Say
     ensures { result ≡ tells_state setup.now view.now asked.now }
 {
@@ -74,7 +74,7 @@ pub(crate) fn tells_state(setup: &Setup, view: &ManualView, asked: &Head) -> Say
     Say::Reply(answer, state_part(setup, view))
 }
 
-// All are told that this site holds the ticket.
+// Announces to all members that this site holds the ticket.
 pub(crate) fn tells_grant(setup: &Setup, term: u32) -> Say
     ensures { result ≡ tells_grant setup.now term }
 {
@@ -82,7 +82,7 @@ pub(crate) fn tells_grant(setup: &Setup, term: u32) -> Say
     Say::All(told, part_of(setup, setup.me, term, NO_END_SECONDS))
 }
 
-// All are told that the ticket was given back.
+// Announces to all members that the ticket was released.
 pub(crate) fn revokes(setup: &Setup, term: u32) -> Say
     ensures { result ≡ revokes setup.now term }
 {

@@ -5,7 +5,7 @@ ghost use Rattle.booth_manual.specs.Start.{started};
 use crate::view::ManualView;
 use booth_rec::Record;
 
-// The view of a ticket at a member that starts from this record.
+// Returns the view of a ticket at a member that starts from this record.
 pub(crate) fn started(kept: Record) -> ManualView
     ensures { result ≡ started kept }
 {

@@ -1,32 +1,32 @@
-//! What a member knows of one manual ticket.
+//! What a member knows about one manual ticket.
 use booth_base::MemberId;
 use booth_rec::Record;
 
-/// From this term on no further term is asked for.
+/// From this term on no further grant is possible.
 pub const LAST_TERM: u32 = 4_294_967_294;
 
-/// The end of a manual lease, which no reading reaches: 2^62.
+/// The end of a manual lease, which no clock reading reaches: 2^62.
 pub const NO_END: u64 = 4_611_686_018_427_387_904;
 
-/// The seconds that messages tell of a manual lease: 2^32 - 1.
+/// The seconds of a manual lease in messages: 2^32 - 1.
 pub const NO_END_SECONDS: u32 = 4_294_967_295;
 
-/// A call that keeps a record.
+/// A call that writes a record.
 #[derive(Clone, Copy, PartialEq, Eq)]
 pub enum Call {
-    /// The ticket is granted to this site.
+    /// Grants the ticket to this site.
     Grant,
-    /// The record, of which it is not sure that it is kept, is kept again.
+    /// Writes the record again, since its last write may have failed.
     Again,
-    /// The ticket is given back.
+    /// Releases the ticket.
     Revoke,
 }
 
-/// A keep that was asked for and is not answered.
+/// A write that was requested and has no result yet.
 #[derive(Clone, Copy, PartialEq, Eq)]
 pub struct Waiting {
     pub call: Call,
-    /// The record that is to be kept.
+    /// The record of the write.
     pub tried: Record,
 }
 
@@ -34,13 +34,13 @@ pub struct Waiting {
 #[derive(Clone, Copy, PartialEq, Eq)]
 pub struct ManualView {
     pub term: u32,
-    /// The kept record; without one, that of version 1 with term 0 and no lease.
+    /// The record that was written last; before the first, that of version 1 with term 0 and no lease.
     pub kept: Record,
-    /// Whether the last keep succeeded.
+    /// Whether the last write succeeded.
     pub sure: bool,
     /// Whether this site holds the ticket.
     pub owner: bool,
-    /// Another member that holds it, as far as this one has heard.
+    /// The other member that holds it, as far as this one has heard.
     pub shown: Option<MemberId>,
     pub waiting: Option<Waiting>,
 }

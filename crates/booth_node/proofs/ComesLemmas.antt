@@ -5,7 +5,7 @@ use Rattle.booth_base.specs.declared.address.Peer.{Peer as Sender}
 use Rattle.booth_conf.specs.Config.{has_id}
 use Rattle.booth_conf.specs.Lookups.{is_called}
 use Rattle.booth_wire.specs.declared.command.Cmd.{Cmd}
-use Rattle.booth_wire.specs.declared.command.Cmd.TheVariants.{CLst, Peer, CGnt, CRvk, ASet, AGet, ADel, ALst, RLst, RPer, RALs, RGnt, RRvk, RAtr, Stat, MIdx, RVot, VtFr, HrtB, Ack, UpdE, Revk, Rjc}
+use Rattle.booth_wire.specs.declared.command.Cmd.TheVariants.{CLst, CTkt, Peer, CGnt, CRvk, ASet, AGet, ADel, ALst, RLst, RTkt, RPer, RALs, RGnt, RRvk, RAtr, Stat, MIdx, RVot, VtFr, HrtB, Ack, UpdE, Revk, Rjc}
 use Rattle.booth_wire.specs.declared.command.Direction.{Direction}
 use Rattle.booth_wire.specs.declared.command.Direction.TheVariants.{ToDaemon, ToClient, BetweenMembers}
 use Rattle.booth_wire.specs.declared.message.AttrPart.{AttrPart}
@@ -30,7 +30,7 @@ use Rattle.booth_node.specs.declared.attributes.AttrWish.{AttrWish}
 use Rattle.booth_node.specs.declared.attributes.AttrWish.TheVariants as wishes
 use Rattle.booth_node.specs.AttributeRequests.{attended_place, attr_answer, attr_request_in, attr_request_of, attr_wish, is_at_site}
 use Rattle.booth_node.proofs.RoutingLemmas.{place_at_site}
-use Rattle.booth_node.specs.Replies.{Reply, text_for, no_ticket, no_attribute, no_attribute_of, reply_with, reply_message, is_list, list_lines, part_messages, replies_to, request_in, request_of, wish_of}
+use Rattle.booth_node.specs.Replies.{Reply, text_for, ticket_named, told_for, told_of, no_ticket, no_attribute, no_attribute_of, reply_with, reply_message, is_list, list_lines, part_messages, replies_to, request_in, request_of, wish_of}
 use Rattle.booth_node.specs.Reaction.{Action, Hears, Asks, Attends, Answers, answers, asks, attends, attended, hears, requested, routed, said, demanded, action}
 use Rattle.booth_node.specs.Laws.{AreRepliesTo}
 use Rattle.booth_node.specs.Lists.{cut_lines}
@@ -162,7 +162,7 @@ module _ (node : NodeConfig) (now : ℕ) (tickets : List TicketState) (common : 
   Routed = routed node now tickets common from message (direction_of message.head.cmd)
 
   at_once : (cmd out : Cmd) → message.head.cmd ≡ cmd → answer_of cmd ≡ Some out → direction_of cmd ≡ ToDaemon
-      → is_list cmd ≡ false → HasReply (reply_with (text_for node common cmd) cmd message.content)
+      → is_list cmd ≡ false → HasReply (reply_with (text_for node common cmd) (told_for node now tickets message.content) cmd message.content)
       → Routed ≡ answers node.ring now (replies_to node now tickets common message)
       → Comes node from message Routed
   at_once cmd out is answer to single found routes =
@@ -187,7 +187,7 @@ module _ (node : NodeConfig) (now : ℕ) (tickets : List TicketState) (common : 
   unasked : (cmd out : Cmd) → message.head.cmd ≡ cmd → answer_of cmd ≡ Some out → direction_of cmd ≡ ToDaemon
       → is_list cmd ≡ false → wish_of cmd ≡ None
       → ((name : Option (List ℕ)) (value : List ℕ) → attr_wish cmd name value ≡ None)
-      → HasReply (reply_with (text_for node common cmd) cmd message.content)
+      → HasReply (reply_with (text_for node common cmd) (told_for node now tickets message.content) cmd message.content)
       → Comes node from message Routed
   unasked cmd out is answer to single none no_wish found =
       at_once cmd out is answer to single found (unasked_routes cmd is to none no_wish)
@@ -228,7 +228,7 @@ module _ (node : NodeConfig) (now : ℕ) (tickets : List TicketState) (common : 
   attends_of : (cmd : Cmd) (part : AttrPart) (wish : AttrWish) → message.head.cmd ≡ cmd
       → direction_of cmd ≡ ToDaemon → is_list cmd ≡ false → wish_of cmd ≡ None → message.content ≡ Attr part
       → attr_wish cmd part.name part.value ≡ Some wish → answer_of cmd ≡ Some (attr_answer wish)
-      → HasReply (reply_with (text_for node common cmd) cmd message.content)
+      → HasReply (reply_with (text_for node common cmd) (told_for node now tickets message.content) cmd message.content)
       → Comes node from message Routed
   attends_of cmd part wish is to single none content wished answer found =
       by_place (attended_place node part.ticket) refl
@@ -263,7 +263,7 @@ module _ (node : NodeConfig) (now : ℕ) (tickets : List TicketState) (common : 
   asks_of : (cmd : Cmd) (request : Request) → message.head.cmd ≡ cmd → direction_of cmd ≡ ToDaemon → is_list cmd ≡ false
       → (part : TicketPart) → request_in from message ≡ Some (part, request)
       → answer_of cmd ≡ Some (reply_cmd request.wish)
-      → HasReply (reply_with (text_for node common cmd) cmd message.content)
+      → HasReply (reply_with (text_for node common cmd) (told_for node now tickets message.content) cmd message.content)
       → request.from ≡ from → request.number ≡ message.head.request → Comes node from message Routed
   asks_of cmd request is to single part asked answer found same_from same_number =
       by_ticket (position (is_called part.ticket) node.config.tickets) refl
@@ -290,9 +290,19 @@ module _ (node : NodeConfig) (now : ℕ) (tickets : List TicketState) (common : 
   repeats part name content named =
       (_, ap no_attribute content ∙ ap (λ n. no_attribute_of part n) named)
 
+  -- a request for one ticket has its reply
+  told_reply : (ticket : Option TicketState) (now : ℕ) (asked : TicketPart) → told_for node now tickets message.content ≡ told_of ticket now asked
+      → HasReply (told_for node now tickets message.content)
+  told_reply None now asked is = (_, is)
+  told_reply (Some ticket) now asked is = (_, is)
+
   client_comes : (cmd : Cmd) → message.head.cmd ≡ cmd → direction_of cmd ≡ ToDaemon → IsRead cmd message.content
       → Comes node from message Routed
   client_comes CLst is to read = lists is
+  client_comes CTkt is to read =
+      let it = ticket_part read.0 message.content read.1 in
+      unasked CTkt RTkt is refl refl refl refl (λ name value. refl)
+      (told_reply (ticket_named node tickets it.0.ticket) now it.0 (ap (told_for node now tickets) it.1))
   client_comes Peer is to read = unasked Peer RPer is refl refl refl refl (λ name value. refl) (_, refl)
   client_comes CGnt is to read =
       let it = ticket_part read.0 message.content read.1 in
@@ -332,6 +342,7 @@ module _ (node : NodeConfig) (now : ℕ) (tickets : List TicketState) (common : 
       let it = attr_part _ _ _ message.content read.1 in
       attends_of ALst it.0 wishes.List is refl refl refl it.1 refl refl (_, refl)
   client_comes RLst is to read = absurd cc
+  client_comes RTkt is to read = absurd cc
   client_comes RPer is to read = absurd cc
   client_comes RALs is to read = absurd cc
   client_comes RGnt is to read = absurd cc
@@ -351,6 +362,7 @@ module _ (node : NodeConfig) (now : ℕ) (tickets : List TicketState) (common : 
   member_part_of : (cmd : Cmd) → direction_of cmd ≡ BetweenMembers → IsRead cmd message.content
       → IsPart message.content
   member_part_of CLst to read = absurd cc
+  member_part_of CTkt to read = absurd cc
   member_part_of Peer to read = absurd cc
   member_part_of CGnt to read = absurd cc
   member_part_of CRvk to read = absurd cc
@@ -359,6 +371,7 @@ module _ (node : NodeConfig) (now : ℕ) (tickets : List TicketState) (common : 
   member_part_of ADel to read = absurd cc
   member_part_of ALst to read = absurd cc
   member_part_of RLst to read = absurd cc
+  member_part_of RTkt to read = absurd cc
   member_part_of RPer to read = absurd cc
   member_part_of RALs to read = absurd cc
   member_part_of RGnt to read = absurd cc

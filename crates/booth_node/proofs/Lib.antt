@@ -8,7 +8,6 @@ pub mod TellLemmas
 pub mod ActLemmas
 pub mod LogLemmas
 pub mod PeerLemmas
-pub mod DrainLemmas
 pub mod DueLemmas
 pub mod TurnLemmas
 pub mod StartLemmas

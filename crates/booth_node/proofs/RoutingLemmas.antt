@@ -25,7 +25,7 @@ use Rattle.booth_node.specs.AttributeRequests.{attr_answer}
 use Rattle.booth_node.specs.Led.{Led}
 use Rattle.booth_node.specs.Reaction.{Action, Answers, Rests, IsDone, answers, demanded, met, routed, action}
 use Rattle.booth_node.specs.Lists.{cut_lines}
-use Rattle.booth_node.specs.Replies.{answered as answered_so, is_list, list_lines, part_messages, replies_to, reply_with, text_for}
+use Rattle.booth_node.specs.Replies.{answered as answered_so, is_list, list_lines, part_messages, replies_to, reply_with, text_for, told_for}
 use Rattle.booth_node.specs.ReplyForms.{IsWritten}
 use Rattle.booth_node.specs.Routing.{Routes, at_once, named}
 use Rattle.booth_node.specs.State.{State}
@@ -122,11 +122,23 @@ module _ {H : Type 0} {past : H → Option (List Entry)} {faults : H → ℕ} {l
 pub one_reply : (node : NodeConfig) (now : ℕ) (tickets : List TicketState) (common : Common) (message : PlainMessage)
     → is_list message.head.cmd ≡ false → replies_to node now tickets common message
     ≡ answered_so node.me message.head.request (answer_of message.head.cmd)
-    (reply_with (text_for node common message.head.cmd) message.head.cmd message.content)
+    (reply_with (text_for node common message.head.cmd) (told_for node now tickets message.content) message.head.cmd message.content)
 one_reply node now tickets common message single =
     ap (λ (b : Bool). if b then part_messages node.me message.head.request 0 (cut_lines 0 (list_lines node now tickets))
     else answered_so node.me message.head.request (answer_of message.head.cmd)
-    (reply_with (text_for node common message.head.cmd) message.head.cmd message.content)) single
+    (reply_with (text_for node common message.head.cmd) (told_for node now tickets message.content) message.head.cmd message.content)) single
+
+-- what is written of a list of tickets is written of a list that is the same
+pub over_tickets : (node : NodeConfig) (now : ℕ) (common : Common) (message : PlainMessage) (listed tickets : List TicketState) (written : Bool)
+    (frame : List ℕ) → listed ≡ tickets
+    → IsWritten node.ring now (answered_so node.me message.head.request (answer_of message.head.cmd)
+    (reply_with (text_for node common message.head.cmd) (told_for node now listed message.content) message.head.cmd message.content)) written frame
+    → IsWritten node.ring now (answered_so node.me message.head.request (answer_of message.head.cmd)
+    (reply_with (text_for node common message.head.cmd) (told_for node now tickets message.content) message.head.cmd message.content)) written frame
+over_tickets node now common message listed tickets written frame same is =
+    subst (λ (ts : List TicketState). IsWritten node.ring now (answered_so node.me message.head.request (answer_of message.head.cmd)
+    (reply_with (text_for node common message.head.cmd) (told_for node now ts message.content) message.head.cmd message.content)) written frame)
+    same is
 
 -- a list is answered by its parts
 pub parts_reply : (node : NodeConfig) (now : ℕ) (tickets : List TicketState) (common : Common) (message : PlainMessage)
@@ -135,7 +147,7 @@ pub parts_reply : (node : NodeConfig) (now : ℕ) (tickets : List TicketState) (
 parts_reply node now tickets common message is =
     ap (λ (b : Bool). if b then part_messages node.me message.head.request 0 (cut_lines 0 (list_lines node now tickets))
     else answered_so node.me message.head.request (answer_of message.head.cmd)
-    (reply_with (text_for node common message.head.cmd) message.head.cmd message.content)) is
+    (reply_with (text_for node common message.head.cmd) (told_for node now tickets message.content) message.head.cmd message.content)) is
 
 -- what answers a request about attributes is no member's command
 pub attr_to_client : (wish : AttrWish) → direction_of (attr_answer wish) ≡ BetweenMembers → ⊥

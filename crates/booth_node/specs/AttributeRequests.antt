@@ -1,4 +1,4 @@
--- What clients ask of the attributes of a ticket, what they are answered, and which prerequisites hold.
+-- Clients' requests about the attributes of a ticket, their replies, and which prerequisites hold.
 use Rattle.std.specs.Prelude.{ℕ, Bool, List, [], Option, Some, None, option_map, position, slice_get, if◌then◌else◌}
 use Rattle.std.specs.List.{flat_map, list_all}
 use Rattle.std.specs.Option.{option_map_or}
@@ -33,19 +33,19 @@ use Rattle.booth_node.specs.Replies.{Reply, reply_message}
 abbrev pub prereqs_at : List TicketConf → ℕ → List Prereq
 prereqs_at tickets place = option_map_or (λ ticket. ticket.prereqs) (slice_get tickets place) []
 
--- whether the prerequisites of the ticket at a place hold that a grant of this kind asks for
+-- whether the prerequisites hold that a grant of this kind needs, for the ticket at a place
 abbrev pub is_ready : NodeConfig → Attributes → ℕ → GrantKind → Bool
 is_ready node attributes place kind =
     list_all (holds_for kind (pairs_of attributes place)) (prereqs_at node.config.tickets place)
 
--- ---- what is asked
+-- ---- requests
 
--- an attribute as a command names it, which only a list does not
+-- an attribute as a command names it; only a list names none
 abbrev pub named_pair : (Pair → AttrWish) → Option (List ℕ) → List ℕ → Option AttrWish
 named_pair wish name value =
     option_map (λ name. wish (record { name = name; value = value })) name
 
--- what a command wishes with this name and value
+-- the request of a command with this name and value
 abbrev pub attr_wish : Cmd → Option (List ℕ) → List ℕ → Option AttrWish
 attr_wish ASet name value = named_pair (λ pair. wishes.Set pair) name value
 attr_wish AGet name value = named_pair (λ pair. wishes.Get pair) name value
@@ -59,7 +59,7 @@ attr_request_of head (Attr part) =
     (attr_wish head.cmd part.name part.value)
 attr_request_of head content = None
 
--- what a client's message asks of attributes, where it does
+-- the request in a client's message, if it is about attributes
 abbrev pub attr_request_in : PlainMessage → Option AttrRequest
 attr_request_in message = attr_request_of message.head message.content
 
@@ -67,21 +67,21 @@ attr_request_in message = attr_request_of message.head message.content
 abbrev pub is_at_site : NodeConfig → Bool
 is_at_site node = is_site_at node.config.members (own_place node)
 
--- the place of the ticket of this name, where this member is a site: an arbitrator has no attributes
+-- the place of the ticket with this name, if this member is a site: an arbitrator has no attributes
 abbrev pub attended_place : NodeConfig → List ℕ → Option ℕ
 attended_place node name =
     if is_at_site node then position (is_called name) node.config.tickets else None
 
--- ---- what it leaves
+-- ---- the attributes afterwards
 
--- the attributes after a wish of the ticket at a place
+-- the attributes after a request about the ticket at a place
 abbrev pub after_wish : Attributes → ℕ → AttrWish → Attributes
 after_wish all place (wishes.Set pair) = after_set all place pair.name pair.value
 after_wish all place (wishes.Get pair) = all
 after_wish all place (wishes.Delete pair) = after_delete all place pair.name
 after_wish all place wishes.List = all
 
--- ---- what it is answered
+-- ---- the reply
 
 -- the reply repeats ticket, name and value
 abbrev pub repeated : List ℕ → Pair → Content
@@ -98,13 +98,13 @@ abbrev pub del_result : DelAnswer → ℕ
 del_result del.Done = SUCCESS
 del_result del.NoSuch = NATR
 
--- a name that is there is answered with its value
+-- if the name exists, its value
 abbrev pub get_reply : List ℕ → Pair → Option (List ℕ) → Reply
 get_reply ticket pair None = record { result = NATR; content = repeated ticket pair }
 get_reply ticket pair (Some value) =
     record { result = SUCCESS; content = repeated ticket (record pair { value = value }) }
 
--- a line for each attribute of the ticket, for a list, and else nothing
+-- for a list, a line for each attribute of the ticket; for any other request, nothing
 abbrev pub pairs_text : Attributes → ℕ → AttrWish → List ℕ
 pairs_text all place wishes.List = flat_map line_of (pairs_of all place)
 pairs_text all place wish = []
@@ -119,7 +119,7 @@ attr_reply all place ticket (wishes.Delete pair) =
 attr_reply all place ticket wishes.List =
     record { result = SUCCESS; content = Text (pairs_text all place wishes.List) }
 
--- the command that answers a wish
+-- the command that answers a request
 abbrev pub attr_answer : AttrWish → Cmd
 attr_answer (wishes.Set pair) = RAtr
 attr_answer (wishes.Get pair) = RAtr

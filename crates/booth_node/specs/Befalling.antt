@@ -1,4 +1,4 @@
--- What may befall a ticket in a turn, and what may be asked of its attributes, under names for other crates.
+-- The events of a ticket in a turn, and the requests about its attributes, under names for other crates.
 use Rattle.std.specs.Prelude.{ℕ}
 use Rattle.booth_wire.specs.declared.message.Head.{Head}
 use Rattle.booth_wire.specs.declared.message.TicketPart.{TicketPart}
@@ -11,22 +11,22 @@ use Rattle.booth_node.specs.declared.event.Event.TheVariants.{Due, Heard, Asked,
 abbrev pub Befalling : Type 0
 Befalling = Event
 
--- its deadline has come
+-- its deadline has passed
 abbrev pub comes_due : Befalling
 comes_due = Due
 
--- the member at a place says something about it
+-- the member at a place sent a message about it
 abbrev pub is_told : ℕ → Head → TicketPart → Befalling
 is_told from head part = Heard from head part
 
--- a client asks something of it
+-- a client sent a request about it
 abbrev pub is_asked : Request → Befalling
 is_asked request = Asked request
 
--- a job of a handler is over
+-- a handler has ended
 abbrev pub ends_job : ℕ → Service → Befalling
 ends_job job service = Over job service
 
--- what a client asks of the attributes of a ticket
+-- a client's request about the attributes of a ticket
 abbrev pub AttributeAsking : Type 0
 AttributeAsking = AttrRequest

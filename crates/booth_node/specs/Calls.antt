@@ -1,4 +1,4 @@
--- The calls of a turn, as what tickets do and as what members say to one another.
+-- The calls of a turn, as actions of tickets and as messages between members.
 use Rattle.std.specs.Prelude.{◌≡◌, ◌⊎◌, ℕ, Bool, true, false, List, [], ◌∷◌, ◌++◌, Some, Result, Ok, is_ok, slice_get}
 use Rattle.booth_base.specs.declared.address.MemberId.{MemberId}
 use Rattle.booth_base.specs.declared.address.Peer.{Peer}
@@ -29,10 +29,10 @@ use Rattle.booth_node.specs.Jobs.{job_of}
 use Rattle.booth_node.specs.Reaction.{IsDone, dues, peer_of, react, sent_as}
 use Rattle.booth_node.specs.State.{State}
 
--- ---- calls that are a ticket's acts
+-- ---- calls for a ticket's actions
 
--- the call is that of what a ticket asks, with this answer: a keep under the ticket's name, a start of its handler, or
--- a send of the message, as it is sealed at this moment, to whom it goes
+-- the call for an action of a ticket, with this answer: a write under the ticket's name, a start of its handler, or a
+-- send of the message, sealed at this moment, to its receiver
 abbrev pub IsCallOf : NodeConfig → ℕ → List ℕ → TicketAsk → Bool → Entry → Type 0
 IsCallOf node now name (KeepsRecord tried) ok (calls.Keep ticket rec answer) =
     (ticket ≡ name) × (rec ≡ tried) × (is_ok answer ≡ ok)
@@ -44,24 +44,24 @@ IsCallOf node now name (Say to head part) ok (calls.Send peer bytes answer) =
     (peer_of node.config to ≡ Some peer) × (bytes ≡ sealed node.ring (sent_as node now head part))
 IsCallOf node now name ask ok call = ⊥
 
--- these calls are those acts, one for one
+-- these calls are those of these actions, one for one
 abbrev pub AreCallsOf : NodeConfig → ℕ → List ℕ → List Act → List Entry → Type 0
 AreCallsOf node now name [] [] = Unit {0}
 AreCallsOf node now name (act ∷ acts) (call ∷ calls) =
     IsCallOf node now name act.ask act.ok call × AreCallsOf node now name acts calls
 AreCallsOf node now name acts calls = ⊥
 
--- a call that is no keep, or one that answered Ok
+-- a call that is no write, or a write that succeeded
 abbrev pub IsNoFailedKeep : Entry → Type 0
 IsNoFailedKeep (calls.Keep ticket rec answer) = is_ok answer ≡ true
 IsNoFailedKeep call = Unit {0}
 
--- where the first call is a keep, it answered Ok
+-- if the first call is a write, it succeeded
 abbrev pub KeepsFirst : List Entry → Type 0
 KeepsFirst [] = Unit {0}
 KeepsFirst (call ∷ calls) = IsNoFailedKeep call
 
--- ---- whom calls reach
+-- ---- the receivers of calls
 
 -- the client is one of these
 abbrev pub IsAmong : Waiter → List Waiter → Type 0
@@ -77,14 +77,14 @@ pub record IsBetweenMembers (node : NodeConfig) (peer : Peer) (bytes : List ℕ)
   pub between : direction_of message.head.cmd ≡ BetweenMembers
   pub from : message.head.from ≡ node.me
 
--- What a client that waits may be told of its grant: that it was done, that it failed, that the handler did, or, where
--- the client does not wait for the keep, that the record is not kept yet. To wait on is none of these.
+-- The results of a grant for a client that waits: it was done, it failed, its handler failed, or, if the client does
+-- not wait for the write, the record is not written yet. A result that tells the client to wait is none of these.
 abbrev pub EndsGrant : Waiter → ℕ → Type 0
 EndsGrant waiter result =
     (result ≡ SUCCESS) ⊎ (result ≡ FAIL) ⊎ (result ≡ XPRG) ⊎ ((result ≡ PEND) × (waiter.commit ≡ false))
 
--- this message tells a client that waits what became of its grant: how it ended, with its number and neither
--- options nor a reason, from this member
+-- this message is the outcome of a grant for a client that waits: it has the client's request number, neither options
+-- nor a reason, and comes from this member
 pub record IsOutcome (me : MemberId) (waiter : Waiter) (head : Head) : Type 0 where
   pub cmd : head.cmd ≡ RGnt
   pub request : head.request ≡ waiter.number
@@ -93,7 +93,7 @@ pub record IsOutcome (me : MemberId) (waiter : Waiter) (head : Head) : Type 0 wh
   pub result : EndsGrant waiter head.result
   pub from : head.from ≡ me
 
--- this is said of the ticket at a place of the configuration
+-- the message is about the ticket at a place of the configuration
 pub record NamesTicket (node : NodeConfig) (place : ℕ) (content : Content) : Type 0 where
   pub part : TicketPart
   pub ticket : TicketConf
@@ -101,8 +101,8 @@ pub record NamesTicket (node : NodeConfig) (place : ℕ) (content : Content) : T
   pub there : slice_get node.config.tickets place ≡ Some ticket
   pub named : part.ticket ≡ ticket.name
 
--- these bytes, to this peer, tell one of these clients that wait what became of its grant of the ticket that it
--- waits for
+-- these bytes, to this peer, are the outcome for one of these waiting clients, of its grant of the ticket for which
+-- it waits
 pub record TellsWaiter (node : NodeConfig) (waiters : List (List Waiter)) (peer : Peer) (bytes : List ℕ)
     : Type 0 where
   pub place : ℕ
@@ -114,7 +114,7 @@ pub record TellsWaiter (node : NodeConfig) (waiters : List (List Waiter)) (peer 
   pub outcome : IsOutcome node.me waiter message.head
   pub about : NamesTicket node place message.content
 
--- one of these calls tells this client that waits what became of its grant of the ticket at this place
+-- one of these calls sends this waiting client the outcome of its grant of the ticket at this place
 pub record IsToldIn (node : NodeConfig) (place : ℕ) (waiter : Waiter) (entries : List Entry) : Type 0 where
   pub before : List Entry
   pub message : PlainMessage
@@ -124,8 +124,8 @@ pub record IsToldIn (node : NodeConfig) (place : ℕ) (waiter : Waiter) (entries
   pub outcome : IsOutcome node.me waiter message.head
   pub about : NamesTicket node place message.content
 
--- a record is kept, a handler is started, or something is said between members or to one of these clients that
--- wait: no other client is reached
+-- the call writes a record, starts a handler, or sends a message to a member or to one of these waiting clients: it
+-- reaches no other client
 abbrev pub ReachesWaiters : NodeConfig → List (List Waiter) → Entry → Type 0
 ReachesWaiters node waiters (calls.Keep ticket rec answer) = Unit {0}
 ReachesWaiters node waiters (calls.Start number ticket handler local expires answer) = Unit {0}
@@ -135,8 +135,7 @@ ReachesWaiters node waiters call = ⊥
 
 -- ---- turns
 
--- A turn at this moment, in which the datagram of this peer is let in as this message; these are the calls of its
--- deeds.
+-- A turn at this moment accepts the datagram of this peer as this message; these are the calls for its actions.
 pub record LetsIn (node : NodeConfig) (old : State) (now : ℕ) (from : Peer) (message : PlainMessage)
     (entries : List Entry) (new : State) : Type 0 where
   pub bytes : List ℕ
@@ -144,8 +143,8 @@ pub record LetsIn (node : NodeConfig) (old : State) (now : ℕ) (from : Peer) (m
   pub deeds : Leads (IsDone node.ring) (react node old now (Ok (arrivals.Datagram from)) bytes) entries
       (Ends new)
 
--- The calls of the arrival are these acts of the ticket at a place, and leave it with a view and with clients that
--- wait, of which this holds. The deadlines' calls follow.
+-- The calls for the arrival are those of these actions of the ticket at a place, and leave it with a view and waiting
+-- clients for which this holds. The calls for the deadlines follow.
 pub record ArrivalDoes (node : NodeConfig) (now place : ℕ) (setup : Setup) (acts : List Act)
     (Holds : Left → Type 0) (entries : List Entry) (new : State) : Type 0 where
   pub arrival : List Entry

@@ -1,4 +1,5 @@
--- What is done where it may be: a round is answered, a grant asks all, and a majority gains.
+-- Actions that a node does whenever it may: it answers a round, a grant asks all members, and a majority gains the
+-- ticket.
 use Rattle.std.specs.Prelude.{◌≡◌, ℕ, false, List, ◌++◌, position, slice_get, Some, None}
 use Rattle.booth_base.specs.declared.address.Peer.{Peer}
 use Rattle.booth_conf.specs.Config.{has_id}
@@ -36,7 +37,7 @@ pub record IsAbout (node : NodeConfig) (state : State) (message : PlainMessage) 
   pub named : position (is_called part.ticket) node.config.tickets ≡ Some place
   pub there : slice_get state.tickets place ≡ Some (record { setup = setup; known = Automatic view })
 
--- the first calls answer the round, to the member whose round it is: in version 2 they keep the promise and then say so
+-- the first calls answer the round, to its member: in version 2 they write the promise and then send the answer
 pub record IsRoundAnswered (node : NodeConfig) (now : ℕ) (setup : Setup) (view : View) (kind : RoundKind)
     (message : PlainMessage) (part : TicketPart) (entries : List Entry) : Type 0 where
   pub member : ℕ
@@ -47,8 +48,8 @@ pub record IsRoundAnswered (node : NodeConfig) (now : ℕ) (setup : Setup) (view
   pub answers : AreCallsOf node now setup.ticket
       (answering_acts setup view member kind message.head part now) first
 
--- Where a member may promise to a round that it heard, and the keep of its promise answers Ok, the answer goes out
--- in that turn, before all else.
+-- If a member may make a promise for a round that it received, and the write of its promise succeeds, it sends the
+-- answer in the same turn, before all else.
 abbrev pub RoundsAreAnswered : Type 0
 RoundsAreAnswered =
     (node : NodeConfig) (old new : State) (now : ℕ) (from : Peer) (message : PlainMessage)
@@ -62,9 +63,9 @@ abbrev pub grant_of : Peer → PlainMessage → Request
 grant_of from message =
     record { wish = Grant; from = from; number = message.head.request; options = message.head.options }
 
--- A grant of a ticket without a handler that meets no refusal, so that its prerequisites hold, asks every other
--- member for its vote in that turn, and tells the client that it was begun, where the keep of the new term answers
--- Ok and this member is no majority by itself. The client then waits, where it asked to.
+-- A grant of a ticket without a handler that is not refused, and so has its prerequisites, asks every other member
+-- for its vote in that turn and tells the client that it was begun, if the write of the new term succeeds and this
+-- member alone is no majority. The client then waits, if it asked for that.
 abbrev pub GrantsAskAll : Type 0
 GrantsAskAll =
     (node : NodeConfig) (old new : State) (now : ℕ) (from : Peer) (message : PlainMessage)
@@ -79,9 +80,9 @@ GrantsAskAll =
     (AsksVotes (asked_record setup view now)
     (joined (grant_of from message) ASYN (waiting_at old.waiters place))) entries new
 
--- Where the answer that completes a majority is heard before the lease of its round would be over, and the keep
--- answers Ok, the ticket is granted until `expire` after the round was opened, all others are told, and so is each
--- client that waits for the ticket, in that turn; then none waits.
+-- If the answer that completes a majority arrives before the lease of its round would end, and the write succeeds,
+-- the ticket is granted until `expire` after the round was opened, and all other members and each client that waits
+-- for the ticket are told in that turn; then no client waits.
 abbrev pub MajoritiesGain : Type 0
 MajoritiesGain =
     (node : NodeConfig) (old new : State) (now : ℕ) (from : Peer) (message : PlainMessage)

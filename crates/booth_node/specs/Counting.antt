@@ -13,7 +13,7 @@ use Rattle.booth_node.specs.State.{State}
 abbrev pub more : ℕ → ℕ
 more count = min (count + 1) (2 ^ 64 - 1)
 
--- the counter of a fault, of eight in the gate's order
+-- the counter of each fault, of eight in the gate's order
 abbrev pub place_of : DropFault → ℕ
 place_of (Frame fault) = 0
 place_of NoMac = 1
@@ -33,7 +33,7 @@ count_drop common fault =
 abbrev pub dropped : State → DropFault → State
 dropped state fault = record state { common = count_drop state.common fault }
 
--- the counters of a member of whom nothing came and to whom nothing went
+-- the counters of a member before any message
 abbrev pub no_counts : Counters
 no_counts = record { accepted = 0; sent = 0; errors = 0; last = 0 }
 
@@ -44,7 +44,7 @@ counters_at common place = slice_index_or common.members place no_counts
 abbrev pub with_counters : Common → ℕ → Counters → Common
 with_counters common place counters = record common { members = slice_set common.members place counters }
 
--- one more datagram of the member was let in, at this moment
+-- one more datagram of the member was accepted, at this moment
 abbrev pub counted : Counters → ℕ → Counters
 counted counters now = record counters { accepted = more counters.accepted; last = now / 1000 }
 
@@ -58,11 +58,11 @@ abbrev pub tried : Counters → Bool → Counters
 tried counters true = record counters { sent = more counters.sent }
 tried counters false = record counters { errors = more counters.errors }
 
--- a send by a rule counts for its member; a reply to a client counts for nobody
+-- a send by a rule counts for its receiver; a reply to a client counts for no member
 abbrev pub count_send : Common → To → Bool → Common
 count_send common (Member place) ok = with_counters common place (tried (counters_at common place) ok)
 count_send common (Client peer) ok = common
 
--- nothing was counted, and no job was started
+-- nothing was counted, and no handler was started
 abbrev pub nothing_counted : Common
 nothing_counted = record { drops = replicate 8 0; members = replicate MEMBERS no_counts; next_job = 1 }

@@ -1,4 +1,4 @@
--- The jobs that a node starts: whose handler they run, and under which numbers.
+-- The runs of handlers (jobs) that a node starts: of which ticket, and under which number.
 use Rattle.std.specs.Prelude.{ℕ, ◌+◌, ◌-◌, ◌^◌, ◌==◌, List, [], ◌∷◌, option_map, position, slice_get, Option, Some, None, Result, unwrap_or, if◌then◌else◌}
 use Rattle.booth_base.specs.declared.address.Address.{Address}
 use Rattle.booth_base.specs.declared.address.Address.TheVariants.{V4}
@@ -15,7 +15,7 @@ use Rattle.booth_node.specs.Opening.{own_place}
 
 -- ---- numbers
 
--- the number after this one: jobs count from 1, and again after the greatest number
+-- the number after this one: jobs count from 1, and restart after the greatest number
 abbrev pub number_after : ℕ → ℕ
 number_after number = if number == 2 ^ 64 - 1 then 1 else number + 1
 
@@ -29,17 +29,17 @@ abbrev pub handler_in : Option TicketConf → Option (List ℕ)
 handler_in None = None
 handler_in (Some ticket) = ticket.handler
 
--- the handler of the ticket at a place, where it has one
+-- the handler of the ticket at a place, if it has one
 abbrev pub handler_at : NodeConfig → ℕ → Option (List ℕ)
 handler_at node place = handler_in (slice_get node.config.tickets place)
 
--- the number of the job that the ticket at a place may start, where it has a handler
+-- the number of the job that the ticket at a place may start, if it has a handler
 abbrev pub job_at : NodeConfig → ℕ → Common → Option ℕ
 job_at node place common = option_map (λ handler. common.next_job) (handler_at node place)
 
--- ---- a job, as the host is asked for it
+-- ---- a job, as the node passes it to the host
 
--- the handler of a ticket is found by its name; nothing is run of one that has none
+-- the handler of a ticket is found by the ticket's name; a ticket without a handler runs nothing
 abbrev pub words_at : NodeConfig → Option ℕ → List ℕ
 words_at node None = []
 words_at node (Some place) = unwrap_or (handler_at node place) []

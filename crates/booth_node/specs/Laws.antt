@@ -1,4 +1,4 @@
--- Laws of turns, over every state and all bytes.
+-- Laws of turns, for every state and all bytes.
 use Rattle.std.specs.Prelude.{◌≡◌, ◌⊎◌, ◌<◌, ◌+◌, ℕ, List, [], ◌∷◌, ◌++◌, length, position, Option, Some, None, Result, Ok, Err}
 use Rattle.std.specs.List.{All}
 use Rattle.booth_keys.specs.declared.ring.Ring.{Ring}
@@ -34,24 +34,24 @@ use Rattle.booth_node.specs.State.{State}
 
 -- ---- the tickets of a node
 
--- A node opens with the tickets of its configuration, each set up for it.
+-- A node opens with the tickets of its configuration, each set up for this node.
 abbrev pub OpensWithItsTickets : Type 0
 OpensWithItsTickets =
     (node : NodeConfig) (records : List (Option Record)) (reading : ℕ)
     → length records ≡ length node.config.tickets
     → AreSetUp node (opened node records reading)
 
--- They stay those through every turn.
+-- They stay the same through every turn.
 abbrev pub KeepsItsTickets : Type 0
 KeepsItsTickets =
     (node : NodeConfig) (old new : State) (now : ℕ) (arrival : Result Arrival Failed) (bytes : List ℕ)
     (entries : List Entry) → AreSetUp node old
     → Leads (IsDone node.ring) (react node old now arrival bytes) entries (Ends new) → AreSetUp node new
 
--- ---- what a datagram comes to
+-- ---- the action for a datagram
 
--- A member's message goes to the ticket that it names, as the word of the member that its head names; a client's
--- request of a ticket goes to that ticket.
+-- A member's message goes to the ticket that it names, as a message of the member that its head names; a client's
+-- request about a ticket goes to that ticket.
 abbrev pub IsSettled : NodeConfig → Action → Type 0
 IsSettled node (Drops fault) = Unit {0}
 IsSettled node (Hears from ticket head part) =
@@ -62,8 +62,8 @@ IsSettled node (Attends ticket request) = ticket < length node.config.tickets
 IsSettled node (Answers messages) = Unit {0}
 IsSettled node Rests = ⊥
 
--- No datagram demands nothing: each is dropped, heard by its ticket, asked of its ticket or of that one's
--- attributes, or answered at once.
+-- Every datagram has an action: it is dropped, goes to its ticket, is a request about its ticket or that ticket's
+-- attributes, or is answered at once.
 abbrev pub NothingRests : Type 0
 NothingRests =
     (node : NodeConfig) (now : ℕ) (state : State) (from : Peer) (bytes : List ℕ)
@@ -71,8 +71,8 @@ NothingRests =
 
 -- ---- dropped for its named fault
 
--- Of a datagram with a fault nothing comes but that its fault is counted: what is done in its turn is what the
--- deadlines demand.
+-- The only effect of a datagram with a fault is that its fault is counted: all actions in its turn come from
+-- deadlines.
 abbrev pub DropsAlone : Type 0
 DropsAlone =
     (node : NodeConfig) (old new : State) (now : ℕ) (from : Peer) (bytes : List ℕ) (fault : DropFault)
@@ -91,7 +91,7 @@ drops_after node now common (Ok (arrivals.Datagram from)) bytes =
     drops_by common (verdict node.config node.ring node.me now bytes)
 drops_after node now common answer bytes = common.drops
 
--- A turn counts a fault exactly where its datagram has it, and no other.
+-- A turn counts a fault exactly if its datagram has it, and no other fault.
 abbrev pub CountsEachFault : Type 0
 CountsEachFault =
     (node : NodeConfig) (old new : State) (now : ℕ) (arrival : Result Arrival Failed) (bytes : List ℕ)
@@ -100,8 +100,8 @@ CountsEachFault =
 
 -- ---- clients
 
--- This reply answers the message: its command's answer, with its number, as the part of this number, without a reason,
--- from this member.
+-- This reply answers the message: it has the command that answers the message's, its request number, the part with
+-- this number and no reason, and comes from this member.
 pub record IsReplyTo (node : NodeConfig) (message : PlainMessage) (number : ℕ) (reply : PlainMessage) : Type 0 where
   pub cmd : answer_of message.head.cmd ≡ Some reply.head.cmd
   pub request : reply.head.request ≡ message.head.request
@@ -109,8 +109,8 @@ pub record IsReplyTo (node : NodeConfig) (message : PlainMessage) (number : ℕ)
   pub reason : reply.head.reason ≡ 0
   pub from : reply.head.from ≡ node.me
 
--- These replies answer the message: one, or the parts of a list, numbered from this number on, of which each but the
--- last says that more follow.
+-- These replies answer the message: one reply, or the parts of a list, numbered from this number on; each part but
+-- the last says that more follow.
 abbrev pub AreRepliesTo : NodeConfig → PlainMessage → ℕ → List PlainMessage → Type 0
 AreRepliesTo node message number [] = ⊥
 AreRepliesTo node message number (reply ∷ []) = IsReplyTo node message number reply
@@ -125,9 +125,9 @@ AreSends ring to (message ∷ messages) (calls.Send peer bytes answer ∷ entrie
     (peer ≡ to) × (bytes ≡ sealed ring message) × AreSends ring to messages entries
 AreSends ring to messages entries = ⊥
 
--- The last calls of the arrival are the replies, to who asked. Each other call of the turn that reaches a client
--- tells one that waits what became of its grant: before the replies one that waited when the turn began, after them
--- one that waits then.
+-- The last calls for the arrival are the replies, to the sender of the request. Each other call of the turn that
+-- reaches a client is the outcome of a grant for a client that waits: before the replies a client that waited when
+-- the turn began, after them one that waits then.
 pub record IsAnswered (node : NodeConfig) (old : State) (now : ℕ) (from : Peer) (message : PlainMessage)
     (entries : List Entry) (new : State) : Type 0 where
   pub before : List Entry
@@ -142,7 +142,7 @@ pub record IsAnswered (node : NodeConfig) (old : State) (now : ℕ) (from : Peer
   pub waiting : All (ReachesWaiters node after.waiters) deadlines
   pub follow : Leads (IsDone node.ring) (dues node now Went after) deadlines (Ends new)
 
--- Each client's request that is let in has its one reply in that turn, a list its parts.
+-- Each accepted request of a client has its one reply in the same turn, and a list has its parts.
 abbrev pub ClientsAreAnswered : Type 0
 ClientsAreAnswered =
     (node : NodeConfig) (old new : State) (now : ℕ) (from : Peer) (message : PlainMessage)
@@ -151,7 +151,7 @@ ClientsAreAnswered =
     → direction_of message.head.cmd ≡ ToDaemon
     → IsAnswered node old now from message entries new
 
--- the request of a client that a datagram brings, where it brings one that is let in
+-- the request of a client in a datagram, if it has one that is accepted
 abbrev pub asked_by : Direction → PlainMessage → Option PlainMessage
 asked_by ToDaemon message = Some message
 asked_by BetweenMembers message = None
@@ -166,7 +166,8 @@ request_of node now (Ok (arrivals.Datagram from)) bytes =
     request_let_in (verdict node.config node.ring node.me now bytes)
 request_of node now answer bytes = None
 
--- In each other turn nothing reaches a client but the outcome of a grant, one that waited when the turn began.
+-- In every other turn a client receives only the outcome of a grant, and only a client that waited when the turn
+-- began.
 abbrev pub OthersAreNotAnswered : Type 0
 OthersAreNotAnswered =
     (node : NodeConfig) (old new : State) (now : ℕ) (arrival : Result Arrival Failed) (bytes : List ℕ)
@@ -174,8 +175,8 @@ OthersAreNotAnswered =
     → Leads (IsDone node.ring) (react node old now arrival bytes) entries (Ends new)
     → request_of node now arrival bytes ≡ None → All (ReachesWaiters node old.waiters) entries
 
--- No client that waits is forgotten: after each turn it waits for the same ticket still, or it was told in the turn
--- what became of its grant of that ticket.
+-- No waiting client is forgotten: after each turn it still waits for the same ticket, or was sent the outcome of its
+-- grant of that ticket in the turn.
 abbrev pub NobodyIsForgotten : Type 0
 NobodyIsForgotten =
     (node : NodeConfig) (old new : State) (now : ℕ) (arrival : Result Arrival Failed) (bytes : List ℕ)

@@ -1,4 +1,4 @@
--- A list of tickets in parts, as the replies to a client tell it.
+-- A list of tickets in parts, one for each reply to a client.
 use Rattle.std.specs.Prelude.{◌≡◌, ◌≤◌, ◌<◌, ◌+◌, ◌++◌, ℕ, List, [], ◌∷◌, length, drop, nat_le, if◌then◌else◌}
 use Rattle.std.specs.List.{All}
 use Rattle.booth_base.specs.declared.buffer.TheConstants.{TEXT_BYTES}
@@ -13,19 +13,19 @@ abbrev pub with_first : List ℕ → List (List (List ℕ)) → List (List (List
 with_first line [] = (line ∷ []) ∷ []
 with_first line (part ∷ parts) = (line ∷ part) ∷ parts
 
--- Lines are cut into parts, each of as many whole lines, from the first, as a text holds. So many bytes of the first
--- part are taken.
+-- Lines are cut into parts, each with as many whole lines, from the first, as a text holds. This many bytes of the
+-- first part are used.
 abbrev pub cut_lines : ℕ → List (List ℕ) → List (List (List ℕ))
 cut_lines taken [] = [] ∷ []
 cut_lines taken (line ∷ lines) =
     if nat_le (taken + length line) TEXT_BYTES then with_first line (cut_lines (taken + length line) lines)
     else [] ∷ with_first line (cut_lines (length line) lines)
 
--- the parts behind so many lines: none behind the last line
+-- the parts after this many lines: none after the last line
 abbrev pub parts_from : List (List ℕ) → ℕ → List (List (List ℕ))
 parts_from lines count = if nat_le (length lines) count then [] else cut_lines 0 (drop count lines)
 
--- This text is the first part of these lines, and has so many of them.
+-- This text is the first part of these lines, and has this many of them.
 pub record IsPart (lines : List (List ℕ)) (count : ℕ) (text : List ℕ) : Type 0 where
   pub part : List (List ℕ)
   pub text_is : text ≡ part_text part
@@ -33,30 +33,31 @@ pub record IsPart (lines : List (List ℕ)) (count : ℕ) (text : List ℕ) : Ty
   pub within : count ≤ length lines
   pub on : 0 < length lines → 0 < count
 
--- ---- what such parts are
+-- ---- properties of parts
 
 abbrev pub joined : List (List (List ℕ)) → List (List ℕ)
 joined [] = []
 joined (part ∷ parts) = part ++ joined parts
 
--- the first line of the next part, where there is one, has no room in a part that has so many bytes
+-- the first line of the next part, if there is one, does not fit into a part that has this many bytes
 abbrev pub IsFull : ℕ → List (List (List ℕ)) → Type 0
 IsFull used [] = Unit {0}
 IsFull used ([] ∷ parts) = ⊥
 IsFull used ((line ∷ part) ∷ parts) = TEXT_BYTES < used + length line
 
--- each part fits, and none but the last could take one more line
+-- each part fits, and only the last could hold one more line
 abbrev pub AreFull : List (List (List ℕ)) → Type 0
 AreFull [] = Unit {0}
 AreFull (part ∷ parts) = (length (part_text part) ≤ TEXT_BYTES) × IsFull (length (part_text part)) parts × AreFull parts
 
--- There is a part at least; joined they are the lines; each fits, and none but the last could take one more line.
+-- There is at least one part; joined the parts are the lines; each part fits, and only the last could hold one more
+-- line.
 pub record AreParts (lines : List (List ℕ)) (parts : List (List (List ℕ))) : Type 0 where
   pub some : 1 ≤ length parts
   pub whole : joined parts ≡ lines
   pub full : AreFull parts
 
--- Lines that each fit have these parts, and no others.
+-- If each line fits, the lines have these parts and no others.
 abbrev pub ListsHaveTheseParts : Type 0
 ListsHaveTheseParts =
     (lines : List (List ℕ)) → All (λ line. length line ≤ TEXT_BYTES) lines

@@ -1,4 +1,4 @@
--- The state of a node that is opened.
+-- The state of a node after its opening.
 use Rattle.std.specs.Prelude.{◌≡◌, ℕ, ◌+◌, ◌-◌, ◌^◌, min, Bool, true, false, List, [], ◌∷◌, length, map, position, replicate, slice_get, Option, unwrap_or, if◌then◌else◌}
 use Rattle.std.specs.Option.{option_map_or}
 use Rattle.booth_conf.specs.Config.{has_id}
@@ -21,7 +21,7 @@ own_place node = unwrap_or (position (has_id node.me) node.config.members) 0
 abbrev pub is_site_at : List Member → ℕ → Bool
 is_site_at members place = option_map_or (λ member. member.site) (slice_get members place) false
 
--- how many sites come before this one; an arbitrator has no rank
+-- how many sites come before this member; an arbitrator has no rank
 abbrev pub rank_at : NodeConfig → ℕ → ℕ
 rank_at node index =
     if is_site_at node.config.members (own_place node)
@@ -52,7 +52,7 @@ AreSetUp node state =
     (map (λ ticket. ticket.setup) state.tickets ≡ setups_from node 0 node.config.tickets)
     × (length state.waiters ≡ length node.config.tickets)
 
--- what is known of a ticket at its start, by whether it is granted by hand
+-- what is known about a ticket at its start, automatic or manual
 abbrev pub known_at_start : Bool → Setup → Record → ℕ → Known
 known_at_start true setup rec now = (opened_by_hand setup rec now).known
 known_at_start false setup rec now = (ticket_opened setup rec now).known
@@ -69,7 +69,7 @@ started_from node now index (ticket ∷ tickets) (rec ∷ records) =
     ∷ started_from node now (index + 1) tickets records
 started_from node now index tickets records = []
 
--- the reading that a start uses
+-- the clock reading that a start uses
 abbrev pub start_reading : ℕ → ℕ
 start_reading reading = min reading (2 ^ 62 - 1)
 

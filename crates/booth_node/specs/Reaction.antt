@@ -1,4 +1,4 @@
--- What a node does with an arrival and with its deadlines: the deeds of one turn, as a tree.
+-- What a node does for an arrival and for its deadlines: the actions of one turn, as a tree.
 use Rattle.std.specs.Prelude.{◌≡◌, ◌-◌, ◌^◌, ℕ, min, max, Bool, true, List, ◌∷◌, length, map, position, slice_get, Option, Some, None, Result, Ok, Err, is_ok, []}
 use Rattle.std.specs.List.{range_with_len}
 use Rattle.booth_keys.specs.declared.ring.Ring.{Ring}
@@ -49,17 +49,16 @@ use Rattle.booth_node.specs.Replies.{replies_to, request_in}
 use Rattle.booth_node.specs.AttributeRequests.{after_wish, attended_place, attr_message, attr_request_in, is_ready}
 use Rattle.booth_node.specs.State.{State, with_ticket}
 
--- ---- what is asked of the host
+-- ---- requests to the host
 
--- A message is as it is sent, with its time; a record is kept under its ticket's name; a job is that of a ticket's
--- handler.
+-- A message has its time; a record is written under its ticket's name; a job is that of a ticket's handler.
 pub data Ask : Type 0 where
   Send : Peer → PlainMessage → Ask
   Keep : List ℕ → Record → Ask
   Start : Job → Ask
 
--- This entry is what was asked, with this answer: the bytes of a send are the message, sealed with the ring where there
--- is one.
+-- This entry is the request, with this answer: the bytes of a send are the message, sealed with the ring if there is
+-- one.
 abbrev pub IsDone : Option Ring → Ask → Bool → Entry → Type 0
 IsDone ring (Send peer message) ok (calls.Send to bytes answer) =
     (to ≡ peer) × (bytes ≡ sealed ring message) × Fits message × (ok ≡ is_ok answer)
@@ -70,14 +69,14 @@ IsDone ring (Start job) ok (calls.Start number ticket handler local expires answ
     × (ok ≡ is_ok answer)
 IsDone ring ask ok entry = ⊥
 
--- ---- one ticket's deeds, among the others
+-- ---- one ticket's actions, among the others
 
--- where a member listens
+-- the address at which a member listens
 abbrev pub peer_at : ConfigSays → Option Member → Option Peer
 peer_at config None = None
 peer_at config (Some member) = Some (record { address = member.address; port = config.port })
 
--- where a message goes
+-- the receiver of a message
 abbrev pub peer_of : ConfigSays → To → Option Peer
 peer_of config (whom.Member place) = peer_at config (slice_get config.members place)
 peer_of config (whom.Client peer) = Some peer
@@ -86,18 +85,18 @@ peer_of config (whom.Client peer) = Some peer
 abbrev pub sent_as : NodeConfig → ℕ → Head → TicketPart → PlainMessage
 sent_as node now head part = stamped node.ring now (record { head = head; content = Ticket part })
 
--- What an ask of a ticket leaves at the node: the answer that the ticket goes on with, and what is counted.
+-- The result of a ticket's request at the node: the answer with which the ticket goes on, and the counters.
 pub record Answered : Type 0 where
   pub ok : Bool
   pub common : Common
 
--- a send to a peer, where there is one: whether it came through is not told, but counted
+-- a send to a peer, if there is one: its success is not passed on, but counted
 abbrev pub sends : Option Peer → PlainMessage → Common → To → Deeds Ask Answered
 sends None message common to = Ends (record { ok = true; common = common })
 sends (Some peer) message common to =
     Does (Send peer message) (λ ok. Ends (record { ok = true; common = count_send common to ok }))
 
--- an ask of the ticket of this name as the node's: each start uses up a number
+-- a request of the ticket with this name as the node's: each start uses up a number
 abbrev pub one_of : NodeConfig → ℕ → List ℕ → Common → TicketAsk → Deeds Ask Answered
 one_of node now name common (KeepsRecord tried) =
     Does (Keep name tried) (λ ok. Ends (record { ok = ok; common = common }))
@@ -106,20 +105,21 @@ one_of node now name common (StartsJob number expires) =
 one_of node now name common (Say to head part) =
     sends (peer_of node.config to) (sent_as node now head part) common to
 
--- What a ticket's deeds leave at the node.
+-- The result of a ticket's actions at the node.
 pub record Lifted (S : Type 0) : Type 0 where
   pub common : Common
   pub left : S
 
--- the deeds of a ticket as the node's, each ask by what it is there
+-- the actions of a ticket as the node's, each request by its meaning there
 abbrev pub lifted : {S : Type 0} → NodeConfig → ℕ → List ℕ → Common → Deeds TicketAsk S → Deeds Ask (Lifted S)
 lifted node now name common (Ends left) = Ends (record { common = common; left = left })
 lifted node now name common (Does ask goes_on) =
     one_of node now name common ask >>= (λ done. lifted node now name done.common (goes_on done.ok))
 
--- What befalls a ticket at this moment, for which these clients wait, and for all tickets so many more may; its
--- prerequisites of a kind hold or do not, and it may start its handler as this job, where it has one. At a deadline the
--- prerequisites of a grant by itself are asked for, and at a client's request those of a grant by hand.
+-- The actions for an event of a ticket at this moment, with the clients that wait for it and the number of further
+-- clients that may wait for any ticket. Its prerequisites of a kind hold or not, and it may start its handler under
+-- this job number, if it has one. At a deadline the prerequisites of an automatic grant count, and at a client's
+-- request those of a manual one.
 abbrev pub befalls : TicketState → List Waiter → ℕ → (GrantKind → Bool) → Option ℕ → Event → ℕ
     → Deeds TicketAsk TicketLeft
 befalls ticket waiters spare ready job Due now =
@@ -140,25 +140,25 @@ acts_as node now state place event (Some ticket) =
     (is_ready node state.attributes place) (job_at node place state.common) event now)
     >>= (λ done. Ends (with_ticket state place done.common done.left))
 
--- what the ticket at a place does
+-- the actions of the ticket at a place
 abbrev pub acts : NodeConfig → ℕ → State → ℕ → Event → Deeds Ask State
 acts node now state place event = acts_as node now state place event (slice_get state.tickets place)
 
 -- ---- the arrival
 
--- What a datagram demands.
+-- The action for a datagram.
 pub data Action : Type 0 where
-  -- it is dropped, for this fault
+  -- it is dropped for this fault
   Drops : DropFault → Action
-  -- the member at a place says something about the ticket at a place
+  -- the member at a place sends a message about the ticket at a place
   Hears : (from ticket : ℕ) → Head → TicketPart → Action
-  -- a client asks something of the ticket at a place
+  -- a client sends a request about the ticket at a place
   Asks : (ticket : ℕ) → Request → Action
-  -- a client asks something of the attributes of the ticket at a place
+  -- a client sends a request about the attributes of the ticket at a place
   Attends : (ticket : ℕ) → AttrRequest → Action
-  -- a client's request is answered with these messages, in this order
+  -- a client's request has these messages as its reply, in this order
   Answers : List PlainMessage → Action
-  -- nothing
+  -- no action
   Rests : Action
 
 -- messages are sent with their time, and sealed
@@ -179,8 +179,8 @@ abbrev pub attended : NodeConfig → Option AttrRequest → Action → Action
 attended node None other = other
 attended node (Some request) other = attends (attended_place node request.ticket) request other
 
--- a request about a ticket of the configuration goes to it, or to its attributes, and each other one is answered at
--- once
+-- a request about a ticket of the configuration goes to the ticket or to its attributes, and every other request is
+-- answered at once
 abbrev pub requested : NodeConfig → ℕ → List TicketState → Common → PlainMessage
     → Option (TicketPart × Request) → Action
 requested node now tickets common message None =
@@ -194,14 +194,14 @@ abbrev pub hears : Option ℕ → Option ℕ → Head → TicketPart → Action
 hears (Some from) (Some ticket) head part = Hears from ticket head part
 hears from ticket head part = Rests
 
--- what a member says goes to the ticket that it is about
+-- a member's message goes to the ticket that it is about
 abbrev pub said : NodeConfig → Head → Content → Action
 said node head (Ticket part) =
     hears (position (has_id head.from) node.config.members)
     (position (is_called part.ticket) node.config.tickets) head part
 said node head content = Rests
 
--- what a message that was let in demands, by whom it is for
+-- the action for an accepted message, by its kind
 abbrev pub routed : NodeConfig → ℕ → List TicketState → Common → Peer → PlainMessage → Direction → Action
 routed node now tickets common from message ToDaemon =
     requested node now tickets common message (request_in from message)
@@ -214,22 +214,22 @@ demanded node now tickets common from (Err fault) = Drops fault
 demanded node now tickets common from (Ok message) =
     routed node now tickets common from message (direction_of message.head.cmd)
 
--- what these bytes demand, by the gate's verdict
+-- the action for these bytes, by the gate's verdict
 abbrev pub action : NodeConfig → ℕ → List TicketState → Common → Peer → List ℕ → Action
 action node now tickets common from bytes =
     demanded node now tickets common from (verdict node.config node.ring node.me now bytes)
 
--- the state once it is done what a client asks of the attributes of the ticket at a place
+-- the state after a client's request about the attributes of the ticket at a place
 abbrev pub after_attending : State → ℕ → AttrRequest → State
 after_attending state ticket request =
     record state { attributes = after_wish state.attributes ticket request.wish }
 
--- a message goes back to who asked
+-- a message goes back to the sender of the request
 abbrev pub sends_back : Peer → PlainMessage → Deeds Ask (Unit {0})
 sends_back from message = Does (Send from message) (λ ok. Ends tt)
 
--- The deeds of an action. A dropped datagram changes one counter; a member's command is counted for it, and then its
--- ticket hears it; a request about attributes is done, and answered.
+-- The calls for an action. A dropped datagram changes one counter; a member's message is counted for the member, and
+-- then goes to its ticket; a request about attributes is done, and answered.
 abbrev pub met : NodeConfig → ℕ → State → Peer → Action → Deeds Ask State
 met node now state from (Drops fault) = Ends (dropped state fault)
 met node now state from (Hears member ticket head part) =
@@ -241,7 +241,7 @@ met node now state from (Attends ticket request) =
 met node now state from (Answers messages) = each (sends_back from) messages >> Ends state
 met node now state from Rests = Ends state
 
--- the end of a job is told to the tickets at these places, one after the other
+-- the tickets at these places are informed about the end of a job, one after the other
 abbrev pub each_over : NodeConfig → ℕ → ℕ → Service → List ℕ → State → Deeds Ask State
 each_over node now job service places = through (λ place state. acts node now state place (Over job service)) places
 
@@ -249,7 +249,7 @@ each_over node now job service places = through (λ place state. acts node now s
 abbrev pub all_places : State → List ℕ
 all_places state = range_with_len 0 (length state.tickets)
 
--- the row of an arrival; a failed next counts as Quiet
+-- the actions for an arrival; a failed `next` counts as Quiet
 abbrev pub arrived : NodeConfig → ℕ → State → Result Arrival Failed → List ℕ → Deeds Ask State
 arrived node now state (Ok (arrivals.Datagram from)) bytes =
     met node now state from (action node now state.tickets state.common from bytes)
@@ -263,35 +263,35 @@ turn_end answer = Went
 
 -- ---- the deadlines
 
--- when each ticket is next to be looked at
+-- the next deadline of each ticket
 abbrev pub deadline_of : TicketState → Option ℕ
 deadline_of ticket = deadline ticket.known
 
--- the places of the tickets whose deadline has come, by deadline and then place
+-- the places of the tickets whose deadline has passed, by deadline and then place
 abbrev pub due_places : ℕ → List TicketState → List ℕ
 due_places now tickets = map (λ entry. entry.1) (due_list now (map deadline_of tickets))
 
--- the deadlines of these tickets, one after the other
+-- the actions for the deadlines of these tickets, one after the other
 abbrev pub each_due : NodeConfig → ℕ → List ℕ → State → Deeds Ask State
 each_due node now places = through (λ place state. acts node now state place Due) places
 
--- each ticket whose deadline has come, as the arrival left it, once; none after Stop
+-- the actions for each ticket whose deadline has passed, in its state after the arrival, once each; none after Stop
 abbrev pub dues : NodeConfig → ℕ → Turn → State → Deeds Ask State
 dues node now Went state = each_due node now (due_places now state.tickets) state
 dues node now Stopped state = Ends state
 
 -- ---- the turn
 
--- the reading that a turn uses: never before the last one, and below 2 ^ 62
+-- the clock reading that a turn uses: never before the last one, and below 2 ^ 62
 abbrev pub used : ℕ → ℕ → ℕ
 used last reading = max last (min reading (2 ^ 62 - 1))
 
--- the whole turn at this moment: the arrival's row, and then the deadlines'
+-- all actions of a turn at this moment: those for the arrival, and then those for the deadlines
 abbrev pub react : NodeConfig → State → ℕ → Result Arrival Failed → List ℕ → Deeds Ask State
 react node state now arrival bytes =
     arrived node now (record state { last_reading = now }) arrival bytes >>= dues node now (turn_end arrival)
 
--- one next with a wait of 100 ms, one now, and then exactly the deeds that these demand
+-- one `next` with a wait of 100 ms, one `now`, and then exactly the actions for these
 abbrev pub IsTurn : NodeConfig → State → Turn → List Entry → State → Type 0
 IsTurn node old turn (calls.Next wait answer bytes ∷ calls.Now reading ∷ entries) new =
     (wait ≡ 100) × (turn ≡ turn_end answer)

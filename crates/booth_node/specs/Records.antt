@@ -1,4 +1,4 @@
--- The records that a member may have kept of a ticket, by what it did.
+-- The records that a member may have written for a ticket, by what it did.
 use Rattle.std.specs.Prelude.{◌≡◌, ◌⊎◌, ℕ, Bool, true, false, List, [], ◌∷◌, slice_get, position, unwrap_or, Option, None, bytes_eq, if◌then◌else◌, is_ok}
 use Rattle.std.specs.Option.{option_map_or}
 use Rattle.booth_conf.specs.Lookups.{is_called}
@@ -13,21 +13,22 @@ abbrev pub Has : {A : Type 0} → List A → A → Type 0
 Has [] x = ⊥
 Has (y ∷ ys) x = (y ≡ x) ⊎ Has ys x
 
--- the record of the ticket at a place that a start read
+-- the record that a start read for the ticket at a place
 abbrev pub record_at : List (Option Record) → ℕ → Record
 record_at records place = record_or_none (unwrap_or (slice_get records place) None)
 
--- a keep that was done leaves its record alone, and one that failed adds it
+-- after a write that was done its record is the only one; a write that failed adds its record
 abbrev pub may_after_keep : Bool → Record → List Record → List Record
 may_after_keep true rec may = rec ∷ []
 may_after_keep false rec may = rec ∷ may
 
--- a start leaves the record alone that it read of the ticket of this name, where its configuration has that
+-- after a start the record that it read for the ticket with this name is the only one, if its configuration has the
+-- ticket
 abbrev pub may_after_start : List ℕ → List TicketConf → List (Option Record) → List Record → List Record
 may_after_start name tickets records may =
     option_map_or (λ place. record_at records place ∷ []) (position (is_called name) tickets) may
 
--- a keep that is cut adds its record
+-- an interrupted write adds its record
 abbrev pub may_after : List ℕ → List Record → SessionEntry → List Record
 may_after name may (Starts node reading records) = may_after_start name node.config.tickets records may
 may_after name may (Makes (calls.Keep ticket rec answer)) =
@@ -39,7 +40,7 @@ abbrev pub may_after_all : List ℕ → List Record → List SessionEntry → Li
 may_after_all name may [] = may
 may_after_all name may (entry ∷ entries) = may_after_all name (may_after name may entry) entries
 
--- with the record of the next entry, where that is a keep of the ticket, done, failed or cut
+-- with the record of the next entry, if that is a write for the ticket, whether done, failed or interrupted
 abbrev pub with_next : List ℕ → List Record → List SessionEntry → List Record
 with_next name may (Makes (calls.Keep ticket rec answer) ∷ entries) =
     if bytes_eq ticket name then rec ∷ may else may
@@ -47,8 +48,9 @@ with_next name may (IsCut (CutKeep ticket rec) ∷ entries) =
     if bytes_eq ticket name then rec ∷ may else may
 with_next name may entries = may
 
--- The records that a member, a site or an arbitrator, may have kept of the ticket of a name, after some entries of it
--- and before others. At first it has the record that it begins with; while its next entry is a keep of the ticket, that
--- record is one of them already. A session whose configuration has no such ticket reads and keeps no record of it.
+-- The records that a member, site or arbitrator, may have written for the ticket with a name, after some of its
+-- entries and before others. At first it has the record with which it begins; if its next entry is a write for the
+-- ticket, the record of that write already counts. A session whose configuration lacks the ticket reads and writes no
+-- record for it.
 abbrev pub may_be_kept : List ℕ → Record → List SessionEntry → List SessionEntry → List Record
 may_be_kept name first before after = with_next name (may_after_all name (first ∷ []) before) after

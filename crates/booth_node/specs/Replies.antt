@@ -1,4 +1,4 @@
--- What a client is answered, and what it asks of a ticket.
+-- The replies to clients, and their requests about a ticket.
 use Rattle.std.specs.Prelude.{ℕ, ◌+◌, ◌++◌, true, false, Bool, List, [], ◌∷◌, map, Option, Some, None, codes, decimal, position, slice_get, if◌then◌else◌}
 use Rattle.std.specs.List.{flat_map, zip}
 use Rattle.booth_base.specs.declared.address.MemberId.{MemberId}
@@ -6,10 +6,11 @@ use Rattle.booth_base.specs.declared.address.Peer.{Peer as Sender}
 use Rattle.booth_base.specs.declared.address.TheConstants.{NO_ONE}
 use Rattle.booth_base.specs.Address.{printed}
 use Rattle.booth_conf.specs.Config.{ConfigSays, has_id}
+use Rattle.booth_conf.specs.Lookups.{is_called}
 use Rattle.booth_conf.specs.declared.members.Member.{Member}
 use Rattle.booth_wire.specs.declared.codes.results.TheConstants.{SUCCESS, MORE, IARG}
 use Rattle.booth_wire.specs.declared.command.Cmd.{Cmd}
-use Rattle.booth_wire.specs.declared.command.Cmd.TheVariants.{CLst, RLst, Peer, CGnt, CRvk, ASet, AGet, ADel, ALst}
+use Rattle.booth_wire.specs.declared.command.Cmd.TheVariants.{CLst, RLst, CTkt, Peer, CGnt, CRvk, ASet, AGet, ADel, ALst}
 use Rattle.booth_wire.specs.Command.{answer_of}
 use Rattle.booth_wire.specs.declared.message.AttrPart.{AttrPart}
 use Rattle.booth_wire.specs.declared.message.Head.{Head}
@@ -19,7 +20,7 @@ use Rattle.booth_ticket.specs.declared.request.Request.{Request}
 use Rattle.booth_ticket.specs.declared.request.Wish.{Wish}
 use Rattle.booth_ticket.specs.declared.request.Wish.TheVariants.{Grant, Revoke}
 use Rattle.booth_ticket.specs.declared.ticket.Owner.{Owner}
-use Rattle.booth_ticket.specs.Ticket.{TicketState, owner}
+use Rattle.booth_ticket.specs.Ticket.{TicketState, owner, told_ticket}
 use Rattle.booth_node.specs.declared.node_config.NodeConfig.{NodeConfig}
 use Rattle.booth_node.specs.declared.state.Counters.{Counters}
 use Rattle.booth_node.specs.declared.state.Common.{Common}
@@ -27,11 +28,11 @@ use Rattle.booth_node.specs.Lists.{cut_lines, part_text}
 
 -- TEXTS
 
--- a number behind a blank
+-- a number after a blank
 abbrev pub spaced : ℕ → List ℕ
 spaced n = codes " " ++ decimal n
 
--- the member's address and the end of its lease in seconds; nobody's
+-- the member's address and the end of its lease in seconds, or that there is no owner
 abbrev pub owner_at : Option Member → ℕ → List ℕ
 owner_at None until_secs = codes "none 0"
 owner_at (Some member) until_secs = printed member.address ++ spaced until_secs
@@ -40,7 +41,7 @@ abbrev pub owner_in : List Member → Option ℕ → ℕ → List ℕ
 owner_in members None until_secs = codes "none 0"
 owner_in members (Some place) until_secs = owner_at (slice_get members place) until_secs
 
--- who is shown as a ticket's owner
+-- the known owner of a ticket
 abbrev pub owner_text : ConfigSays → Option Owner → List ℕ
 owner_text config None = codes "none 0"
 owner_text config (Some shown) =
@@ -62,7 +63,8 @@ drops_line drops = codes "dropped" ++ flat_map spaced drops ++ codes "\n"
 abbrev pub role_of : Bool → List ℕ
 role_of site = if site then codes "site " else codes "arbitrator "
 
--- when the last datagram of a member was let in, how many were, and how many were sent to it or failed to be
+-- when the last datagram of a member was accepted, how many were accepted, and how many sends to it succeeded and
+-- failed
 abbrev pub peer_line : Member × Counters → List ℕ
 peer_line p =
     role_of p.0.site ++ printed p.0.address
@@ -77,7 +79,7 @@ abbrev pub peers_text : NodeConfig → Common → List ℕ
 peers_text node common =
     drops_line common.drops ++ flat_map (other_line node) (zip node.config.members common.members)
 
--- the text of the reply to a command: where it has none, it is empty
+-- the text of the reply to a command, empty if it has none
 abbrev pub text_for : NodeConfig → Common → Cmd → List ℕ
 text_for node common Peer = peers_text node common
 text_for node common cmd = []
@@ -99,7 +101,32 @@ no_ticket Bare = None
 no_ticket (Attr part) = None
 no_ticket (Text text) = None
 
--- it repeats the attribute, which such a request names
+-- ---- the state of a ticket
+
+abbrev pub ticket_in : List TicketState → Option ℕ → Option TicketState
+ticket_in tickets None = None
+ticket_in tickets (Some place) = slice_get tickets place
+
+-- the ticket with this name, if the configuration has it
+abbrev pub ticket_named : NodeConfig → List TicketState → List ℕ → Option TicketState
+ticket_named node tickets name = ticket_in tickets (position (is_called name) node.config.tickets)
+
+-- the state of the ticket that a request names; for an unknown ticket, only its name
+abbrev pub told_of : Option TicketState → ℕ → TicketPart → Option Reply
+told_of (Some ticket) now asked =
+    Some (record { result = SUCCESS; content = Ticket (told_ticket ticket.setup ticket.known now) })
+told_of None now asked = no_ticket (Ticket asked)
+
+-- the reply to a request for one ticket
+abbrev pub told_for : NodeConfig → ℕ → List TicketState → Content → Option Reply
+told_for node now tickets (Ticket asked) = told_of (ticket_named node tickets asked.ticket) now asked
+told_for node now tickets Bare = None
+told_for node now tickets (Attr part) = None
+told_for node now tickets (Text text) = None
+
+-- ---- attributes
+
+-- the reply repeats the attribute, which the request names
 abbrev pub no_attribute_of : AttrPart → Option (List ℕ) → Option Reply
 no_attribute_of part (Some name) = Some (record { result = IARG; content = Attr part })
 no_attribute_of part None = None
@@ -110,17 +137,18 @@ no_attribute Bare = None
 no_attribute (Ticket part) = None
 no_attribute (Text text) = None
 
--- the reply to a client's command with this content and this text; none to other commands, and none to a list, which is
--- answered in parts
-abbrev pub reply_with : List ℕ → Cmd → Content → Option Reply
-reply_with text Peer content = Some (record { result = SUCCESS; content = Text text })
-reply_with text CGnt content = no_ticket content
-reply_with text CRvk content = no_ticket content
-reply_with text ASet content = no_attribute content
-reply_with text AGet content = no_attribute content
-reply_with text ADel content = no_attribute content
-reply_with text ALst content = Some (record { result = IARG; content = Text text })
-reply_with text cmd content = None
+-- the reply to a client's command with this content, if this text and this part about a ticket were made for it; none
+-- for other commands, and none for a list, which is answered in parts
+abbrev pub reply_with : List ℕ → Option Reply → Cmd → Content → Option Reply
+reply_with text told CTkt content = told
+reply_with text told Peer content = Some (record { result = SUCCESS; content = Text text })
+reply_with text told CGnt content = no_ticket content
+reply_with text told CRvk content = no_ticket content
+reply_with text told ASet content = no_attribute content
+reply_with text told AGet content = no_attribute content
+reply_with text told ADel content = no_attribute content
+reply_with text told ALst content = Some (record { result = IARG; content = Text text })
+reply_with text told cmd content = None
 
 abbrev pub reply_message : MemberId → ℕ → Cmd → Reply → PlainMessage
 reply_message me request cmd reply = record {
@@ -138,13 +166,13 @@ reply_message me request cmd reply = record {
   content = reply.content;
 }
 
--- the message of a reply, where the command has an answer and there is a reply
+-- the message of a reply, if the command has an answer and there is a reply
 abbrev pub answered : MemberId → ℕ → Option Cmd → Option Reply → List PlainMessage
 answered me request (Some cmd) (Some reply) = reply_message me request cmd reply ∷ []
 answered me request (Some cmd) None = []
 answered me request None reply = []
 
--- a part of a list with this text, as the reply of this number
+-- a part of a list with this text, as the reply with this number
 abbrev pub part_message : MemberId → ℕ → ℕ → ℕ → List ℕ → PlainMessage
 part_message me request number result text =
     let whole : PlainMessage = reply_message me request RLst (record { result = result; content = Text text }) in
@@ -161,14 +189,15 @@ abbrev pub is_list : Cmd → Bool
 is_list CLst = true
 is_list cmd = false
 
--- what a client's message is answered with at once, at this moment, in this order: a list in parts, all else by one
--- message at most
+-- the immediate answer to a client's message, at this moment, in this order: a list in parts, anything else in at
+-- most one message
 abbrev pub replies_to : NodeConfig → ℕ → List TicketState → Common → PlainMessage → List PlainMessage
 replies_to node now tickets common message =
     if is_list message.head.cmd
     then part_messages node.me message.head.request 0 (cut_lines 0 (list_lines node now tickets))
     else answered node.me message.head.request (answer_of message.head.cmd)
-    (reply_with (text_for node common message.head.cmd) message.head.cmd message.content)
+    (reply_with (text_for node common message.head.cmd) (told_for node now tickets message.content)
+    message.head.cmd message.content)
 
 -- ---- requests about a ticket
 
@@ -182,6 +211,6 @@ request_of from head (Some wish) (Ticket part) =
     Some (part, record { wish = wish; from = from; number = head.request; options = head.options })
 request_of from head wish content = None
 
--- what a client's message asks of a ticket, where it does
+-- the request about a ticket in a client's message, if it has one
 abbrev pub request_in : Sender → PlainMessage → Option (TicketPart × Request)
 request_in from message = request_of from message.head (wish_of message.head.cmd) message.content

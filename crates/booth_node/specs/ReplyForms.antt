@@ -1,4 +1,4 @@
--- What the code says of a reply that it makes.
+-- The properties of the code's replies.
 use Rattle.std.specs.Prelude.{◌≡◌, true, false, Bool, List, [], ◌∷◌, length, nat_le, ℕ, Option, Some, None, if◌then◌else◌}
 use Rattle.booth_keys.specs.declared.ring.Ring.{Ring}
 use Rattle.booth_wire.specs.declared.command.Cmd.{Cmd}
@@ -21,19 +21,19 @@ pub record HasForm (cmd : Cmd) (content : Content) : Type 0 where
 abbrev pub reply_of : MadeReply → Reply
 reply_of reply = record { result = reply.result; content = content_of reply.body }
 
--- where there is a reply, it stands in this frame with its time, sealed; and this says whether there is one
+-- if there is a reply, this frame has it, with its time and sealed; the Boolean says whether there is one
 abbrev pub IsWritten : Option Ring → ℕ → List PlainMessage → Bool → List ℕ → Type 0
 IsWritten ring now [] written frame = written ≡ false
 IsWritten ring now (reply ∷ []) written frame =
     (written ≡ true) × (frame ≡ sealed ring (stamped ring now reply)) × Fits (stamped ring now reply)
 IsWritten ring now (reply ∷ next ∷ replies) written frame = ⊥
 
--- the result of a part that has so many of these lines
+-- the result of a part with this many of these lines
 abbrev pub part_result : List (List ℕ) → ℕ → ℕ
 part_result lines count = if nat_le (length lines) count then SUCCESS else MORE
 
--- The first part of these lines stands in this frame as the reply of this number, with its time, sealed; it has so many
--- lines.
+-- This frame has the first part of these lines as the reply with this number, with its time and sealed; the part has
+-- this many lines.
 pub record IsPartWritten (node : NodeConfig) (now : ℕ) (lines : List (List ℕ)) (request number count : ℕ)
     (frame : List ℕ) : Type 0 where
   pub text : List ℕ

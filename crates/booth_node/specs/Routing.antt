@@ -1,4 +1,4 @@
--- What the code says of where a message goes.
+-- The properties of the code's routing of messages.
 use Rattle.std.specs.Prelude.{◌≡◌, ◌<◌, ℕ, List, length, position, Option, Some}
 use Rattle.booth_base.specs.declared.address.Peer.{Peer}
 use Rattle.booth_base.specs.declared.address.MemberId.{MemberId}
@@ -16,7 +16,7 @@ use Rattle.booth_node.specs.AttributeRequests.{attr_request_in}
 use Rattle.booth_node.specs.Replies.{replies_to}
 use Rattle.booth_node.specs.Reaction.{Action, Hears, Asks, Attends as AttendsTo, Rests, answers, attended, requested, routed}
 
--- the action that the code names, where a request that is answered at once demands this one
+-- the action that the code names, if this is the action for a request that is answered at once
 abbrev pub named : Action → Made → Action
 named answer (made.Hear from ticket head part) = Hears from ticket head part
 named answer (made.Ask ticket request) = Asks ticket request
@@ -24,33 +24,33 @@ named answer (made.Attend ticket request) = AttendsTo ticket request
 named answer made.Answer = answer
 named answer made.Rest = Rests
 
--- the code names this action, whatever is answered at once
+-- the code names this action, for any immediate answer
 abbrev pub Names : Made → Action → Type 0
 Names made_action action = (answer : Action) → named answer made_action ≡ action
 
--- the code names where a request goes that asks nothing of a ticket itself
+-- the code names the action for a request that is not about a ticket itself
 abbrev pub Attends : NodeConfig → PlainMessage → Made → Type 0
 Attends node message made_action =
     (answer : Action) → named answer made_action ≡ attended node (attr_request_in message) answer
 
--- what is demanded where this message is answered at once
+-- the action if this message is answered at once
 abbrev pub at_once : NodeConfig → ℕ → List TicketState → Common → PlainMessage → Action
 at_once node now tickets common message = answers node.ring now (replies_to node now tickets common message)
 
--- the code names where a request goes in which this was found, however the node stands
+-- the code names the action for a request with this content, in every state of the node
 abbrev pub Requests : NodeConfig → PlainMessage → Option (TicketPart × Request) → Made → Type 0
 Requests node message found made_action =
     (now : ℕ) (tickets : List TicketState) (common : Common)
     → named (at_once node now tickets common message) made_action ≡ requested node now tickets common message found
 
--- the code names where a message of this peer goes, however the node stands
+-- the code names the action for a message of this peer, in every state of the node
 abbrev pub Routes : NodeConfig → Peer → PlainMessage → Made → Type 0
 Routes node from message made_action =
     (now : ℕ) (tickets : List TicketState) (common : Common)
     → named (at_once node now tickets common message) made_action
     ≡ routed node now tickets common from message (direction_of message.head.cmd)
 
--- the places that the code names are those of the configuration: that of the sender, and that of a ticket
+-- the places in the code's action are those of the configuration: the place of the sender, and that of a ticket
 abbrev pub IsPlaced : NodeConfig → MemberId → Made → Type 0
 IsPlaced node sender (made.Hear from ticket head part) =
     (position (has_id sender) node.config.members ≡ Some from) × (ticket < length node.config.tickets)

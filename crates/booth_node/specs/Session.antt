@@ -1,4 +1,4 @@
--- What a member does over time: its sessions, each a start and then calls of a node log, up to any of them.
+-- What a member does over time: its sessions, each a start and then calls of turns, cut off after any of them.
 use Rattle.std.specs.Prelude.{◌≡◌, ℕ, Bool, true, List, [], ◌∷◌, length, Option, Result, is_ok}
 use Rattle.booth_base.specs.declared.address.Peer.{Peer}
 use Rattle.booth_base.specs.Tree.{Deeds, Ends, Does}
@@ -17,7 +17,7 @@ use Rattle.booth_node.specs.State.{State}
 
 -- ---- entries
 
--- A call of a turn whose answer never came.
+-- A call of a turn that was interrupted before its answer.
 pub data CutCall : Type 0 where
   CutNext : CutCall
   CutNow : CutCall
@@ -25,31 +25,31 @@ pub data CutCall : Type 0 where
   CutKeep : (ticket : List ℕ) (tried : Record) → CutCall
   CutStart : (job : Job) → CutCall
 
--- What a member does: it starts, in the version that its node names, with one reading and the record of each ticket in
--- file order, as they were read; it makes a call, with its answer; or it makes a call that is cut, which is its
--- session's last.
+-- What a member does: it starts, in the version of its node, with one clock reading and the record of each ticket in
+-- file order, as it read them; it makes a call, with its answer; or it makes an interrupted call, which is the last
+-- of its session.
 pub data SessionEntry : Type 0 where
   Starts : (node : NodeConfig) (reading : ℕ) (records : List (Option Record)) → SessionEntry
   Makes : (call : Entry) → SessionEntry
   IsCut : (call : CutCall) → SessionEntry
 
--- ---- where they leave the member
+-- ---- the state of the member afterwards
 
--- A member is down; or it has the deeds of a turn before it, of which none are left between two turns; or it has the
--- answer of a next, and is to read its clock.
+-- A member is down; or the actions of a turn remain, none of them between two turns; or it has the answer of a
+-- `next`, and must read its clock.
 pub data Stand : Type 0 where
   Down : Stand
   Doing : (node : NodeConfig) (deeds : Deeds Ask State) → Stand
   Hearing : (node : NodeConfig) (old : State) (answer : Result Arrival Failed) (bytes : List ℕ) → Stand
 
--- whether a call did what was asked; sends, keeps and starts alone say so
+-- whether a call succeeded; only sends, writes and starts can fail
 abbrev pub did : Entry → Bool
 did (calls.Send to bytes answer) = is_ok answer
 did (calls.Keep ticket rec answer) = is_ok answer
 did (calls.Start number ticket handler local expires answer) = is_ok answer
 did call = true
 
--- a next with a wait of 100 ms begins a turn, then the clock is read, and then each deed of the reaction is done
+-- a `next` with a wait of 100 ms begins a turn, then the clock is read, and then each action of the turn is done
 abbrev pub MayMake : Stand → Entry → Type 0
 MayMake (Doing node (Ends old)) (calls.Next wait answer bytes) = wait ≡ 100
 MayMake (Doing node (Does ask go)) call = IsDone node.ring ask (did call) call
@@ -63,7 +63,7 @@ after_call (Hearing node old answer bytes) (calls.Now reading) =
     Doing node (react node old (used old.last_reading reading) answer bytes)
 after_call stand call = stand
 
--- the call that comes next may be cut
+-- the next call may be interrupted
 abbrev pub IsNextDeed : NodeConfig → Ask → CutCall → Type 0
 IsNextDeed node (Send peer message) (CutSend to bytes) = (to ≡ peer) × (bytes ≡ sealed node.ring message) × Fits message
 IsNextDeed node (Keep name tried) (CutKeep ticket rec) = (ticket ≡ name) × (rec ≡ tried)
@@ -76,19 +76,19 @@ MayBeCut (Doing node (Does ask go)) call = IsNextDeed node ask call
 MayBeCut (Hearing node old answer bytes) CutNow = Unit {0}
 MayBeCut stand call = ⊥
 
--- A session may end anywhere, and then the next may start; a cut call is its last.
+-- A session may end anywhere, and then the next may start; an interrupted call is its last.
 abbrev pub MayDo : Stand → SessionEntry → Type 0
 MayDo stand (Starts node reading records) = length records ≡ length node.config.tickets
 MayDo stand (Makes call) = MayMake stand call
 MayDo stand (IsCut call) = MayBeCut stand call
 
--- a start leaves the state that the node is opened in, between two turns
+-- a start leaves the node in its opening state, between two turns
 abbrev pub after_entry : Stand → SessionEntry → Stand
 after_entry stand (Starts node reading records) = Doing node (Ends (opened node records reading))
 after_entry stand (Makes call) = after_call stand call
 after_entry stand (IsCut call) = Down
 
--- from where the member stands, these are the rest of a session and then sessions, one after the other
+-- from the member's current state, these are the rest of a session and then whole sessions, one after the other
 abbrev pub AreSessions : Stand → List SessionEntry → Type 0
 AreSessions stand [] = Unit {0}
 AreSessions stand (entry ∷ entries) = MayDo stand entry × AreSessions (after_entry stand entry) entries

@@ -1,12 +1,12 @@
--- What a node is between two turns: plain data.
+-- The state of a node between two turns, as plain data.
 use Rattle.std.specs.Prelude.{ℕ, List, slice_set}
 use Rattle.booth_attr.specs.Attributes.{Attributes}
 use Rattle.booth_node.specs.declared.state.Common.{Common}
 use Rattle.booth_ticket.specs.declared.waiters.Waiter.{Waiter}
 use Rattle.booth_ticket.specs.Ticket.{TicketState, TicketLeft}
 
--- the tickets in the order of the configuration, the clients that wait for each, the attributes of each, what is
--- counted beside them, and the last reading that was used, in milliseconds
+-- the tickets in the order of the configuration, the clients that wait for each, the attributes of each, the
+-- counters, and the last reading that was used, in milliseconds
 pub record State : Type 0 where
   pub tickets : List TicketState
   pub waiters : List (List Waiter)
@@ -14,7 +14,7 @@ pub record State : Type 0 where
   pub common : Common
   pub last_reading : ℕ
 
--- what a call of the ticket at a place left, in the place of what was there, and what its deeds changed beside it
+-- the state after a call of the ticket at a place, with that ticket replaced and the counters changed
 abbrev pub with_ticket : State → ℕ → Common → TicketLeft → State
 with_ticket state place common left = record state {
   tickets = slice_set state.tickets place left.ticket;

@@ -9,7 +9,7 @@ abbrev pub state_with : TicketTable → ℕ → State
 state_with table last_reading =
     state_of_parts table.tickets.items table.waiters table.attrs table.common last_reading
 
--- nothing but what is made to be told is another
+-- only the buffer for messages has changed
 pub record TellsAlone (old new : TicketTable) : Type 0 where
   pub node : new.node ≡ old.node
   pub tickets : new.tickets.items ≡ old.tickets.items

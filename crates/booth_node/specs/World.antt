@@ -24,24 +24,24 @@ use Rattle.booth_node.specs.Records.{Has, record_at, may_be_kept}
 
 -- ---- a world
 
--- What a member did at a true time, which is counted in ticks.
+-- An entry of a world: what a member did at a true time, counted in ticks.
 pub record WorldEntry : Type 0 where
   pub member : ℕ
   pub time : ℕ
   pub what : SessionEntry
 
--- What a member has when the world begins: whether it was of version 2 before, and the record of each ticket, by its
--- name.
+-- What a member has when the world begins: whether it was of version 2 before, and the record of each ticket, by the
+-- ticket's name.
 pub record Beginning : Type 0 where
   pub second : Bool
   pub records : List ℕ → Record
 
--- nothing was kept before, which counts as a record of version 1
+-- nothing was written before, which counts as a record of version 1
 abbrev pub from_nothing : Beginning
 from_nothing = record { second = false; records = λ name. no_record }
 
--- The members, how many ticks of true time make a millisecond, one clock for each member, all of one length, what each
--- member begins with, and the entries. Members are named by their places.
+-- The members, how many ticks of true time make a millisecond, one clock for each member, all of the same length,
+-- what each member begins with, and the entries. Members are named by their places.
 pub record World : Type 0 where
   pub members : List Member
   pub ticks : ℕ
@@ -62,11 +62,11 @@ entries_of m [] = []
 entries_of m (entry ∷ entries) =
     if entry.member == m then entry.what ∷ entries_of m entries else entries_of m entries
 
--- the record of the ticket of a name that a member begins with
+-- the record of the ticket with a name, with which a member begins
 abbrev pub begins_with : World → ℕ → List ℕ → Record
 begins_with w m name = (w.begins m).records name
 
--- this holds of each entry, with those before it
+-- a statement holds for each entry, together with those before it
 abbrev pub AtEach : World → (List WorldEntry → WorldEntry → Type 0) → Type 0
 AtEach w P =
     (before after : List WorldEntry) (entry : WorldEntry) → w.entries ≡ before ++ entry ∷ after → P before entry
@@ -77,7 +77,8 @@ abbrev pub last_time : ℕ → List WorldEntry → ℕ
 last_time time [] = time
 last_time time (entry ∷ entries) = last_time entry.time entries
 
--- A text says these members; each entry is a member's; true times never fall along the list, and lie within the clocks.
+-- A text spells these members; each entry is that of a member; true times never fall along the list, and lie within
+-- the clocks.
 pub record HasForm (w : World) : Type 0 where
   pub said : (config : ConfigSays) × IsSound config × (config.members ≡ w.members)
   pub members : AtEach w (λ before entry. entry.member < members_of w)
@@ -86,8 +87,8 @@ pub record HasForm (w : World) : Type 0 where
 
 -- ---- its premises
 
--- The node of a start of this member: a text says its configuration, with the members of all; and it is in either
--- version. All else of its configuration is its own, its tickets too, and so is its ring of keys.
+-- The node of a start of this member: a text spells its configuration, which has the members of all; and the node is
+-- of either version. Everything else in its configuration is its own, also its tickets, and so is its ring of keys.
 pub record IsNodeOf (w : World) (m : ℕ) (node : NodeConfig) : Type 0 where
   pub sound : IsSound node.config
   pub members : node.config.members ≡ w.members
@@ -101,20 +102,20 @@ HasConfiguration w entry what = Unit {0}
 abbrev pub clock_at : World → ℕ → ℕ → ℕ
 clock_at w m time = slice_index (w.clock m) time
 
--- each reading is that of the member's clock at this true time; a start's too
+-- each reading is that of the member's clock at this true time, also that of a start
 abbrev pub ReadsClock : World → WorldEntry → SessionEntry → Type 0
 ReadsClock w entry (Starts node reading records) = reading ≡ clock_at w entry.member entry.time
 ReadsClock w entry (Makes (calls.Now reading)) = reading ≡ clock_at w entry.member entry.time
 ReadsClock w entry what = Unit {0}
 
--- Each member has one clock through all its starts, which never falls, and reads nothing else.
+-- Each member has one clock through all its starts, which never falls, and reads no other.
 pub record HasRisingClocks (w : World) : Type 0 where
   pub some : 0 < w.span
   pub long : (m : ℕ) → m < members_of w → length (w.clock m) ≡ w.span
   pub rising : (m : ℕ) → m < members_of w → IsRising (w.clock m)
   pub read : AtEach w (λ before entry. ReadsClock w entry entry.what)
 
--- Each member has one clock through all its starts, which drifts within the bounds, and reads nothing else.
+-- Each member has one clock through all its starts, which drifts within the bounds, and reads no other.
 pub record HasTrueClocks (w : World) : Type 0 where
   pub ticking : 0 < w.ticks
   pub some : 0 < w.span
@@ -126,9 +127,9 @@ pub record HasTrueClocks (w : World) : Type 0 where
 abbrev pub IsMemberId : World → MemberId → Type 0
 IsMemberId w id = (m : ℕ) × (m < members_of w) × (id_at w m ≡ id)
 
--- A record holds nothing where its member's clock first reads this. Its lease, if there is one, is over. It is of
--- version 1, and has nothing beside its term and its lease; or of version 2, of a member that was of version 2. What it
--- is bound and promised to are members; and a promise, live or over, is of a term no later than its own, and was made
+-- A record holds nothing if its member's clock first reads this. Its lease, if it has one, has ended. It is of
+-- version 1, and has nothing but its term and its lease; or of version 2, of a member that was of version 2. Its vote
+-- and its promise are for members; and a promise, live or over, is of a term no later than its own, and was made
 -- after the abstention.
 pub record HoldsNothing (w : World) (m reading : ℕ) (kept : Record) : Type 0 where
   pub over : ForSome kept.lease (λ lease. lease.until ≤ reading)
@@ -137,22 +138,22 @@ pub record HoldsNothing (w : World) (m reading : ℕ) (kept : Record) : Type 0 w
   pub promise : ForSome kept.promise
       (λ promise. IsMemberId w promise.to × (promise.term ≤ kept.term) × (kept.abstain ≤ reading))
 
--- a start's configuration has no ticket of this name that is granted by hand
+-- a start's configuration has no manual ticket with this name
 abbrev pub HasNoManual : List ℕ → SessionEntry → Type 0
 HasNoManual name (Starts node reading records) =
     (place : ℕ) (ticket : TicketConf) → slice_get node.config.tickets place ≡ Some ticket → ticket.name ≡ name
     → ticket.manual ≡ false
 HasNoManual name what = Unit {0}
 
--- No ticket is held when the world begins, but for those that some start has as manual ones: of these a member begins
+-- No ticket is held when the world begins, except tickets that some start has as manual: for these a member begins
 -- with any record.
 abbrev pub BeginsFree : World → Type 0
 BeginsFree w =
     (m : ℕ) (name : List ℕ) → AtEach w (λ before entry. HasNoManual name entry.what)
     → HoldsNothing w m (clock_at w m 0) (begins_with w m name)
 
--- A start reads of each ticket that it has a record that its member may have kept, a site or an arbitrator. So where
--- the member never started in this world before, it reads that which it begins with.
+-- A start reads, for each of its tickets, a record that its member, site or arbitrator, may have written. So a member
+-- that never started in this world before reads the record with which it begins.
 abbrev pub ReadsKept : World → List WorldEntry → WorldEntry → SessionEntry → Type 0
 ReadsKept w before entry (Starts node reading records) =
     (place : ℕ) (ticket : TicketConf) → slice_get node.config.tickets place ≡ Some ticket
@@ -174,13 +175,13 @@ StaysSecond w before entry (Starts node reading records) =
     ((w.begins entry.member).second ≡ true) ⊎ WasSecond (entries_of entry.member before) → node.second ≡ true
 StaysSecond w before entry what = Unit {0}
 
--- the bytes of a send; one that failed, or was cut, is one too
+-- the bytes of a send; a send that failed or was interrupted counts
 abbrev pub IsSend : SessionEntry → List ℕ → Type 0
 IsSend (Makes (calls.Send to bytes answer)) sent = bytes ≡ sent
 IsSend (IsCut (CutSend to bytes)) sent = bytes ≡ sent
 IsSend what sent = ⊥
 
--- The member whose id a message bears sent the same message, by one of these entries.
+-- The member whose id a message carries sent the same message, in one of these entries.
 pub record WasSent (w : World) (before : List WorldEntry) (message : PlainMessage) : Type 0 where
   pub entry : WorldEntry
   pub earlier : Has before entry
@@ -189,22 +190,22 @@ pub record WasSent (w : World) (before : List WorldEntry) (message : PlainMessag
   pub sent : IsSend entry.what bytes
   pub same : decoded bytes ≡ Ok message
 
--- where the reading of a turn lets a member's message in, it was sent
+-- if the turn accepts a member's message at this reading, that message was sent
 abbrev pub HearsSent : World → List WorldEntry → Stand → SessionEntry → Type 0
 HearsSent w before (Hearing node old (Ok (arrivals.Datagram from)) bytes) (Makes (calls.Now reading)) =
     (message : PlainMessage) → verdict node.config node.ring node.me (used old.last_reading reading) bytes ≡ Ok message
     → direction_of message.head.cmd ≡ BetweenMembers → WasSent w before message
 HearsSent w before stand what = Unit {0}
 
--- where a member stands after these entries of the world
+-- the state of a member after these entries of the world
 abbrev pub stand_after : ℕ → List WorldEntry → Stand
 stand_after m before = after_entries Down (entries_of m before)
 
--- A world has seven premises. What members begin with holds no automatic ticket; all starts have the
--- members of all; clocks are true; records return as they may have been kept; a member's sessions of version
--- 1 come before its sessions of version 2; a member's message that is let in was sent by that member, earlier, and may
--- come to any member, any number of times or never; and one daemon of each member runs at a time. All else is free:
--- what clients ask, what fails, what is cut, and when.
+-- A world has seven premises. Members begin with records that hold no automatic ticket; all starts have the same
+-- members; clocks are true; records return as the member may have written them; a member's sessions of version 1 come
+-- before its sessions of version 2; an accepted message of a member was sent by that member, earlier, and may reach
+-- any member, any number of times or never; and one daemon of each member runs at a time. Everything else is
+-- arbitrary: what clients request, what fails, what is interrupted, and when.
 pub record IsWorld (w : World) : Type 0 where
   pub form : HasForm w
   pub nothing_held : BeginsFree w
@@ -215,8 +216,8 @@ pub record IsWorld (w : World) : Type 0 where
   pub members_speak : AtEach w (λ before entry. HearsSent w before (stand_after entry.member before) entry.what)
   pub one_daemon : (m : ℕ) → m < members_of w → AreSessions Down (entries_of m w.entries)
 
--- An untimed world has all these premises but that clocks are true: they rise, and nothing is asked of their pace. Each
--- world is one.
+-- An untimed world has all these premises except that clocks are true: clocks rise, at any pace. Each world is
+-- untimed too.
 pub record IsUntimedWorld (w : World) : Type 0 where
   pub form : HasForm w
   pub nothing_held : BeginsFree w
@@ -229,7 +230,7 @@ pub record IsUntimedWorld (w : World) : Type 0 where
 
 -- ---- a world of version 2
 
--- where it is a start, it is one of version 2
+-- if it is a start, it is one of version 2
 abbrev pub IsSecondStart : SessionEntry → Type 0
 IsSecondStart (Starts node reading records) = node.second ≡ true
 IsSecondStart what = Unit {0}
@@ -240,15 +241,15 @@ IsSecondWorld w = AtEach w (λ before entry. IsSecondStart entry.what)
 
 -- ---- one ticket of a world
 
--- where a start's configuration has the ticket, it has it of this kind and with these times
+-- if a start's configuration has the ticket, it has it with this kind and these times
 abbrev pub StartsWithIt : TicketConf → SessionEntry → Type 0
 StartsWithIt ticket (Starts node reading records) =
     (place : ℕ) (own : TicketConf) → slice_get node.config.tickets place ≡ Some own → own.name ≡ ticket.name
     → (own.manual ≡ ticket.manual) × (own.times ≡ ticket.times)
 StartsWithIt ticket what = Unit {0}
 
--- A ticket that a text says; and all starts that have it agree on its kind and its times. Some may have no such ticket;
--- and weights, handlers and prerequisites may differ.
+-- A ticket that a text spells; and all starts that have it agree on its kind and its times. Some may not have it; and
+-- weights, handlers and prerequisites may differ.
 pub record IsOneTicket (w : World) (ticket : TicketConf) : Type 0 where
   pub config : ConfigSays
   pub sound : IsSound config
@@ -261,7 +262,7 @@ abbrev pub StartsIn : ConfigSays → SessionEntry → Type 0
 StartsIn config (Starts node reading records) = node.config ≡ config
 StartsIn config what = Unit {0}
 
--- where all starts have one configuration, each ticket of it is one
+-- if all starts have one configuration, each of its tickets is one
 abbrev pub OneConfigurationIsEnough : Type 0
 OneConfigurationIsEnough =
     (w : World) (config : ConfigSays) → IsSound config → AtEach w (λ before entry. StartsIn config entry.what)

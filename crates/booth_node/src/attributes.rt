@@ -1,4 +1,4 @@
-//! What clients ask of the attributes of a ticket, what they are answered, and whether prerequisites hold.
+//! Clients' requests about the attributes of a ticket, their replies, and whether prerequisites hold.
 ghost use Rattle.std.specs.Prelude.{◌≡◌, ◌<◌, true, length, option_map};
 ghost use Rattle.booth_wire.specs.PlainMessage.{Attr, Text, content_of, has_text, plain_of};
 ghost use Rattle.booth_node.specs.ReplyForms.{HasForm, reply_of};
@@ -12,16 +12,16 @@ use booth_base::{AttrValue, Name, TextBuf};
 use booth_conf::GrantKind;
 use booth_wire::{AttrPart, Body, Cmd, Head, Message, results};
 
-/// What a client wishes of the attributes of a ticket.
+/// A request about the attributes of a ticket.
 #[derive(Drop)]
 pub(crate) enum AttrWish {
-    /// That this name has this value.
+    /// Give this name this value.
     Set(Pair),
-    /// The value of this name. The value that the client said is repeated where the name is not there.
+    /// Return the value of this name. If there is no such name, the reply repeats the client's value.
     Get(Pair),
-    /// That this name is gone.
+    /// Delete this name.
     Delete(Pair),
-    /// All names, with their values.
+    /// Return all names, with their values.
     List,
 }
 
@@ -35,7 +35,7 @@ pub(crate) struct AttrRequest {
     pub wish: AttrWish,
 }
 
-/// Whether the prerequisites of the ticket at a place hold that a grant of this kind asks for.
+/// Returns whether the prerequisites hold that a grant of this kind needs, for the ticket at a place.
 pub(crate) fn is_ready(node: &NodeConfig, attrs: &Attrs, place: u32, kind: GrantKind) -> bool
     requires { place < length attrs.now.lists }
     ensures { result ≡ is_ready node.now attrs.now place kind }
@@ -46,7 +46,7 @@ pub(crate) fn is_ready(node: &NodeConfig, attrs: &Attrs, place: u32, kind: Grant
     }
 }
 
-// An attribute as a message names it.
+// Returns an attribute as a message names it.
 fn pair_of(name: &Name, value: &AttrValue) -> Pair
     ensures { result ≡ record { name = name.now; value = value.now } }
 {
@@ -56,7 +56,7 @@ fn pair_of(name: &Name, value: &AttrValue) -> Pair
     }
 }
 
-// What a command wishes of attributes, where it does.
+// Returns the request of a command, if it is about attributes.
 fn attr_wish(cmd: Cmd, part: &AttrPart) -> Option<AttrWish>
     ensures { result ≡ attr_wish cmd part.now.name part.now.value }
 {
@@ -65,8 +65,9 @@ fn attr_wish(cmd: Cmd, part: &AttrPart) -> Option<AttrWish>
         Cmd::AGet => Some(AttrWish::Get(pair_of(part.name.as_ref()?, &part.value))),
         Cmd::ADel => Some(AttrWish::Delete(pair_of(part.name.as_ref()?, &part.value))),
         Cmd::ALst => Some(AttrWish::List),
-        Cmd::CLst | Cmd::Peer | Cmd::CGnt | Cmd::CRvk => None,
-        Cmd::RLst | Cmd::RPer | Cmd::RALs | Cmd::RGnt | Cmd::RRvk | Cmd::RAtr => None,
+        Cmd::CLst | Cmd::CTkt | Cmd::Peer | Cmd::CGnt | Cmd::CRvk => None,
+        Cmd::RLst | Cmd::RTkt | Cmd::RPer | Cmd::RALs => None,
+        Cmd::RGnt | Cmd::RRvk | Cmd::RAtr => None,
         Cmd::Stat | Cmd::MIdx | Cmd::RVot | Cmd::VtFr | Cmd::HrtB => None,
         Cmd::Ack | Cmd::UpdE | Cmd::Revk | Cmd::Rjc => None,
     }
@@ -83,7 +84,7 @@ fn attr_request_of(head: &Head, part: &AttrPart) -> Option<AttrRequest>
     })
 }
 
-/// What a client's message asks of attributes, where it does.
+/// Returns the request in a client's message, if it is about attributes.
 pub(crate) fn attr_request_in(message: &Message<'_>) -> Option<AttrRequest>
     ensures { result ≡ attr_request_in (plain_of message.now) }
 {
@@ -93,7 +94,7 @@ pub(crate) fn attr_request_in(message: &Message<'_>) -> Option<AttrRequest>
     }
 }
 
-/// The place of the ticket of this name, where this member is a site.
+/// Returns the place of the ticket with this name, if this member is a site.
 pub(crate) fn attended_place(node: &NodeConfig, name: &Name) -> Option<usize>
     ensures place { result ≡ attended_place node.now name.now }
 {
@@ -104,7 +105,7 @@ pub(crate) fn attended_place(node: &NodeConfig, name: &Name) -> Option<usize>
     }
 }
 
-/// The command that answers a wish.
+/// Returns the command that answers a request.
 pub(crate) fn answer_cmd(wish: &AttrWish) -> Cmd
     ensures { result ≡ attr_answer wish.now }
 {
@@ -114,7 +115,7 @@ pub(crate) fn answer_cmd(wish: &AttrWish) -> Cmd
     }
 }
 
-/// Makes the text of the answer: the lines of a list, and else none.
+/// Writes the text of the answer: the lines of a list, and no text for any other request.
 pub(crate) fn write_pairs(attrs: &Attrs, place: u32, wish: &AttrWish, text: &mut TextBuf)
     requires { place < length attrs.now.lists }
     ensures { text.new ≡ pairs_text attrs.now place wish.now }
@@ -126,7 +127,7 @@ pub(crate) fn write_pairs(attrs: &Attrs, place: u32, wish: &AttrWish, text: &mut
     }
 }
 
-// The reply with this result that repeats ticket, name and value.
+// Returns the reply with this result that repeats ticket, name and value.
 fn repeated<'a>(result_code: u32, ticket: &Name, pair: &Pair) -> Reply<'a>
     ensures { reply_of result ≡ record { result = result_code; content = repeated ticket.now pair.now } }
 {
@@ -158,7 +159,7 @@ fn del_result(answer: DelAnswer) -> u32
     }
 }
 
-// The reply to who asked for the value of a name, where the name is there or not.
+// Returns the reply to a request for the value of a name, whether the name exists or not.
 fn get_reply<'a>(ticket: &Name, pair: &Pair, found: Option<&AttrValue>) -> Reply<'a>
     ensures { reply_of result ≡ get_reply ticket.now pair.now (option_map (λ v. v.now) found.entry) }
 {
@@ -168,7 +169,7 @@ fn get_reply<'a>(ticket: &Name, pair: &Pair, found: Option<&AttrValue>) -> Reply
     }
 }
 
-/// Does what a client wishes of the attributes of the ticket at a place, for which this text was made.
+/// Does a client's request about the attributes of the ticket at a place, for which this text was made.
 pub(crate) fn attend<'a>(
     attrs: &mut Attrs,
     place: u32,

@@ -24,7 +24,7 @@ pub(crate) fn set_deadline(wheel: &mut Wheel, slot: u32, deadline: Option<u64>)
     }
 }
 
-/// Sets the deadline anew of the ticket at this place, where there is one.
+/// Sets the deadline of the ticket at this place again, if there is such a ticket.
 pub(crate) fn look_again(table: &TicketTable, wheel: &mut Wheel, place: Option<usize>)
     requires there { IfSome place (λ place. place < length table.now.tickets.items) }
     requires slots { length wheel.old.deadlines ≡ length table.now.tickets.items }
@@ -52,10 +52,7 @@ fn drain_counted<L: Ledger>(wheel: &mut Wheel, now: u64, due: &mut Vec<u32>, bla
     ensures room { vec_capacity due.new ≡ vec_capacity due.old }
 {
     let mut steps: Steps<L> = Steps::new(blank);
-    due.clear();
-    while let Some(slot) = wheel.due(now, &mut steps) {
-        due.push_reserved(slot);
-    }
+    wheel.drain(now, due, &mut steps);
 }
 
 /// Puts the slots that are due into `due`, by deadline and then slot. They have no deadline any more.
@@ -72,8 +69,8 @@ pub(crate) fn drain(wheel: &mut Wheel, now: u64, due: &mut Vec<u32>)
     drain_counted::<Brand>(wheel, now, due, Blank::new(1));
 }
 
-/// The tickets at these places, whose deadlines have come, do what they do then, one after the other. Each has its
-/// next deadline.
+/// Handles the passed deadlines of the tickets at these places, one after the other, and sets the next deadline of
+/// each.
 pub(crate) fn expire_each<H: Host>(
     table: &mut TicketTable,
     wheel: &mut Wheel,

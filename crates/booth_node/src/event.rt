@@ -5,17 +5,17 @@ use booth_wire::{Head, TicketPart};
 /// What befalls a ticket in a turn.
 #[derive(Drop)]
 pub(crate) enum Event {
-    /// Its deadline has come.
+    /// Its deadline has passed.
     Due,
-    /// The member at a place said something about it.
+    /// The member at a place sent a message about it.
     Heard {
         from: u32,
         head: Head,
         part: TicketPart,
     },
-    /// A client asked something of it.
+    /// A client sent a request about it.
     Asked(Request),
-    /// A job of a handler is over.
+    /// A run of a handler (job) has ended.
     Over {
         job: u64,
         service: Service,

@@ -1,4 +1,4 @@
-//! The hands of a ticket at a node: what it says is sealed and sent, what it keeps is kept by the host.
+//! The actions of a ticket at a node (`Hands`): its messages are sealed and sent, and the host writes its records.
 ghost use Rattle.std.specs.Prelude.{◌≡◌, ◌≤◌, ◌<◌, ◌^◌, ℕ, true, [], ◌∷◌, length, slice_get, slice_set, is_ok, IsSomeAnd, option_copied};
 ghost use Rattle.booth_wire.specs.Command.{kind_of};
 ghost use Rattle.booth_wire.specs.Spelling.{Fits};
@@ -28,7 +28,7 @@ use booth_rec::Record;
 use booth_ticket::{Hands, Ticket, To, Waiters};
 use booth_wire::{Body, Frame, Head, Message, TicketPart};
 
-/// A host, and what the acts of a ticket change beside it.
+/// A host, and what the actions of a ticket change at the node.
 #[derive(Drop)]
 pub(crate) struct NodeHands<'a, H: Host> {
     pub host: &'a mut H,
@@ -59,7 +59,7 @@ fn peer_of(config: &Config, to: To) -> Option<Peer>
     }
 }
 
-// Seals a message about a ticket into the frame.
+// Seals a message about a ticket, and writes it into the frame.
 fn write(node: &NodeConfig, head: &Head, part: &TicketPart, now: u64, frame: &mut Frame)
     requires kind { kind_of head.now.cmd ≡ Kind.Ticket }
     ensures bytes { frame.new ≡ sealed node.now.ring (sent_as node.now now head.now part.now) }
@@ -72,7 +72,7 @@ fn write(node: &NodeConfig, head: &Head, part: &TicketPart, now: u64, frame: &mu
     seal(&message, node.ring.as_ref(), now, frame);
 }
 
-// Sends the frame to where a message goes, and counts that.
+// Sends the frame to the receiver of a message, and counts the send.
 fn send<H: Host>(
     host: &mut H,
     common: &mut Common,
@@ -90,7 +90,7 @@ fn send<H: Host>(
 }
 
 impl<'a, H: Host> NodeHands<'a, H> {
-    // Says what stands in the frame.
+    // Sends the message that is in the frame.
     fn say_written(&mut self, to: To, head: &Head, part: &TicketPart)
         requires written { self.old.frame.now
             ≡ sealed self.old.node.now.ring (sent_as self.old.node.now self.old.now head.now part.now) }
@@ -111,7 +111,7 @@ impl<'a, H: Host> NodeHands<'a, H> {
         let _ = send(self.host, self.common, to, &peer, self.frame);
     }
 
-    // Writes a message into the frame, and says it.
+    // Writes a message into the frame, and sends it.
     fn say_anew(&mut self, to: To, head: &Head, part: &TicketPart)
         requires kind { kind_of head.now.cmd ≡ Kind.Ticket }
         ensures written { self.new.frame.now
@@ -170,8 +170,8 @@ impl<'a, H: Host> Hands for NodeHands<'a, H> {
     }
 }
 
-/// What befalls the ticket at the place `list`, by these hands. Its clients wait there, its attributes are there, and
-/// its handler may be started as this job, where it has one.
+/// Handles an event of the ticket at the place `list`. Its waiting clients and its attributes are there, and its
+/// handler may be started under this job number, if it has one.
 fn befall<H: Host>(
     ticket: &mut Ticket,
     event: &Event,
@@ -218,7 +218,7 @@ fn befall<H: Host>(
     }
 }
 
-/// What befalls the ticket that stands at a place among these, by hands which have its name.
+/// Handles an event of the ticket at a place among these, with hands that have its name.
 pub(crate) fn act_at<H: Host>(
     tickets: &mut Vec<Ticket>,
     place: u32,

@@ -1,4 +1,4 @@
-//! The jobs of a node's handlers: how each is asked for, and whom its end is told to.
+//! The runs of a node's handlers (jobs): how each is passed to the host, and which tickets are informed about its end.
 ghost use Rattle.std.specs.Prelude.{◌≡◌, ◌≤◌, ◌<◌, ◌^◌, [], map, option_map, option_copied, length, position};
 ghost use Rattle.std.specs.List.{range_with_len};
 ghost use Rattle.booth_conf.specs.Lookups.{is_called};
@@ -17,14 +17,14 @@ use booth_conf::Member;
 use booth_host::{Host, Job};
 use booth_ticket::Service;
 
-// The handler of the ticket at a place, where it has one.
+// Returns the handler of the ticket at a place, if it has one.
 fn handler_at(node: &NodeConfig, place: usize) -> Option<&PathText>
     ensures { option_map (λ handler. handler.now) result ≡ handler_at node.now place }
 {
     node.config.tickets().get(place)?.handler.as_ref()
 }
 
-/// The number of the job that the ticket at a place may start, where it has a handler.
+/// Returns the number of the job that the ticket at a place may start, if it has a handler.
 pub(crate) fn job_at(node: &NodeConfig, place: usize, common: &Common) -> Option<u64>
     ensures { result ≡ job_at node.now place common.now }
 {
@@ -41,7 +41,7 @@ fn no_words() -> PathText
     }
 }
 
-// The handler of the ticket at this place, or no words.
+// Returns the handler of the ticket at this place, or an empty path.
 fn words_at(node: &NodeConfig, place: Option<usize>) -> PathText
     ensures { result ≡ words_at node.now place }
 {
@@ -63,14 +63,14 @@ fn address_in(member: Option<&Member>) -> Address
     }
 }
 
-// The address of this member.
+// Returns the address of this member.
 fn own_address(node: &NodeConfig) -> Address
     ensures { result ≡ own_address node.now }
 {
     address_in(node.config.members().get(own_place(node)))
 }
 
-/// The job of the ticket of this name, with this number.
+/// Returns the job of the ticket with this name, under this number.
 pub(crate) fn job_of(node: &NodeConfig, name: &Name, number: u64, expires: u64) -> Job
     ensures { result ≡ job_of node.now name.now number expires }
 {
@@ -83,7 +83,7 @@ pub(crate) fn job_of(node: &NodeConfig, name: &Name, number: u64, expires: u64) 
     }
 }
 
-/// A job is over, and each ticket is told in the order of the configuration. Each has its next deadline.
+/// Tells each ticket, in the order of the configuration, that a job has ended. Sets the next deadline of each.
 pub(crate) fn end_each<H: Host>(
     table: &mut TicketTable,
     wheel: &mut Wheel,

@@ -1,4 +1,4 @@
-//! The node: one turn of the daemon, from an arrival to the last deed that it demands.
+//! The node: one turn of the daemon, from an arrival to the last action that follows.
 #![tactic(auto)]
 
 mod attributes;

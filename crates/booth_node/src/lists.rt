@@ -11,7 +11,7 @@ use booth_base::{Name, TEXT_BYTES, TextBuf};
 use booth_conf::{Config, Member};
 use booth_ticket::{Owner, Ticket};
 
-// Appends the owner's address and the end of its lease, or that nobody is the owner.
+// Appends the owner's address and the end of its lease, or that there is no owner.
 fn put_owner_at(member: Option<&Member>, until_secs: u64, text: &mut TextBuf)
     requires { length text.old + 60 ≤ TEXT_BYTES }
     ensures bytes { text.new ≡ text.old ++ owner_at (option_copied member.entry) until_secs }
@@ -26,7 +26,7 @@ fn put_owner_at(member: Option<&Member>, until_secs: u64, text: &mut TextBuf)
     }
 }
 
-// Appends the owner at a place, or that nobody is the owner.
+// Appends the owner at a place, or that there is no owner.
 fn put_owner_in(members: &[Member], place: Option<usize>, until_secs: u64, text: &mut TextBuf)
     requires { length text.old + 60 ≤ TEXT_BYTES }
     ensures bytes { text.new ≡ text.old ++ owner_in members.now place until_secs }
@@ -38,7 +38,7 @@ fn put_owner_in(members: &[Member], place: Option<usize>, until_secs: u64, text:
     }
 }
 
-// Appends who is shown as a ticket's owner.
+// Appends the known owner of a ticket.
 fn put_owner(config: &Config, shown: Option<Owner>, text: &mut TextBuf)
     requires { length text.old + 60 ≤ TEXT_BYTES }
     ensures bytes { text.new ≡ text.old ++ owner_text config.now shown }
@@ -74,8 +74,8 @@ fn put_ticket(config: &Config, ticket: &Ticket, now: u64, text: &mut TextBuf)
     text.put(b"\n");
 }
 
-/// Makes the text of the first part of a list of these tickets, at this reading in ms: as many whole lines as it
-/// holds. The number of its lines.
+/// Writes the text of the first part of a list of these tickets, at this reading in ms, with as many whole lines as
+/// it holds. Returns the number of its lines.
 pub(crate) fn write_part(
     node: &NodeConfig,
     tickets: &[Ticket],

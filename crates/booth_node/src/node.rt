@@ -30,7 +30,7 @@ const WAIT_MS: u64 = 100;
 pub enum Turn {
     /// The next turn may follow.
     Went,
-    /// The end was asked for.
+    /// The host asked for the end.
     Stopped,
 }
 
@@ -52,10 +52,14 @@ pub struct Node {
 impl Node {
     ghost use Rattle.booth_node.specs.View.{node_config, state_of};
 
-    /// A node of this configuration, with this ring where there is one, at the member with this id, with the record of
-    /// each ticket where one was kept. Its rules are those of version 2, whatever version a record is of.
+    /// Opens a node of this configuration, with this ring if there is one, at the member with this id, with the
+    /// record of each ticket if one was written. Its rules are those of version 2, whichever version a record is of.
     ///
-    /// `now` is the reading of its start, in milliseconds since 1970.
+    /// `now` is the clock reading at its start, in milliseconds since 1970.
+    ///
+    /// # Errors
+    ///
+    /// `AllocError` if memory is out.
     pub fn open(
         alloc: Global,
         config: Config,
@@ -90,14 +94,14 @@ impl Node {
         })
     }
 
-    /// How many datagrams were dropped for each fault, in the gate's order.
+    /// Returns how many datagrams were dropped for each fault, in the gate's order.
     pub fn drops(&self) -> [u64; 8]
         ensures { result ≡ (state_of self.now).common.drops }
     {
         self.table.common.drops
     }
 
-    /// What was counted of the member at this place.
+    /// Returns the counters of the member at this place.
     pub fn counters(&self, member: usize) -> Counters
         requires { member < length (node_config self.now).config.members }
         ensures { result ≡ counters_at (state_of self.now).common member }
@@ -105,7 +109,7 @@ impl Node {
         self.table.common.counters_at(member)
     }
 
-    // The reading that this turn uses, which is then the last one.
+    // Returns the reading that this turn uses, and stores it as the last one.
     fn clamp(&mut self, reading: u64)
         ensures state { state_of self.new ≡
             record (state_of self.old) { last_reading = used (state_of self.old).last_reading reading } }
@@ -115,7 +119,7 @@ impl Node {
         self.last_reading = self.last_reading.max(reading.min(READINGS_END - 1));
     }
 
-    // Does what the datagram of this peer demands at this turn's moment.
+    // Does the action for the datagram of this peer, at this turn's moment.
     fn receive<H: Host>(&mut self, from: Peer, host: &mut H)
         ensures led { Led H.past H.faults (IsDone (node_config self.old).ring) (met (node_config self.old)
             (state_of self.old).last_reading (state_of self.old) from (action (node_config self.old) (state_of
@@ -130,7 +134,7 @@ impl Node {
         look_again(&self.table, &mut self.wheel, place);
     }
 
-    // A job of a handler is over at this turn's moment.
+    // Tells the tickets that a job has ended, at this turn's moment.
     fn end_jobs<H: Host>(&mut self, job: u64, service: Service, host: &mut H)
         ensures led { Led H.past H.faults (IsDone (node_config self.old).ring) (each_over (node_config
             self.old) (state_of self.old).last_reading job service (all_places (state_of self.old)) (state_of
@@ -148,7 +152,7 @@ impl Node {
         );
     }
 
-    // Does what an arrival demands at this turn's moment.
+    // Does the action for an arrival, at this turn's moment.
     fn arrive<H: Host>(&mut self, arrival: &Result<Arrival, Failed>, host: &mut H)
         ensures led { Led H.past H.faults (IsDone (node_config self.old).ring) (arrived (node_config
             self.old) (state_of self.old).last_reading (state_of self.old) arrival.now self.old.datagram)
@@ -169,7 +173,7 @@ impl Node {
         }
     }
 
-    // What the tickets do whose deadlines have come at this turn's moment.
+    // Handles the deadlines that have passed, at this turn's moment.
     fn expire<H: Host>(&mut self, host: &mut H)
         ensures led { Led H.past H.faults (IsDone (node_config self.old).ring) (each_due (node_config
             self.old) (state_of self.old).last_reading (due_places (state_of self.old).last_reading (state_of
@@ -186,7 +190,7 @@ impl Node {
         );
     }
 
-    /// One arrival, one reading of the clock, and what they demand. It takes no memory.
+    /// Makes a turn: one arrival, one reading of the clock, and the actions for both. It allocates no memory.
     pub fn turn<H: Host>(&mut self, host: &mut H) -> Turn
         ensures past { GrewSome (λ es. IsTurn (node_config self.old) (state_of self.old) result es
             (state_of self.new))

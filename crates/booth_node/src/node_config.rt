@@ -1,4 +1,4 @@
-//! What a node is set up with.
+//! The setup of a node.
 ghost use Rattle.booth_auth.specs.Verdict.{verdict, Passes};
 
 use booth_auth::{DropFault, gate};
@@ -7,19 +7,19 @@ use booth_conf::Config;
 use booth_keys::Ring;
 use booth_wire::Message;
 
-/// A member: the configuration that it shares, its ring of keys where there is one, its own id, and by which rules it
-/// goes.
+/// A member: the configuration that it shares, its ring of keys if there is one, its own id, and the version of its
+/// rules.
 #[derive(Drop)]
 pub struct NodeConfig {
     pub config: Config,
     pub ring: Option<Ring>,
     pub me: MemberId,
-    /// Whether it follows the rules of version 2, by which promises are kept in records.
+    /// Whether it follows the rules of version 2, which write promises to records.
     pub second: bool,
 }
 
 impl NodeConfig {
-    /// The message of a datagram that is let in at this reading in ms, or why it is dropped.
+    /// Returns the message of a datagram that is accepted at this reading in ms, or why it is dropped.
     pub(crate) fn admit<'a>(&self, now: u64, bytes: &'a [u8]) -> Result<Message<'a>, DropFault>
         ensures { Passes result (verdict self.now.config self.now.ring self.now.me now bytes.now) }
     {

@@ -21,7 +21,7 @@ use booth_ticket::Ticket;
 use booth_wire::Setup;
 use std::alloc::{AllocError, Global};
 
-/// The member's place in the configuration.
+/// Returns the member's place in the configuration.
 pub(crate) fn own_place(node: &NodeConfig) -> usize
     ensures place { result ≡ own_place node.now }
     ensures few { result < MEMBERS }
@@ -35,7 +35,7 @@ fn is_site_at(members: &[Member], place: usize) -> bool
     members.get(place).is_some_and(|member| member.site)
 }
 
-// How many sites come before this member at the ticket at a place; an arbitrator has no rank.
+// Returns how many sites come before this member, at the ticket at a place; an arbitrator has no rank.
 fn rank_at(node: &NodeConfig, ticket: usize) -> u32
     requires { ticket < length node.now.config.tickets }
     ensures rank { result ≡ rank_at node.now ticket }
@@ -49,14 +49,14 @@ fn rank_at(node: &NodeConfig, ticket: usize) -> u32
     }
 }
 
-/// Whether this member is a site, and no arbitrator.
+/// Returns whether this member is a site and not an arbitrator.
 pub(crate) fn is_at_site(node: &NodeConfig) -> bool
     ensures { result ≡ is_at_site node.now }
 {
     is_site_at(node.config.members(), own_place(node))
 }
 
-// The setup of the ticket at a place.
+// Returns the setup of the ticket at a place.
 fn setup_of(node: &NodeConfig, index: usize, ticket: &TicketConf) -> Setup
     requires there { index < length node.now.config.tickets }
     requires times { HasTimes ticket.now }
@@ -77,7 +77,7 @@ fn setup_of(node: &NodeConfig, index: usize, ticket: &TicketConf) -> Setup
     }
 }
 
-// A ticket starts, by its kind.
+// Starts a ticket, by its kind.
 fn open_ticket(conf: &TicketConf, setup: &Setup, kept: Option<&Record>, now: u64) -> Ticket
     requires sound { IsSound setup.now }
     requires second { IsTrue setup.now.second }
@@ -92,7 +92,7 @@ fn open_ticket(conf: &TicketConf, setup: &Setup, kept: Option<&Record>, now: u64
     }
 }
 
-/// The tickets of a node, each from its record at this reading in ms.
+/// Starts the tickets of a node, each from its record at this reading in ms.
 pub(crate) fn start_tickets(
     alloc: Global,
     node: &NodeConfig,
@@ -118,7 +118,7 @@ pub(crate) fn start_tickets(
     Ok(tickets)
 }
 
-// A timer with the deadline of each ticket.
+// Returns a timer with the deadline of each ticket.
 fn start_wheel(alloc: Global, tickets: &[Ticket]) -> Result<Wheel, AllocError>
     requires { length tickets.now ≤ TICKETS }
     ensures timed { IfOk result (λ wheel. wheel.deadlines ≡ map deadline_of tickets.now) }
@@ -131,7 +131,7 @@ fn start_wheel(alloc: Global, tickets: &[Ticket]) -> Result<Wheel, AllocError>
     Ok(wheel)
 }
 
-/// The timer of these tickets, and room for the places of those that are due at once.
+/// Returns the timer of these tickets, and room for the places of those that are due at the same time.
 pub(crate) fn start_timer(
     alloc: Global,
     tickets: &[Ticket],

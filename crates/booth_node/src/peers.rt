@@ -53,7 +53,7 @@ fn put_role(site: bool, text: &mut TextBuf)
     }
 }
 
-// An address has 4 or 16 bytes.
+// Returns whether an address has 4 or 16 bytes.
 fn is_whole(address: Address)
     ensures { IsAddress address }
 {
@@ -92,7 +92,7 @@ fn put_peer(member: &Member, counters: &Counters, text: &mut TextBuf)
     text.put(b"\n");
 }
 
-// Appends the line of a member that is another one.
+// Appends the line of a member, if it is not this one.
 fn put_other(node: &NodeConfig, member: &Member, counters: &Counters, text: &mut TextBuf)
     requires { length text.old + 135 ≤ TEXT_BYTES }
     ensures bytes { text.new ≡ text.old ++ other_line node.now (member.now, counters.now) }
@@ -103,7 +103,7 @@ fn put_other(node: &NodeConfig, member: &Member, counters: &Counters, text: &mut
     }
 }
 
-/// Makes the text of the drops and of the other members.
+/// Writes the text with the dropped datagrams and the other members.
 pub(crate) fn write_peers(node: &NodeConfig, common: &Common, text: &mut TextBuf)
     ensures { text.new ≡ peers_text node.now common.now }
 {

@@ -1,16 +1,16 @@
-//! Where messages are made: a text and a frame, whose memory is taken once.
+//! The buffers for messages: a text and a frame, in memory that is allocated once.
 ghost use Rattle.std.specs.Prelude.{◌≡◌, ◌≤◌, ◌<◌, [], IfOk, length};
 ghost use Rattle.booth_wire.specs.Command.{answer_of};
 ghost use Rattle.booth_wire.specs.PlainMessage.{content_of};
 ghost use Rattle.booth_wire.specs.Spelling.{Fits};
 ghost use Rattle.booth_auth.specs.Sealed.{sealed};
 ghost use Rattle.booth_node.specs.AttributeRequests.{after_wish, attr_message};
-ghost use Rattle.booth_node.specs.Replies.{answered, list_lines, reply_with, text_for};
+ghost use Rattle.booth_node.specs.Replies.{answered, list_lines, reply_with, text_for, told_for};
 ghost use Rattle.booth_node.specs.ReplyForms.{IsPartWritten, IsWritten};
 
 use crate::attributes::{AttrRequest, answer_cmd, attend, write_pairs};
 use crate::lists::write_part;
-use crate::replies::{Part, answer, part_message, reply_message, write_text};
+use crate::replies::{Part, answer, part_message, reply_message, told_for, write_text};
 use crate::{Common, NodeConfig};
 use booth_attr::Attrs;
 use booth_auth::seal;
@@ -19,7 +19,7 @@ use booth_ticket::Ticket;
 use booth_wire::{Frame, Message};
 use std::alloc::{AllocError, Global};
 
-/// The text of a reply, a line of it, and the frame that is sent.
+/// The text of a reply, a line of it, and the frame to send.
 #[derive(Drop)]
 pub(crate) struct ReplyBuffer {
     text: TextBuf,
@@ -28,7 +28,7 @@ pub(crate) struct ReplyBuffer {
 }
 
 impl ReplyBuffer {
-    /// An empty buffer, with all the memory that it will have.
+    /// Returns an empty buffer, with all the memory that it will need.
     pub fn new(alloc: Global) -> Result<ReplyBuffer, AllocError>
         ensures { IfOk result (λ buffer. (buffer.text ≡ []) × (buffer.frame ≡ [])) }
     {
@@ -39,20 +39,23 @@ impl ReplyBuffer {
         })
     }
 
-    /// Puts the one reply to a message that was let in at this reading in ms into the frame, where it has one.
+    /// Writes the one reply to a message that was accepted at this reading in ms into the frame, if it has one.
     pub fn answer(
         &mut self,
         node: &NodeConfig,
+        tickets: &[Ticket],
         common: &Common,
         message: &Message<'_>,
         now: u64,
     ) -> bool
         ensures { IsWritten node.now.ring now (answered node.now.me message.now.head.request
             (answer_of message.now.head.cmd) (reply_with (text_for node.now common.now message.now.head.cmd)
-            message.now.head.cmd (content_of message.now.body))) result self.new.frame }
+            (told_for node.now now tickets.now (content_of message.now.body)) message.now.head.cmd
+            (content_of message.now.body))) result self.new.frame }
     {
         write_text(node, common, message.head.cmd, &mut self.text);
-        match answer(node.me, message, self.text.bytes()) {
+        let told = told_for(node, now, tickets, &message.body);
+        match answer(node.me, message, self.text.bytes(), told) {
             Some(reply) => {
                 seal(&reply, node.ring.as_ref(), now, &mut self.frame);
                 true
@@ -61,8 +64,8 @@ impl ReplyBuffer {
         }
     }
 
-    /// Puts the first part of a list of these tickets into the frame, as the reply of this number to a request, at this
-    /// reading in ms. The number of its lines.
+    /// Writes the first part of a list of these tickets into the frame, as the reply with this number to a request,
+    /// at this reading in ms. Returns the number of its lines.
     pub fn part(&mut self, node: &NodeConfig, tickets: &[Ticket], part: Part, now: u64) -> usize
         ensures { IsPartWritten node.now now (list_lines node.now now tickets.now) part.request part.number result
             self.new.frame }
@@ -73,7 +76,7 @@ impl ReplyBuffer {
         count
     }
 
-    /// Does what a client wishes of the attributes of the ticket at a place, and puts the answer into the frame.
+    /// Does a client's request about the attributes of the ticket at a place, and writes the answer into the frame.
     pub fn attend(
         &mut self,
         node: &NodeConfig,

@@ -1,4 +1,4 @@
-//! Where a message goes that was let in.
+//! The action for a message that was accepted.
 ghost use Rattle.booth_wire.specs.PlainMessage.{plain_of, content_of};
 ghost use Rattle.booth_node.specs.Reaction.{said};
 ghost use Rattle.booth_node.specs.Routing.{Attends, IsPlaced, Names, Requests, Routes};
@@ -10,33 +10,33 @@ use booth_base::Peer;
 use booth_ticket::Request;
 use booth_wire::{Body, Direction, Head, Message, TicketPart};
 
-/// What a message that was let in demands of the node.
+/// The action of the node for an accepted message.
 #[derive(Drop)]
 pub(crate) enum Action {
-    /// The member at the place `from` says something about the ticket at a place.
+    /// The member at the place `from` sends a message about the ticket at a place.
     Hear {
         from: u32,
         ticket: usize,
         head: Head,
         part: TicketPart,
     },
-    /// A client asks something of the ticket at a place.
+    /// A client sends a request about the ticket at a place.
     Ask {
         ticket: usize,
         request: Request,
     },
-    /// A client asks something of the attributes of the ticket at a place.
+    /// A client sends a request about the attributes of the ticket at a place.
     Attend {
         ticket: usize,
         request: AttrRequest,
     },
-    /// A client's request is answered at once.
+    /// The request is answered at once.
     Answer,
-    /// Nothing.
+    /// No action.
     Rest,
 }
 
-// What a member says goes to the ticket that it is about.
+// Routes a member's message to the ticket that it is about.
 fn said(node: &NodeConfig, message: &Message<'_>) -> Action
     ensures names { Names result (said node.now message.now.head (content_of message.now.body)) }
     ensures placed { IsPlaced node.now message.now.head.from result }
@@ -58,7 +58,7 @@ fn said(node: &NodeConfig, message: &Message<'_>) -> Action
     }
 }
 
-// A request about attributes goes to those of its ticket, at a site, and each other one is answered at once.
+// Routes a request about attributes to those of its ticket, at a site. Every other request is answered at once.
 fn attended(node: &NodeConfig, message: &Message<'_>) -> Action
     ensures names { Attends node.now (plain_of message.now) result }
     ensures placed { IsPlaced node.now message.now.head.from result }
@@ -72,7 +72,8 @@ fn attended(node: &NodeConfig, message: &Message<'_>) -> Action
     }
 }
 
-// A request about a ticket of the configuration goes to it, and each other one to its attributes or to be answered.
+// Routes a request about a ticket of the configuration to it, and every other request to its attributes or to an
+// immediate answer.
 fn requested(
     node: &NodeConfig,
     found: Option<(TicketPart, Request)>,
@@ -90,7 +91,7 @@ fn requested(
     }
 }
 
-/// What a message of this peer demands.
+/// Returns the action for a message of this peer.
 pub(crate) fn route(node: &NodeConfig, from: Peer, message: &Message<'_>) -> Action
     ensures names { Routes node.now from (plain_of message.now) result }
     ensures placed { IsPlaced node.now message.now.head.from result }

@@ -7,34 +7,34 @@ use booth_auth::DropFault;
 use booth_base::MEMBERS;
 use booth_ticket::To;
 
-/// The least reading that is too late to be used, in milliseconds.
+/// The least reading that is too late to use, in milliseconds.
 pub(crate) const READINGS_END: u64 = 1 << 62;
 
-/// What is counted of a member. A counter that reaches its greatest value stays there.
+/// The counters of a member. A counter that reaches its greatest value stays there.
 #[derive(Clone, Copy, PartialEq, Eq)]
 pub struct Counters {
-    /// How many of its datagrams were let in.
+    /// How many of its datagrams were accepted.
     pub accepted: u64,
     /// How many sends to it the network took.
     pub sent: u64,
     /// How many sends to it failed.
     pub errors: u64,
-    /// When the last of its datagrams was let in, in seconds since 1970, or 0.
+    /// When the last of its datagrams was accepted, in seconds since 1970, or 0.
     pub last: u64,
 }
 
-/// What is counted beside the tickets.
+/// The counters that belong to no ticket.
 #[derive(Clone, Copy)]
 pub struct Common {
     /// How many datagrams were dropped for each fault, in the gate's order.
     pub drops: [u64; 8],
     /// The counters of the members, in the order of the configuration. After the last member they are 0.
     pub members: [Counters; MEMBERS],
-    /// The number of the next job of a handler. Jobs count from 1 in each daemon.
+    /// The number of the next job (run of a handler). Jobs count from 1 in each daemon.
     pub next_job: u64,
 }
 
-/// The place of a fault among the eight drop counters.
+/// Returns the place of a fault among the eight drop counters.
 fn place_of(fault: DropFault) -> usize
     ensures place { result ≡ place_of fault }
     ensures within { result < 8 }
@@ -60,7 +60,7 @@ impl Counters {
         last: 0,
     };
 
-    // One more datagram was let in, at this reading in ms.
+    // Counts one more datagram that was accepted at this reading in ms.
     fn counted(&mut self, now: u64)
         ensures { self.new ≡ counted self.old now }
     {
@@ -68,7 +68,7 @@ impl Counters {
         self.last = now / 1000;
     }
 
-    // One more message was sent, or failed to be.
+    // Counts one more message that was sent or could not be.
     fn tried(&mut self, ok: bool)
         ensures { self.new ≡ tried self.old ok }
     {
@@ -81,7 +81,7 @@ impl Counters {
 }
 
 impl Common {
-    /// Nothing was counted, and no job was started.
+    /// Returns counters before any event.
     pub(crate) fn nothing_counted() -> Common
         ensures { result ≡ nothing_counted }
     {
@@ -92,7 +92,7 @@ impl Common {
         }
     }
 
-    /// The number of the next job was used up. After the greatest number comes 1 again.
+    /// Uses up the number of the next job. After the greatest number comes 1 again.
     pub(crate) fn count_start(&mut self)
         ensures { self.new ≡ count_start self.old }
     {
@@ -103,7 +103,7 @@ impl Common {
         };
     }
 
-    /// One more datagram was dropped for this fault.
+    /// Counts one more datagram that was dropped for this fault.
     pub(crate) fn count_drop(&mut self, fault: DropFault)
         ensures { self.new ≡ count_drop self.old fault }
     {
@@ -111,14 +111,14 @@ impl Common {
         self.drops[place] = self.drops[place].saturating_add(1);
     }
 
-    /// The counters of the member at a place.
+    /// Returns the counters of the member at a place.
     pub(crate) fn counters_at(&self, place: usize) -> Counters
         ensures { result ≡ counters_at self.now place }
     {
         self.members.get(place).copied().unwrap_or(Counters::NONE)
     }
 
-    /// One more datagram of the member at a place was let in, at this reading in ms.
+    /// Counts one more datagram of the member at a place that was accepted, at this reading in ms.
     pub(crate) fn count_accepted(&mut self, place: usize, now: u64)
         ensures { self.new ≡ with_counters self.old place (counted (counters_at self.old place) now) }
     {
@@ -127,7 +127,7 @@ impl Common {
         }
     }
 
-    /// One more send, with this success. A reply to a client counts for nobody.
+    /// Counts one more send, with this success. A reply to a client counts for no member.
     pub(crate) fn count_send(&mut self, to: To, ok: bool)
         ensures { self.new ≡ count_send self.old to ok }
     {

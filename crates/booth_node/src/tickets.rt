@@ -1,4 +1,4 @@
-//! The tickets of a node, and what their deeds change beside them.
+//! The tickets of a node, and what their actions change at the node.
 ghost use Rattle.std.specs.Prelude.{◌≡◌, ◌≢◌, ◌≤◌, ◌<◌, ◌^◌, ◌==◌, [], false, Some, drop, length, position, replicate, slice_get, IfOk, IsSome, IsSomeAnd, IsTrue, MatchOption};
 ghost use Rattle.std.specs.List.{All};
 ghost use Rattle.booth_attr.specs.Attributes.{no_attributes};
@@ -35,8 +35,8 @@ use booth_ticket::{Request, Service, Ticket, Waiters};
 use booth_wire::{Head, Message, TicketPart};
 use std::alloc::{AllocError, Global};
 
-/// The tickets in the order of the configuration, the clients that wait for each, the attributes of each, what is
-/// counted, and where messages are made.
+/// The tickets in the order of the configuration, the clients that wait for each, the attributes of each, the
+/// counters, and the buffers for messages.
 #[derive(Drop)]
 pub(crate) struct TicketTable {
     pub node: NodeConfig,
@@ -55,7 +55,7 @@ pub(crate) struct TicketTable {
 impl TicketTable {
     ghost use Rattle.booth_node.specs.View.{TellsAlone, state_with};
 
-    /// The tickets of a node at its start, each from its record at this reading in ms.
+    /// Opens the tickets of a node at its start, each from its record at this reading in ms.
     pub fn open(
         alloc: Global,
         node: NodeConfig,
@@ -87,7 +87,7 @@ impl TicketTable {
         })
     }
 
-    // What befalls the ticket at a place.
+    // Handles an event of the ticket at a place.
     fn act<H: Host>(&mut self, place: usize, event: &Event, now: u64, host: &mut H)
         requires early { now < 2 ^ 62 }
         requires may { IsSomeAnd (slice_get self.old.tickets.items place)
@@ -116,7 +116,7 @@ impl TicketTable {
         );
     }
 
-    // A datagram was dropped.
+    // Counts a datagram that was dropped.
     fn refuse(&mut self, fault: DropFault)
         ensures common { self.new.common ≡ count_drop self.old.common fault }
         ensures node { self.new.node ≡ self.old.node }
@@ -127,7 +127,7 @@ impl TicketTable {
         self.common.count_drop(fault);
     }
 
-    // A datagram of the member at a place was let in.
+    // Counts a datagram of the member at a place that was accepted.
     fn accept(&mut self, member: usize, now: u64)
         ensures common { self.new.common ≡ with_counters self.old.common member
             (counted (counters_at self.old.common member) now) }
@@ -139,7 +139,7 @@ impl TicketTable {
         self.common.count_accepted(member, now);
     }
 
-    // The member at a place said something about the ticket at a place.
+    // Handles a message of the member at a place about the ticket at a place.
     fn hear<H: Host>(
         &mut self,
         from: u32,
@@ -164,7 +164,7 @@ impl TicketTable {
         self.act(ticket, &event, now, host);
     }
 
-    // A client asked something of the ticket at a place.
+    // Handles a client's request about the ticket at a place.
     fn ask<H: Host>(&mut self, ticket: usize, request: Request, now: u64, host: &mut H)
         requires early { now < 2 ^ 62 }
         requires there { ticket < length self.old.tickets.items }
@@ -176,7 +176,7 @@ impl TicketTable {
         self.act(ticket, &Event::Asked(request), now, host);
     }
 
-    // Does what a client wishes of the attributes of the ticket at a place, and answers it.
+    // Does a client's request about the attributes of the ticket at a place, and answers it.
     fn attend<H: Host>(
         &mut self,
         from: Peer,
@@ -196,7 +196,7 @@ impl TicketTable {
         let _ = host.send(&from, self.buffer.frame.bytes());
     }
 
-    // Sends the part of a list that begins with the ticket at the place `first`, and says how many lines it has.
+    // Sends the part of a list that begins with the ticket at the place `first`, and returns how many lines it has.
     fn send_part<H: Host>(
         &mut self,
         to: Peer,
@@ -218,7 +218,7 @@ impl TicketTable {
         count
     }
 
-    // Tells a list, part by part, to the request with this number.
+    // Sends a list, part by part, as the reply to the request with this number.
     fn tell_list<H: Host>(&mut self, to: Peer, request: u32, now: u64, host: &mut H)
         ensures led { Led H.past H.faults (IsDone self.old.node.ring) (each (sends_back to)
             (list_messages self.old.node now request (list_lines self.old.node now self.old.tickets.items))) tt
@@ -233,7 +233,7 @@ impl TicketTable {
         }
     }
 
-    // Tells the one reply to a client's message, where it has one.
+    // Sends the one reply to a client's message, if it has one.
     fn tell_reply<H: Host>(&mut self, to: Peer, message: &Message<'_>, now: u64, host: &mut H)
         requires { is_list message.now.head.cmd ≡ false }
         ensures led { Led H.past H.faults (IsDone self.old.node.ring) (met self.old.node now (state_with
@@ -241,13 +241,15 @@ impl TicketTable {
             (plain_of message.now))) (state_with self.new now) host.old host.new }
         ensures same { TellsAlone self.old self.new }
     {
-        let written = self.buffer.answer(&self.node, &self.common, message, now);
+        let written = self
+            .buffer
+            .answer(&self.node, &self.tickets, &self.common, message, now);
         if written {
             let _ = host.send(&to, self.buffer.frame.bytes());
         }
     }
 
-    // Answers a client's message at once, where it has an answer.
+    // Answers a client's message at once, if it has an answer.
     fn answer<H: Host>(&mut self, to: Peer, message: &Message<'_>, now: u64, host: &mut H)
         ensures led { Led H.past H.faults (IsDone self.old.node.ring) (met self.old.node now (state_with
             self.old now) to (at_once self.old.node now self.old.tickets.items self.old.common
@@ -261,7 +263,7 @@ impl TicketTable {
         }
     }
 
-    // Does what a message demands that was let in. Where it befalls a ticket, this is that one's place.
+    // Does the action for an accepted message. Returns the place of the ticket whose event it is, if it is one.
     fn follow<H: Host>(
         &mut self,
         from: Peer,
@@ -305,7 +307,7 @@ impl TicketTable {
         }
     }
 
-    /// Does what a datagram demands. Where it befalls a ticket, this is that one's place.
+    /// Does the action for a datagram. Returns the place of the ticket whose event it is, if it is one.
     pub fn receive<H: Host>(
         &mut self,
         from: Peer,
@@ -330,7 +332,7 @@ impl TicketTable {
         }
     }
 
-    /// The deadline of the ticket at a place has come.
+    /// Handles the deadline of the ticket at a place.
     pub fn expire<H: Host>(&mut self, place: usize, now: u64, host: &mut H)
         requires early { now < 2 ^ 62 }
         requires due { IsSomeAnd (slice_get self.old.tickets.items place) (λ ticket. IsDue ticket.known now) }
@@ -342,7 +344,7 @@ impl TicketTable {
         self.act(place, &Event::Due, now, host);
     }
 
-    /// A job of a handler is over, and the ticket at a place is told.
+    /// Tells the ticket at a place that a job has ended.
     pub fn end_job<H: Host>(
         &mut self,
         place: usize,
@@ -361,7 +363,7 @@ impl TicketTable {
         self.act(place, &Event::Over { job, service }, now, host);
     }
 
-    /// When the ticket at a place is next to be looked at.
+    /// Returns the next deadline of the ticket at a place.
     pub fn deadline(&self, place: usize) -> Option<u64>
         requires { place < length self.now.tickets.items }
         ensures { IsSomeAnd (slice_get self.now.tickets.items place) (λ ticket. result ≡ deadline_of ticket) }

@@ -1,4 +1,4 @@
-//! The rules ask and renew, and what the answer of a keep leads to.
+//! The rules ask and renew, and how each goes on after the write that it requested.
 ghost use Rattle.std.specs.Prelude.{◌≡◌, ◌<◌, ◌^◌, max, IsTrue};
 ghost use Rattle.booth_raft.specs.AskAndRenew.{acquisition_failed, answers_itself, are_terms_spent, ask, bound_itself, with_own_promise, finish_ask, fail_ask, finish_renewal, fail_renewal, asked_all, finish, needs_term, new_round, begin_round, own_answer, promised_itself, renew, renew_by_term, renew_in_term, runs_out};
 ghost use Rattle.booth_raft.specs.Sound.{IsSound};
@@ -17,14 +17,14 @@ use booth_rec::{Promise, Record};
 use booth_wire::Setup;
 use booth_wire::reasons::RACQ;
 
-/// No further term is asked for: the greater of `term` and `seen` is at least `LAST_TERM`.
+/// Returns whether the terms are used up: the greater of `term` and `seen` is at least `LAST_TERM`.
 pub fn are_terms_spent(view: &View) -> bool
     ensures { result ≡ are_terms_spent view.now }
 {
     view.term.max(view.seen) >= LAST_TERM
 }
 
-// A new term is asked for.
+// Starts an election in a new term, with the write of that term.
 pub(crate) fn ask(setup: &Setup, view: &mut View, reason: u32, now: u64) -> Deed
     requires sound { IsSound setup.now }
     requires second { IsTrue setup.now.second }
@@ -45,7 +45,7 @@ pub(crate) fn ask(setup: &Setup, view: &mut View, reason: u32, now: u64) -> Deed
     keeping(view, Rule::Ask { reason }, tried, now)
 }
 
-// An acquisition fails.
+// Ends an acquisition that failed.
 pub(crate) fn acquisition_failed(setup: &Setup, view: &mut View, now: u64)
     requires sound { IsSound setup.now }
     requires early { now < 2 ^ 62 }
@@ -56,7 +56,7 @@ pub(crate) fn acquisition_failed(setup: &Setup, view: &mut View, now: u64)
     view.due = due_by_rank(setup, view, now);
 }
 
-// Whether the member answers its own round.
+// Returns whether the member votes for itself.
 fn answers_itself(setup: &Setup, view: &View, now: u64) -> bool
     ensures { result ≡ answers_itself setup.now view.now now }
 {
@@ -120,7 +120,7 @@ fn new_round(setup: &Setup, view: &View, number: u32, now: u64) -> Round
     }
 }
 
-// While its round is open a leader stays one, and another is a candidate.
+// Returns the message to all members. A leader with an open round stays leader, and any other member is a candidate.
 fn asked_all(setup: &Setup, view: &mut View, now: u64)
     requires sound { IsSound setup.now }
     requires early { now < 2 ^ 62 }
@@ -134,7 +134,7 @@ fn asked_all(setup: &Setup, view: &mut View, now: u64)
     }
 }
 
-// A round is opened, with the own answer.
+// Opens a round, with the own vote.
 fn begin_round(setup: &Setup, view: &mut View, number: u32, now: u64) -> Deed
     requires sound { IsSound setup.now }
     requires second { IsTrue setup.now.second }
@@ -153,7 +153,7 @@ fn begin_round(setup: &Setup, view: &mut View, number: u32, now: u64) -> Deed
     Deed::saying(asked, Told::Nothing)
 }
 
-// The keep of a new term failed.
+// Goes on after a failed write of a new term.
 fn fail_ask(setup: &Setup, view: &mut View, now: u64) -> Deed
     requires sound { IsSound setup.now }
     requires early { now < 2 ^ 62 }
@@ -169,7 +169,7 @@ fn fail_ask(setup: &Setup, view: &mut View, now: u64) -> Deed
     Deed::telling(Told::AskFailed)
 }
 
-// The keep of a new term was answered.
+// Goes on after the write of a new term.
 fn finish_ask(setup: &Setup, view: &mut View, tried: Record, now: u64, ok: bool) -> Deed
     requires sound { IsSound setup.now }
     requires second { IsTrue setup.now.second }
@@ -186,7 +186,7 @@ fn finish_ask(setup: &Setup, view: &mut View, tried: Record, now: u64, ok: bool)
     begin_round(setup, view, 0, now)
 }
 
-// The keep of a renewal's own promise failed.
+// Goes on after a failed write of a renewal's own promise.
 fn fail_renewal(setup: &Setup, view: &mut View, now: u64) -> Deed
     requires sound { IsSound setup.now }
     requires early { now < 2 ^ 62 }
@@ -198,7 +198,7 @@ fn fail_renewal(setup: &Setup, view: &mut View, now: u64) -> Deed
     Deed::quiet()
 }
 
-// The keep of a renewal's own promise was answered.
+// Goes on after the write of a renewal's own promise.
 fn finish_renewal(
     setup: &Setup,
     view: &mut View,
@@ -221,7 +221,7 @@ fn finish_renewal(
     begin_round(setup, view, number, now)
 }
 
-// The keep that waits was answered.
+// Goes on with the rule that waits, after its write.
 pub(crate) fn finish(setup: &Setup, view: &mut View, now: u64, ok: bool) -> Deed
     requires sound { IsSound setup.now }
     requires second { IsTrue setup.now.second }
@@ -280,7 +280,7 @@ fn needs_term(setup: &Setup, view: &View) -> bool
     view.bound != Some(setup.me) || view.seen > view.term
 }
 
-// The next round of the term is opened, once the own promise is kept where there is one.
+// Opens the next round of the term, after the write of the own promise if there is one.
 fn renew_in_term(setup: &Setup, view: &mut View, number: u32, now: u64) -> Deed
     requires sound { IsSound setup.now }
     requires second { IsTrue setup.now.second }
@@ -296,7 +296,7 @@ fn renew_in_term(setup: &Setup, view: &mut View, number: u32, now: u64) -> Deed
     keeping(view, Rule::Renew { number }, tried, now)
 }
 
-// The lease is renewed.
+// Renews the lease.
 pub(crate) fn renew(setup: &Setup, view: &mut View, now: u64) -> Deed
     requires sound { IsSound setup.now }
     requires second { IsTrue setup.now.second }

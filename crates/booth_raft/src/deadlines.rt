@@ -1,4 +1,4 @@
-//! The rules at a deadline: hello, and then the rule of the role.
+//! The rules at a deadline: first a hello, and then the rule for the role that the member has.
 ghost use Rattle.std.specs.Prelude.{◌≡◌, ◌<◌, ◌^◌, IsTrue};
 ghost use Rattle.std.specs.Option.{ForSome};
 ghost use Rattle.booth_raft.specs.Deadlines.{candidate_due, due_now, follower_due, greeted, hello, is_tried, leader_due, leader_works, repeats, resends_or_renews, waits_or_acquires};
@@ -15,7 +15,7 @@ use crate::view::{Role, Round, View};
 use booth_wire::reasons::LOCF;
 use booth_wire::{Say, Setup};
 
-// At the first deadline after the start all are asked for their state.
+// Asks all members for their state, at the first deadline after the start.
 pub(crate) fn hello(setup: &Setup, view: &mut View, now: u64) -> Say
     ensures view { view.new ≡ greeted view.old }
     ensures say { result ≡ hello setup.now view.old now }
@@ -28,7 +28,7 @@ pub(crate) fn hello(setup: &Setup, view: &mut View, now: u64) -> Say
     }
 }
 
-// The round is still sent again.
+// Returns whether the member still sends this round again.
 fn is_tried(setup: &Setup, round: &Round, now: u64) -> bool
     requires sound { IsSound setup.now }
     requires opened { round.now.opened < 2 ^ 62 }
@@ -72,7 +72,7 @@ fn resends_or_renews(setup: &Setup, view: &mut View, now: u64) -> Deed
     Deed::saying(asks_again(setup, view, &round, now), Told::Nothing)
 }
 
-// A handler that still runs has failed, and the lease is given back.
+// Releases the lease, since a handler that still runs has failed.
 fn leader_works(setup: &Setup, view: &mut View, now: u64) -> Deed
     requires sound { IsSound setup.now }
     requires second { IsTrue setup.now.second }
@@ -88,7 +88,7 @@ fn leader_works(setup: &Setup, view: &mut View, now: u64) -> Deed
     resends_or_renews(setup, view, now)
 }
 
-// The lease ran out, and those that wait are told.
+// Ends a lease that has run out, and answers the clients that wait.
 pub(crate) fn lose(setup: &Setup, view: &mut View, now: u64) -> Deed
     requires sound { IsSound setup.now }
     requires early { now < 2 ^ 62 }
@@ -165,7 +165,7 @@ fn follower_due(setup: &Setup, view: &mut View, now: u64) -> Deed
     Deed::quiet()
 }
 
-// The rule of the role at its deadline.
+// Runs the rule for the member's role, at its deadline.
 pub(crate) fn due_now(setup: &Setup, view: &mut View, now: u64) -> Deed
     requires sound { IsSound setup.now }
     requires second { IsTrue setup.now.second }

@@ -1,38 +1,38 @@
-//! What a rule gives to be done, and what it is told of handlers and clients.
+//! The action of a rule, and what a core is told about handlers and clients.
 use booth_rec::Record;
 use booth_wire::Say;
 
-/// What is to follow that the rules of leases do not decide.
+/// What follows a rule that the lease rules do not decide.
 #[derive(Clone, Copy, PartialEq, Eq)]
 pub enum Want {
     Nothing,
-    /// The lease is to be renewed.
+    /// Renew the lease.
     Renew,
-    /// The ticket is to be acquired.
+    /// Acquire the ticket.
     Acquire,
 }
 
-/// What the clients that wait are to be told.
+/// The result for the clients that wait.
 #[derive(Clone, Copy, PartialEq, Eq)]
 pub enum Told {
     Nothing,
-    /// A lease was gained; `sure` where its record is kept.
+    /// The member gained a lease; `sure` if its record was written.
     Gained { sure: bool },
     /// The round of this member ended without a majority.
     RoundFailed,
-    /// No round was opened.
+    /// The member opened no round.
     AskFailed,
-    /// The lease was given back.
+    /// The member released the lease.
     Released,
-    /// The lease was to be given back, and that could not be kept.
+    /// The write of a release failed.
     ReleaseFailed,
-    /// The lease ran out.
+    /// The lease has run out.
     Lost,
-    /// The handler failed or could not be started. No rule of leases says this; who runs handlers does.
+    /// The handler failed or could not be started. No lease rule returns this; the caller that runs handlers does.
     HandlerFailed,
 }
 
-/// What a rule gives to be done: first the keep, then what is said, then what is told.
+/// The action of a rule: first the write, then the message to members, then the result for clients.
 #[derive(Drop)]
 pub struct Deed {
     pub keep: Option<Record>,
@@ -41,16 +41,16 @@ pub struct Deed {
     pub told: Told,
 }
 
-/// What became of handlers and clients' requests.
+/// An event of a handler or of a client's request.
 #[derive(Clone, Copy)]
 pub enum Note {
-    /// A client's request is followed.
+    /// The member follows a client's request.
     Asked,
-    /// A handler was started as this job, for an acquisition of this reason.
+    /// A handler was started under this number, before an acquisition for this reason.
     JobStarted { job: u64, reason: u32 },
-    /// The job is over.
+    /// The handler has ended.
     JobOver,
-    /// No term could be asked for.
+    /// No election could be started.
     AskFailed,
     /// The handler failed or could not be started.
     HandlerFailed,

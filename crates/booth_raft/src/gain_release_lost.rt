@@ -1,4 +1,4 @@
-//! The rules gain, release and lost: the first part of each, which asks for a keep, and what its answer leads to.
+//! The rules gain, release and lost: the first part of each, which requests a write, and the part after the write.
 ghost use Rattle.std.specs.Prelude.{◌≡◌, ◌<◌, ◌^◌, IsTrue};
 ghost use Rattle.booth_rec.specs.Record.{lease_end};
 ghost use Rattle.booth_raft.specs.GainReleaseLost.{due_by_rank, free_record, gained, gain, finish_gain, let_go, lost, own_end, release, finish_release, released, record_of, retry_at, retry_release_at, finish_round_end, round_ends, unreleased, without_own};
@@ -13,21 +13,21 @@ use booth_rec::{Lease, Promise, Record};
 use booth_wire::Setup;
 use booth_wire::reasons::SPLT;
 
-// Where a lease ends, and 0 where there is none.
+// Returns the end of a lease, and 0 for none.
 pub(crate) fn lease_end(lease: Option<Lease>) -> u64
     ensures { result ≡ lease_end lease }
 {
     lease.map_or(0, |l| l.until)
 }
 
-/// Where the lease of the view's record ends, and 0 where it has none.
+/// Returns the end of the lease in the view's record in ms, and 0 if it has none.
 pub fn own_end(view: &View) -> u64
     ensures { result ≡ own_end view.now }
 {
     lease_end(view.kept.lease)
 }
 
-// A leader tries again a timeout later, but not past its lease.
+// Returns when a leader tries again: a timeout later, but not after the end of its lease.
 pub(crate) fn retry_at(setup: &Setup, view: &View, now: u64) -> u64
     requires sound { IsSound setup.now }
     requires early { now < 2 ^ 62 }
@@ -36,7 +36,7 @@ pub(crate) fn retry_at(setup: &Setup, view: &View, now: u64) -> u64
     (now + setup.times.timeout).min(own_end(view))
 }
 
-// When a site tries again after an acquisition that failed.
+// Returns when a site tries again after an acquisition that failed.
 pub(crate) fn due_by_rank(setup: &Setup, view: &View, now: u64) -> Option<u64>
     requires sound { IsSound setup.now }
     requires early { now < 2 ^ 62 }
@@ -49,7 +49,7 @@ pub(crate) fn due_by_rank(setup: &Setup, view: &View, now: u64) -> Option<u64>
     }
 }
 
-// What a view keeps with a lease. The setup says by its version that a pledge is kept.
+// Returns the record that a view writes with a lease. In version 2 it has a pledge.
 pub(crate) fn record_of(setup: &Setup, view: &View, lease: Option<Lease>) -> Record
     requires second { IsTrue setup.now.second }
     ensures { result ≡ record_of setup.now view.now lease }
@@ -62,7 +62,7 @@ pub(crate) fn record_of(setup: &Setup, view: &View, lease: Option<Lease>) -> Rec
     }
 }
 
-// A round is won: its lease is kept.
+// Gains the lease of a won round, with its write.
 pub(crate) fn gain(setup: &Setup, view: &mut View, round: Round, now: u64) -> Deed
     requires sound { IsSound setup.now }
     requires second { IsTrue setup.now.second }
@@ -90,7 +90,7 @@ pub(crate) fn gain(setup: &Setup, view: &mut View, round: Round, now: u64) -> De
     keeping(view, Rule::Gain, tried, now)
 }
 
-// The keep of a gain was answered.
+// Goes on after the write of a gained lease.
 pub(crate) fn finish_gain(setup: &Setup, view: &mut View, now: u64, ok: bool) -> Deed
     ensures view { view.new ≡ (finish_gain setup.now view.old now ok).view }
     ensures deed { result ≡ (finish_gain setup.now view.old now ok).deed }
@@ -111,7 +111,7 @@ fn free_record(setup: &Setup, view: &View) -> Record
     record_of(setup, view, None)
 }
 
-// A record without a lease is kept.
+// Releases the lease, with the write of a record without one.
 pub(crate) fn release(setup: &Setup, view: &mut View, reason: u32, now: u64) -> Deed
     requires second { IsTrue setup.now.second }
     ensures view { view.new ≡ (release setup.now view.old reason now).view }
@@ -159,7 +159,7 @@ fn released(setup: &Setup, view: &mut View, tried: Record, reason: u32, now: u64
     }
 }
 
-// When a leader tries its release again.
+// Returns when a leader tries its release again.
 fn retry_release_at(setup: &Setup, view: &View, now: u64) -> u64
     requires sound { IsSound setup.now }
     requires early { now < 2 ^ 62 }
@@ -182,7 +182,7 @@ fn unreleased(setup: &Setup, view: &mut View, reason: u32, now: u64)
     }
 }
 
-// The keep of a release was answered.
+// Goes on after the write of a release.
 pub(crate) fn finish_release(
     setup: &Setup,
     view: &mut View,
@@ -204,7 +204,7 @@ pub(crate) fn finish_release(
     Deed::saying(revokes(setup, view.term, reason), Told::Released)
 }
 
-// A candidate's round ends.
+// Ends a candidate's round.
 pub(crate) fn round_ends(setup: &Setup, view: &mut View, now: u64) -> Deed
     requires second { IsTrue setup.now.second }
     ensures view { view.new ≡ (round_ends setup.now view.old now).view }
@@ -216,7 +216,7 @@ pub(crate) fn round_ends(setup: &Setup, view: &mut View, now: u64) -> Deed
     keeping(view, Rule::EndRound, free, now)
 }
 
-// The keep of a round's end was answered.
+// Goes on after the write at the end of a round.
 pub(crate) fn finish_round_end(
     setup: &Setup,
     view: &mut View,
@@ -234,7 +234,7 @@ pub(crate) fn finish_round_end(
     deed
 }
 
-// The lease ran out.
+// Ends a lease that has run out.
 pub(crate) fn lost(setup: &Setup, view: &mut View, now: u64)
     requires sound { IsSound setup.now }
     requires early { now < 2 ^ 62 }

@@ -16,9 +16,9 @@ use std::marker::Model;
 
 /// The lease rules of one automatic ticket at one member.
 ///
-/// Every `now` is a reading of the member's clock in milliseconds since 1970, below 2^62. A deed is
-/// done in the order keep, say, told; after a deed with a keep the next call is `kept`, at the same
-/// reading. No call takes memory.
+/// Every `now` is a reading of the member's clock in milliseconds since 1970, below 2^62. The caller does the parts
+/// of a deed (an action) in the order keep, say, told. A keep is a write of a record to disk: after a deed with a
+/// keep the next call is `kept`, at the same reading. No call allocates memory.
 #[derive(Drop)]
 pub struct Core {
     setup: Setup,
@@ -49,7 +49,7 @@ impl Core {
     ghost use Rattle.booth_raft.specs.StartAndLearn.{started};
     ghost use Rattle.booth_raft.specs.State.{IsDue, IsOver, IsWaiting, MayRelease, State, step, with_view};
 
-    /// A member starts, from the record that it kept.
+    /// Starts a member from the record that it wrote last.
     pub fn start(setup: &Setup, kept: Option<&Record>, now: u64) -> Core
         requires sound { IsSound setup.now }
         requires second { IsTrue setup.now.second }
@@ -64,7 +64,7 @@ impl Core {
         }
     }
 
-    /// What the member knows of the ticket.
+    /// Returns what the member knows about the ticket.
     pub fn view(&self) -> &View
         ensures value { result.now ≡ self.now.view }
         ensures facts { ViewFacts self.now.setup self.now.view }
@@ -72,7 +72,7 @@ impl Core {
         &self.view
     }
 
-    /// The setup that it started with.
+    /// Returns the setup with which it started.
     pub fn setup(&self) -> &Setup
         ensures value { result.now ≡ self.now.setup }
         ensures sound { IsSound result.now }
@@ -80,7 +80,11 @@ impl Core {
         &self.setup
     }
 
-    /// A new term is asked for. Where the terms are spent, nothing changes.
+    /// Starts an election in a new term.
+    ///
+    /// # Errors
+    ///
+    /// `TermSpent` if no term is left; the core is then unchanged.
     pub fn ask(&mut self, now: u64, reason: u32) -> Result<Deed, TermSpent>
         requires early { now < 2 ^ 62 }
         requires idle { self.old.view.waiting ≡ None }
@@ -97,7 +101,7 @@ impl Core {
         Ok(ask(&self.setup, &mut self.view, reason, now))
     }
 
-    /// A message of the member at the place `from`, another than this one, is heard.
+    /// Handles a message from the member at the place `from`, which is another than this one.
     pub fn hear(&mut self, now: u64, from: u32, head: &Head, part: &TicketPart) -> Deed
         requires early { now < 2 ^ 62 }
         requires idle { self.old.view.waiting ≡ None }
@@ -110,7 +114,7 @@ impl Core {
         hear(&self.setup, &mut self.view, from, head, part, now)
     }
 
-    /// The keep that waits was answered: `ok` where the record is kept.
+    /// Goes on after the write that waits: `ok` if the record was written.
     pub fn kept(&mut self, now: u64, ok: bool) -> Deed
         requires early { now < 2 ^ 62 }
         requires waiting { IsWaiting self.old.view now }
@@ -121,7 +125,7 @@ impl Core {
         finish(&self.setup, &mut self.view, now, ok)
     }
 
-    /// At the first deadline after the start all members are asked for their state.
+    /// Asks all members for their state, at the first deadline after the start.
     pub fn hello(&mut self, now: u64) -> Say
         requires early { now < 2 ^ 62 }
         requires idle { self.old.view.waiting ≡ None }
@@ -132,7 +136,7 @@ impl Core {
         hello(&self.setup, &mut self.view, now)
     }
 
-    /// The rule of the role at its deadline.
+    /// Runs the rule for the member's role, at its deadline.
     pub fn tick(&mut self, now: u64) -> Deed
         requires early { now < 2 ^ 62 }
         requires idle { self.old.view.waiting ≡ None }
@@ -146,7 +150,7 @@ impl Core {
         due_now(&self.setup, &mut self.view, now)
     }
 
-    /// The lease of a leader ran out: what its deadline does then, whenever that is.
+    /// Ends a leader's lease that has run out, as its deadline would, at any time.
     pub fn lose(&mut self, now: u64) -> Deed
         requires early { now < 2 ^ 62 }
         requires idle { self.old.view.waiting ≡ None }
@@ -158,7 +162,7 @@ impl Core {
         lose(&self.setup, &mut self.view, now)
     }
 
-    /// What became of a handler or of a client's request is noted.
+    /// Notes an event of a handler or of a client's request.
     pub fn note(&mut self, now: u64, note_made: Note)
         requires early { now < 2 ^ 62 }
         requires idle { self.old.view.waiting ≡ None }
@@ -168,7 +172,7 @@ impl Core {
         noted(&self.setup, &mut self.view, now, note_made);
     }
 
-    /// The lease is renewed, after the handler where there is one.
+    /// Renews the lease, after the handler if there is one.
     pub fn renew(&mut self, now: u64) -> Deed
         requires early { now < 2 ^ 62 }
         requires idle { self.old.view.waiting ≡ None }
@@ -180,7 +184,7 @@ impl Core {
         renew(&self.setup, &mut self.view, now)
     }
 
-    /// The lease is given back.
+    /// Releases the lease.
     pub fn release(&mut self, now: u64, reason: u32) -> Deed
         requires early { now < 2 ^ 62 }
         requires idle { self.old.view.waiting ≡ None }

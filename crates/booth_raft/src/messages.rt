@@ -1,4 +1,4 @@
-//! What the rules say to members.
+//! The messages that the rules send to members.
 ghost use Rattle.std.specs.Prelude.{◌≡◌};
 ghost use Rattle.booth_raft.specs.Messages.{head_of, part_of, owner_now, shown_end, state_part, asks_state, tells_state, tells_gain, revokes, answer_cmd, answers_round, refuses_round, round_head, round_part, asks_all, asks_again};
 
@@ -43,7 +43,7 @@ fn part_of(setup: &Setup, leader: MemberId, term: u32, valid_for: u32) -> Ticket
     }
 }
 
-/// The owner now: the one that is shown, while it is, else `NO_ONE`.
+/// Returns the owner now: the one that the member knows of, until its lease ends, else `NO_ONE`.
 pub fn owner_now(shown: Option<Shown>, now: u64) -> MemberId
     ensures { result ≡ owner_now shown now }
 {
@@ -53,14 +53,14 @@ pub fn owner_now(shown: Option<Shown>, now: u64) -> MemberId
     }
 }
 
-/// Where what is shown ends, and 0 where nothing is.
+/// Returns the end of the lease that the member knows of in ms, and 0 if it knows of none.
 pub fn shown_end(shown: Option<Shown>) -> u64
     ensures { result ≡ shown_end shown }
 {
     shown.map_or(0, |s| s.until)
 }
 
-// The owner now, the term, and the seconds left.
+// Returns the owner now, the term, and the seconds left.
 fn state_part(setup: &Setup, view: &View, now: u64) -> TicketPart
     ensures { result ≡ state_part setup.now view.now now }
 {
@@ -68,7 +68,7 @@ fn state_part(setup: &Setup, view: &View, now: u64) -> TicketPart
     part_of(setup, owner_now(view.shown, now), view.term, left)
 }
 
-// All are asked for their state.
+// Asks all members for their state.
 pub(crate) fn asks_state(setup: &Setup, view: &View, now: u64) -> Say
     ensures { result ≡ asks_state setup.now view.now now }
 {
@@ -78,7 +78,7 @@ pub(crate) fn asks_state(setup: &Setup, view: &View, now: u64) -> Say
     )
 }
 
-// Who asked for the state is told it.
+// Answers a member that asked for the state.
 pub(crate) fn tells_state(setup: &Setup, view: &View, asked: &Head, now: u64) -> Say
     ensures { result ≡ tells_state setup.now view.now asked.now now }
 {
@@ -86,7 +86,7 @@ pub(crate) fn tells_state(setup: &Setup, view: &View, asked: &Head, now: u64) ->
     Say::Reply(answer, state_part(setup, view, now))
 }
 
-// All are told of a lease.
+// Announces a lease to all members.
 pub(crate) fn tells_gain(setup: &Setup, view: &View, now: u64) -> Say
     ensures { result ≡ tells_gain setup.now view.now now }
 {
@@ -96,7 +96,7 @@ pub(crate) fn tells_gain(setup: &Setup, view: &View, now: u64) -> Say
     )
 }
 
-// All are told that a term's lease was given back.
+// Announces to all members that the lease of a term was released.
 pub(crate) fn revokes(setup: &Setup, term: u32, reason: u32) -> Say
     ensures { result ≡ revokes setup.now term reason }
 {
@@ -113,7 +113,7 @@ fn answer_cmd(kind: RoundKind) -> Cmd
     }
 }
 
-// The answer to a round.
+// Returns the answer to a round.
 pub(crate) fn answers_round(
     setup: &Setup,
     kind: RoundKind,
@@ -128,7 +128,7 @@ pub(crate) fn answers_round(
     Say::Reply(answer, part_of(setup, to, term, 0))
 }
 
-// The refusal of a round.
+// Returns the refusal of a round.
 pub(crate) fn refuses_round(setup: &Setup, view: &View, round: &Head, why: u32, now: u64) -> Say
     ensures { result ≡ refuses_round setup.now view.now round.now why now }
 {
@@ -153,7 +153,7 @@ fn round_part(setup: &Setup, view: &View, now: u64) -> TicketPart
     part_of(setup, setup.me, view.term, left)
 }
 
-// All are asked to answer a round.
+// Returns the round's message to all members.
 pub(crate) fn asks_all(setup: &Setup, view: &View, number: u32, now: u64) -> Say
     ensures { result ≡ asks_all setup.now view.now number now }
 {
@@ -163,7 +163,7 @@ pub(crate) fn asks_all(setup: &Setup, view: &View, number: u32, now: u64) -> Say
     )
 }
 
-// Those that have not answered a round are asked again.
+// Returns the round's message to the members that have not answered.
 pub(crate) fn asks_again(setup: &Setup, view: &View, round: &Round, now: u64) -> Say
     ensures { result ≡ asks_again setup.now view.now round.now now }
 {

@@ -1,4 +1,4 @@
-//! The rule for other messages, and which rule a command is heard by.
+//! The rule for other messages, and which rule handles each command.
 ghost use Rattle.std.specs.Prelude.{◌≡◌, ◌<◌, ◌^◌, ◌==◌, not, IsTrue};
 ghost use Rattle.std.specs.Option.{ForSome};
 ghost use Rattle.booth_raft.specs.Messages.{answer_cmd};
@@ -15,7 +15,7 @@ use booth_base::MemberId;
 use booth_wire::reasons::{LOCF, SPLT};
 use booth_wire::{Cmd, Head, Setup, TicketPart};
 
-// A promise to a site of a term at most this is dropped.
+// Drops a promise to a site, if its term is at most this one.
 fn freed(view: &mut View, site: MemberId, term: u32)
     ensures { view.new ≡ freed view.old site term }
 {
@@ -30,7 +30,7 @@ fn is_owner(shown: Option<Shown>, member: MemberId) -> bool
     shown.is_some_and(|s| s.owner == member)
 }
 
-// The owner's handler failed: a site that follows acquires the ticket in its turn.
+// Has a site that follows acquire the ticket when its turn comes, since the owner's handler failed.
 fn handed_on(setup: &Setup, view: &mut View, now: u64)
     requires sound { IsSound setup.now }
     requires early { now < 2 ^ 62 }
@@ -42,7 +42,7 @@ fn handed_on(setup: &Setup, view: &mut View, now: u64)
     }
 }
 
-// The ticket was given back by will: nobody acquires it.
+// Leaves the ticket to no site, since it was released by command.
 fn left_alone(view: &mut View)
     ensures { view.new ≡ left_alone view.old }
 {
@@ -52,7 +52,7 @@ fn left_alone(view: &mut View)
     }
 }
 
-// What a member does about a ticket that its owner gave back.
+// Does what follows a release by the ticket's owner.
 fn given_back(setup: &Setup, view: &mut View, reason: u32, now: u64)
     requires sound { IsSound setup.now }
     requires early { now < 2 ^ 62 }
@@ -65,7 +65,7 @@ fn given_back(setup: &Setup, view: &mut View, reason: u32, now: u64)
     }
 }
 
-// A revocation is heard.
+// Handles a release message.
 fn revoked(setup: &Setup, view: &mut View, head: &Head, term: u32, now: u64)
     requires sound { IsSound setup.now }
     requires early { now < 2 ^ 62 }
@@ -78,7 +78,7 @@ fn revoked(setup: &Setup, view: &mut View, head: &Head, term: u32, now: u64)
     }
 }
 
-// Whether a number is that of a round of this kind.
+// Returns whether a number is that of a round of this kind.
 fn is_number_of(kind: RoundKind, number: u32) -> bool
     ensures election { kind ≡ RoundKind.Election → result ≡ (number == 0) }
     ensures renewal { kind ≡ RoundKind.Renewal → result ≡ not (number == 0) }
@@ -89,7 +89,7 @@ fn is_number_of(kind: RoundKind, number: u32) -> bool
     }
 }
 
-// An election is heard: its number is 0. It is heard alike from each place.
+// Handles an election: its number is 0. The sender's place makes no difference.
 fn hear_election(setup: &Setup, view: &mut View, head: &Head, part: &TicketPart, now: u64) -> Deed
     requires sound { IsSound setup.now }
     requires second { IsTrue setup.now.second }
@@ -105,7 +105,7 @@ fn hear_election(setup: &Setup, view: &mut View, head: &Head, part: &TicketPart,
     }
 }
 
-// A renewal is heard: its number is another.
+// Handles a renewal: its number is above 0.
 fn hear_renewal(setup: &Setup, view: &mut View, head: &Head, part: &TicketPart, now: u64) -> Deed
     requires sound { IsSound setup.now }
     requires second { IsTrue setup.now.second }
@@ -121,7 +121,7 @@ fn hear_renewal(setup: &Setup, view: &mut View, head: &Head, part: &TicketPart, 
     }
 }
 
-// An answer of the member at a place is heard, where its number is that of a round of its kind.
+// Handles an answer of the member at a place, if its number fits a round of its kind.
 fn hear_numbered_answer(
     setup: &Setup,
     view: &mut View,
@@ -147,7 +147,7 @@ fn hear_numbered_answer(
     }
 }
 
-// A message of the member at a place is heard.
+// Handles a message of the member at a place.
 pub(crate) fn hear(
     setup: &Setup,
     view: &mut View,
@@ -184,6 +184,7 @@ pub(crate) fn hear(
         }
         // (what clients ask and are answered)
         Cmd::CLst
+        | Cmd::CTkt
         | Cmd::Peer
         | Cmd::CGnt
         | Cmd::CRvk
@@ -192,6 +193,7 @@ pub(crate) fn hear(
         | Cmd::ADel
         | Cmd::ALst
         | Cmd::RLst
+        | Cmd::RTkt
         | Cmd::RPer
         | Cmd::RALs
         | Cmd::RGnt

@@ -1,4 +1,4 @@
-//! The rules for a round that is heard and for an answer that is heard.
+//! The rules for a round and for an answer that a member receives.
 ghost use Rattle.std.specs.Prelude.{◌≡◌, ◌<◌, ◌^◌, ◌↔◌, IsTrue};
 ghost use Rattle.std.specs.Option.{ForSome};
 ghost use Rattle.booth_raft.specs.RoundsAndAnswers.{MayAnswer, may_answer, why_refused, promised, stood_down, shows_site, with_site, due_after_answer, with_due, told_by_answer, answered_round, hear_round, finish_answer, is_answer_to, wins, join, hear_answer};
@@ -16,7 +16,7 @@ use booth_rec::{Promise, Record};
 use booth_wire::results::{BUSY, OUTD, TODT, TVLD};
 use booth_wire::{Head, Say, Setup, TicketPart};
 
-// Whether a round of a site and a term may be answered.
+// Returns whether the member may answer a round of a site in a term.
 pub(crate) fn may_answer(view: &View, site: MemberId, term: u32, now: u64) -> bool
     ensures test { result ≡ may_answer view.now site term now }
     ensures facts { IsTrue result ↔ MayAnswer view.now site term now }
@@ -27,7 +27,7 @@ pub(crate) fn may_answer(view: &View, site: MemberId, term: u32, now: u64) -> bo
         && (term > view.term || (term == view.term && view.bound.is_none_or(|bound| bound == site)))
 }
 
-// Why a round is refused.
+// Returns why a round is refused.
 fn why_refused(view: &View, site: MemberId, term: u32, now: u64) -> u32
     ensures { result ≡ why_refused view.now site term now }
 {
@@ -87,7 +87,7 @@ fn with_site(view: &mut View, site: MemberId, kind: RoundKind, part: &TicketPart
     }
 }
 
-// When a site that answered looks for the failover.
+// Returns the next deadline of a site that has answered: when it looks for the failover.
 fn due_after_answer(setup: &Setup, view: &View, kind: RoundKind, part: &TicketPart, now: u64) -> u64
     requires sound { IsSound setup.now }
     requires early { now < 2 ^ 62 }
@@ -137,7 +137,7 @@ fn told_by_answer(role: Role) -> Told
     }
 }
 
-// A round is heard.
+// Handles a round.
 pub(crate) fn hear_round(
     setup: &Setup,
     view: &mut View,
@@ -169,7 +169,7 @@ pub(crate) fn hear_round(
     keeping(view, answer, tried, now)
 }
 
-// The keep of a promise was answered: the round is answered only where it is kept.
+// Goes on after the write of a promise: the member answers the round only if the promise was written.
 pub(crate) fn finish_answer(
     view: &mut View,
     tried: Record,
@@ -194,7 +194,7 @@ fn is_answer_to(setup: &Setup, round: &Round, head: &Head, part: &TicketPart) ->
     part.leader == setup.me && round.term == part.term && round.number == head.options
 }
 
-// Whether a round gives a lease now.
+// Returns whether a round gives a lease now.
 fn wins(setup: &Setup, round: &Round, now: u64) -> bool
     requires sound { IsSound setup.now }
     requires opened { round.now.opened < 2 ^ 62 }
@@ -218,7 +218,7 @@ fn join(setup: &Setup, view: &mut View, round: Round, now: u64) -> Deed
     Deed::quiet()
 }
 
-// An answer of the member at a place is heard.
+// Handles an answer of the member at a place.
 pub(crate) fn hear_answer(
     setup: &Setup,
     view: &mut View,

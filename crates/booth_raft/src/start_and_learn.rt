@@ -11,7 +11,7 @@ use booth_base::{MemberId, NO_ONE, guard_ms, promise_ms};
 use booth_rec::Record;
 use booth_wire::{Setup, TicketPart};
 
-// The view of a ticket at a member that starts from this record.
+// Returns the view of a ticket at a member that starts from this record.
 pub(crate) fn started(setup: &Setup, kept: Record, now: u64) -> View
     requires sound { IsSound setup.now }
     requires early { now < 2 ^ 62 }
@@ -56,14 +56,14 @@ pub(crate) fn started(setup: &Setup, kept: Record, now: u64) -> View
     }
 }
 
-// A member message raises the term that was seen.
+// Raises the greatest term seen to that of a member's message.
 pub(crate) fn with_seen(view: &mut View, term: u32)
     ensures { view.new ≡ with_seen view.old term }
 {
     view.seen = view.seen.max(term);
 }
 
-// The failover time of what is shown.
+// Returns the failover time after the known lease.
 pub(crate) fn failover_time(setup: &Setup, view: &View) -> u64
     requires { IsSound setup.now }
     ensures { result ≡ failover_time setup.now view.now }
@@ -74,14 +74,14 @@ pub(crate) fn failover_time(setup: &Setup, view: &View) -> u64
         .saturating_add(setup.rank as u64 * setup.times.timeout)
 }
 
-// A site that follows and repeats no revocation waits for the failover.
+// Returns whether a site waits for the failover: it follows and repeats no release message.
 pub(crate) fn awaits_failover(setup: &Setup, view: &View) -> bool
     ensures { result ≡ awaits_failover setup.now view.now }
 {
     view.role == Role::Follower && setup.site && view.repeat == 0
 }
 
-// An owner is shown until a moment, and the ticket is managed.
+// Makes an owner known until a moment; the ticket is managed from then on.
 pub(crate) fn with_shown(view: &mut View, owner: MemberId, until: u64)
     ensures { view.new ≡ with_shown view.old owner until }
 {
@@ -108,7 +108,7 @@ fn with_failover(setup: &Setup, view: &mut View)
     }
 }
 
-// What a message of state says.
+// Takes over what a message of state says.
 pub(crate) fn learned(setup: &Setup, view: &mut View, part: &TicketPart, now: u64)
     requires sound { IsSound setup.now }
     requires early { now < 2 ^ 62 }

@@ -1,20 +1,20 @@
-//! What a member knows of one automatic ticket. Moments are milliseconds on its own clock.
+//! What a member knows about one automatic ticket. Moments are in milliseconds of its own clock.
 use crate::deed::Told;
 use booth_base::{MEMBERS, MemberId};
 use booth_rec::{Promise, Record};
 
-/// From this term on no further term is asked for.
+/// From this term on a member starts no further election.
 pub const LAST_TERM: u32 = 4_294_967_294;
 
 /// The number of a round after which no renewal is opened.
 pub const LAST_NUMBER: u32 = 4_294_967_295;
 
-/// What a member does for the ticket.
+/// The role of a member for the ticket.
 #[derive(Clone, Copy, PartialEq, Eq)]
 pub enum Role {
-    /// It holds no lease and asks for none.
+    /// It holds no lease and has no open round.
     Follower,
-    /// A handler runs, after which it may ask.
+    /// A handler runs, and an election may follow it.
     Working,
     /// Its round for a new term is open.
     Candidate,
@@ -25,9 +25,9 @@ pub enum Role {
 /// Why a round is opened.
 #[derive(Clone, Copy, PartialEq, Eq)]
 pub enum RoundKind {
-    /// Votes for a new term are asked for: the round has number 0.
+    /// A round for votes in a new term; its number is 0.
     Election,
-    /// A lease is renewed within its term: the round has a number above 0.
+    /// A round that prolongs a lease within its term; its number is above 0.
     Renewal,
 }
 
@@ -36,9 +36,9 @@ pub enum RoundKind {
 pub struct Round {
     pub term: u32,
     pub number: u32,
-    /// The reading at which it was opened: a lease is counted from here.
+    /// The clock reading at which it was opened: the lease runs from here.
     pub opened: u64,
-    /// Who answered: true at the places of these members.
+    /// The members that answered: true at the place of each.
     pub answers: [bool; MEMBERS],
     /// Whether it gave a lease.
     pub won: bool,
@@ -51,23 +51,23 @@ pub struct Shown {
     pub until: u64,
 }
 
-/// A rule that keeps a record, with its arguments.
+/// A rule that requested a write, with its arguments.
 #[derive(Clone, Copy, PartialEq, Eq)]
 pub enum Rule {
-    /// A round was won.
+    /// Gain, after a won round.
     Gain,
-    /// A new term is asked for.
+    /// Ask, for an election in a new term.
     Ask {
         reason: u32,
     },
-    /// The lease is given back.
+    /// Release of the lease.
     Release {
         reason: u32,
     },
-    /// A candidate's round ended without a majority.
+    /// The end of a candidate's round that had no majority.
     EndRound,
-    /// A round was heard, and is answered where the promise to its member is kept. Clients are told
-    /// this whether it is or not.
+    /// The answer to a round, which is sent if the promise to its member was written. Clients get this result in
+    /// either case.
     Answer {
         kind: RoundKind,
         to: MemberId,
@@ -75,19 +75,19 @@ pub enum Rule {
         request: u32,
         told: Told,
     },
-    /// The lease is renewed: a round of this number is opened where the own promise is kept.
+    /// Renewal of the lease: a round with this number is opened if the own promise was written.
     Renew {
         number: u32,
     },
 }
 
-/// A keep that was asked for and is not answered.
+/// A write that was requested and has no result yet.
 #[derive(Clone, Copy, PartialEq, Eq)]
 pub struct Waiting {
     pub rule: Rule,
-    /// The record that is to be kept.
+    /// The record of the write.
     pub tried: Record,
-    /// The reading at which it was asked for.
+    /// The clock reading at which it was requested.
     pub now: u64,
 }
 
@@ -95,35 +95,35 @@ pub struct Waiting {
 #[derive(Clone, Copy, PartialEq, Eq)]
 pub struct View {
     pub term: u32,
-    /// The greatest term that was heard of.
+    /// The greatest term that the member has heard of.
     pub seen: u32,
-    /// The only member whose rounds of `term` are answered.
+    /// The only member whose rounds in `term` this member answers.
     pub bound: Option<MemberId>,
     pub promise: Option<Promise>,
-    /// No round is answered at readings below this.
+    /// The member answers no round at readings below this.
     pub abstain: u64,
-    /// The kept record; without one, that of version 1 with term 0 and no lease.
+    /// The record that was written last; before the first, that of version 1 with term 0 and no lease.
     pub kept: Record,
-    /// Whether the last keep succeeded.
+    /// Whether the last write succeeded.
     pub sure: bool,
-    /// The greatest end of a lease that may be kept, 0 for none.
+    /// The latest end of a lease that may have been written, 0 for none.
     pub force: u64,
     pub role: Role,
     pub round: Option<Round>,
     pub shown: Option<Shown>,
-    /// Whether the ticket is to be acquired where its lease is lost.
+    /// Whether a site acquires the ticket if its lease is lost.
     pub managed: bool,
-    /// Whether the members are still to be asked for their state.
+    /// Whether the member has yet to ask the others for their state.
     pub hello: bool,
-    /// How often a revocation is still to be repeated, with its reason and term.
+    /// How often the member will still repeat its release message, with the reason and the term of it.
     pub repeat: u32,
     pub repeat_reason: u32,
     pub repeat_term: u32,
-    /// The handler's job that runs.
+    /// The number of the handler that runs.
     pub job: Option<u64>,
-    /// Why the acquisition that runs was begun.
+    /// The reason for the acquisition under way.
     pub reason: u32,
-    /// When the rule of the role is next to be run.
+    /// When the rule for the member's role runs next.
     pub due: Option<u64>,
     pub waiting: Option<Waiting>,
 }

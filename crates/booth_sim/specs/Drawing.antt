@@ -1,4 +1,4 @@
--- What an event draws: three words of a generator, and what they say of it.
+-- The draws of an event: three words of a generator, and their meaning.
 use Rattle.std.specs.Prelude.{ℕ, zero, suc, ◌%◌, ◌==◌, nat_lt, Bool, if◌then◌else◌}
 use Rattle.rand_pcg.specs.Lcg.{Lcg, started, increment_of}
 use Rattle.rand_pcg.specs.Pcg.{multiplier_64, pcg32}
@@ -6,11 +6,11 @@ use Rattle.booth_sim.specs.declared.drawing.Draw.{Draw}
 use Rattle.booth_sim.specs.declared.drawing.Kind.{Kind}
 use Rattle.booth_sim.specs.declared.drawing.Kind.TheVariants.{Frame, Quiet, Grant, Revoke, Restart}
 
--- the generator of a number, on stream 54
+-- the generator with a seed, on stream 54
 abbrev pub generator_of : ℕ → Lcg
 generator_of number = started 64 multiplier_64 number (increment_of 64 54)
 
--- three words in their order, and the generator behind them
+-- three words in their order, and the generator after them
 abbrev pub drawn : Lcg → Draw × Lcg
 drawn generator =
     let first : ℕ × Lcg = pcg32 generator in
@@ -23,21 +23,22 @@ abbrev pub generator_before : ℕ → ℕ → Lcg
 generator_before number zero = generator_of number
 generator_before number (suc event) = (drawn (generator_before number event)).1
 
--- what an event draws
+-- the draws of an event
 abbrev pub draw_of : ℕ → ℕ → Draw
 draw_of number event = (drawn (generator_before number event)).0
 
--- ---- what the words say
+-- ---- the meaning of the words
 
 -- by how many milliseconds true time rises
 abbrev pub rise_of : Draw → ℕ
 rise_of draw = draw.first % 2000
 
--- whether each keep of this event's turn fails
+-- whether each write in this event's turn fails
 abbrev pub keeps_fail : Draw → Bool
 keeps_fail draw = draw.third % 64 == 0
 
--- of 2,000 draws 1,200 bring a frame, 790 nothing, 8 a grant's and one a revocation's request, and one is a restart
+-- of 2,000 draws, 1,200 deliver a frame, 790 deliver nothing, 8 are the request for a grant and one that for a
+-- revocation, and one is a restart
 abbrev pub kind_in : ℕ → Kind
 kind_in k =
     if nat_lt k 1200 then Frame else
@@ -48,10 +49,10 @@ kind_in k =
 abbrev pub kind_of : Draw → Kind
 kind_of draw = kind_in (draw.second % 2000)
 
--- the member that the event is at, among so many
+-- the member at which the event is, among this many
 abbrev pub member_of : Draw → ℕ → ℕ
 member_of draw members = draw.third % members
 
--- the ticket that a client asks for, among so many
+-- the ticket in a client's request, among this many
 abbrev pub ticket_of : Draw → ℕ → ℕ
 ticket_of draw tickets = draw.first % tickets

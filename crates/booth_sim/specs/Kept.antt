@@ -1,4 +1,4 @@
--- The records that members keep, by what they did.
+-- The records that members have on disk, by what they did.
 use Rattle.std.specs.Prelude.{ℕ, List, [], ◌∷◌, map, Option, Some, None, Ok, bytes_eq, if◌then◌else◌}
 use Rattle.booth_conf.specs.declared.tickets.TicketConf.{TicketConf}
 use Rattle.booth_rec.specs.declared.record.Record.{Record}
@@ -6,15 +6,15 @@ use Rattle.booth_host.specs.declared.entry.Entry.TheVariants as calls
 use Rattle.booth_node.specs.Session.{SessionEntry, Makes}
 use Rattle.booth_node.specs.World.{WorldEntry, entries_of}
 
--- the record of a ticket after these entries of its member, where it was this one before: that of the last keep that
--- answered Ok. A failed keep leaves the old one.
+-- the record of a ticket after these entries of its member, if it was this one before: that of the last write that
+-- succeeded. A failed write leaves the old record.
 abbrev pub kept_after : List ℕ → Option Record → List SessionEntry → Option Record
 kept_after name kept [] = kept
 kept_after name kept (Makes (calls.Keep ticket rec (Ok done)) ∷ entries) =
     kept_after name (if bytes_eq ticket name then Some rec else kept) entries
 kept_after name kept (entry ∷ entries) = kept_after name kept entries
 
--- the record that the member at a place keeps of a ticket; at first none
+-- the record of a ticket at the member at a place; at first none
 abbrev pub kept_by : ℕ → List ℕ → List WorldEntry → Option Record
 kept_by place name before = kept_after name None (entries_of place before)
 

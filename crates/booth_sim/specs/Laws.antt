@@ -1,4 +1,4 @@
--- What holds of each simulation.
+-- What holds for every simulation.
 use Rattle.std.specs.Prelude.{◌≡◌, ◌≤◌, ℕ, List}
 use Rattle.booth_conf.specs.Config.{ConfigSays}
 use Rattle.booth_conf.specs.Sound.{IsSound}
@@ -14,13 +14,13 @@ SimulationsAreWorlds =
     (config : ConfigSays) → IsSound config → (number events : ℕ) → events ≤ MOST_EVENTS
     → (entries : List WorldEntry) → IsSimulation config number events entries → IsWorld (world_of config entries)
 
--- a configuration, a number and a count of events make one simulation
+-- a configuration, a seed and a number of events give one simulation
 abbrev pub OneSimulation : Type 0
 OneSimulation =
     (config : ConfigSays) (number events : ℕ) (one other : List WorldEntry)
     → IsSimulation config number events one → IsSimulation config number events other → one ≡ other
 
--- after no event of a simulation is a ticket that is granted by votes held at two sites
+-- after no event of a simulation two sites hold an automatic ticket
 abbrev pub AtMostOneHolds : Type 0
 AtMostOneHolds =
     (config : ConfigSays) → IsSound config → (number events : ℕ) → events ≤ MOST_EVENTS

@@ -1,4 +1,4 @@
--- A simulation: the entries that a configuration and a generator's words make, and their world.
+-- A simulation: the entries that follow from a configuration and a generator's words, and their world.
 use Rattle.std.specs.Prelude.{◌≡◌, ℕ, zero, suc, ◌+◌, ◌++◌, true, false, Bool, List, [], ◌∷◌, length, map, None, Ok, is_err}
 use Rattle.std.specs.List.{range_with_len}
 use Rattle.booth_base.specs.Tree.{Ends}
@@ -43,18 +43,18 @@ entry_at place time what = record { member = place; time = time; what = what }
 
 -- ---- starts
 
--- the member at a place starts at a true time, with the records that it kept before
+-- the member at a place starts at a true time, with the records that it wrote before
 abbrev pub start_at : ConfigSays → List WorldEntry → ℕ → ℕ → WorldEntry
 start_at config before place time =
     entry_at place time (Starts (node_in config place) (reading_at place time) (all_kept config.tickets place before))
 
--- all members start at true time 0, one after the other, and have kept nothing
+-- all members start at true time 0, one after the other, and have written nothing
 abbrev pub starts : ConfigSays → List WorldEntry
 starts config = map (λ place. start_at config [] place 0) (range_with_len 0 (length config.members))
 
 -- ---- events
 
--- each keep answers as it is said, and sends and starts of handlers do not fail
+-- each write has the given result, and sends and starts of handlers do not fail
 abbrev pub IsAnswered : Bool → Entry → Type 0
 IsAnswered fails (calls.Keep ticket rec answer) = is_err answer ≡ fails
 IsAnswered fails (calls.Send to bytes answer) = is_err answer ≡ false
@@ -65,15 +65,15 @@ abbrev pub AreAnswered : Bool → List Entry → Type 0
 AreAnswered fails [] = Unit {0}
 AreAnswered fails (call ∷ calls) = IsAnswered fails call × AreAnswered fails calls
 
--- the calls of a turn: what comes, the reading, and the deeds
+-- the calls of a turn: the arrival, the reading, and the actions
 abbrev pub turn_calls : Arrival → List ℕ → ℕ → List Entry → List Entry
 turn_calls arrival bytes reading deeds = calls.Next 100 (Ok arrival) bytes ∷ calls.Now reading ∷ deeds
 
--- what a member does by these calls at a true time
+-- the entries of a member that makes these calls at a true time
 abbrev pub made_at : ℕ → ℕ → List Entry → List WorldEntry
 made_at place time calls = map (λ call. entry_at place time (Makes call)) calls
 
--- these are the entries of a turn of the member at a place, from where it stands
+-- these are the entries of a turn of the member at a place, from its current state
 pub record IsTurnAt (config : ConfigSays) (before : List WorldEntry) (place time : ℕ) (fails : Bool)
     (arrival : Arrival) (bytes : List ℕ) (entries : List WorldEntry) : Type 0 where
   pub old : State
@@ -84,19 +84,19 @@ pub record IsTurnAt (config : ConfigSays) (before : List WorldEntry) (place time
   pub answered : AreAnswered fails deeds
   pub whole : entries ≡ made_at place time (turn_calls arrival bytes (reading_at place time) deeds)
 
--- these are the entries of what happens at a true time
+-- these are the entries of an event at a true time
 abbrev pub IsHappening : ConfigSays → List WorldEntry → ℕ → Bool → Happening → List WorldEntry → Type 0
 IsHappening config before time fails (Turns place arrival bytes) entries =
     IsTurnAt config before place time fails arrival bytes entries
 IsHappening config before time fails (Restarts place) entries = entries ≡ start_at config before place time ∷ []
 
--- these are the entries of the event of this number that draws these words
+-- these are the entries of the event with this number and these draws
 abbrev pub IsEvent : ConfigSays → List WorldEntry → ℕ → Draw → List WorldEntry → Type 0
 IsEvent config before event draw entries =
     IsHappening config before (last_time 0 before + rise_of draw) (keeps_fail draw)
     (happening config before event draw) entries
 
--- the entries of so many events of a number's words: each event follows those before it
+-- the entries of this many events of a seed: each event follows those before it
 abbrev pub IsSimulation : ConfigSays → ℕ → ℕ → List WorldEntry → Type 0
 IsSimulation config number zero entries = entries ≡ starts config
 IsSimulation config number (suc event) entries =

@@ -1,4 +1,4 @@
--- How the code's parts say what they carry along: what stands there is what the entries before leave.
+-- The state that parts of the code carry along: it is what the entries before leave.
 use Rattle.std.specs.Prelude.{◌≡◌, ◌≤◌, ℕ, ◌+◌, List, [], ◌∷◌, length, Option, Ok}
 use Rattle.booth_base.specs.Tree.{Ends}
 use Rattle.booth_conf.specs.Config.{ConfigSays}
@@ -23,18 +23,18 @@ use Rattle.booth_sim.specs.Simulation.{AreAnswered, node_in, turn_calls}
 
 -- ---- a turn
 
--- a turn met this, and these are its deeds
+-- a turn had this input, and these are its actions
 pub record TookTurn (node : NodeConfig) (old new : State) (coming : Coming) (deeds : List Entry) : Type 0 where
   pub turn : IsTurn node old (turn_end (Ok coming.arrival))
       (turn_calls coming.arrival coming.bytes.now coming.reading deeds) new
   pub answered : AreAnswered coming.keeps_fail deeds
 
--- a next brought what comes
+-- a `next` returned this input
 pub record Brought (coming : Coming) (call : Entry) : Type 0 where
   pub wait : ℕ
   pub is : call ≡ calls.Next wait (Ok coming.arrival) coming.bytes.now
 
--- a host told these calls of a turn that met this
+-- a host recorded these calls of a turn that had this input
 pub record MetIn (coming : Coming) (told deeds : List Entry) : Type 0 where
   pub wait : ℕ
   pub whole : told ≡ calls.Next wait (Ok coming.arrival) coming.bytes.now ∷ calls.Now coming.reading ∷ deeds
@@ -42,7 +42,7 @@ pub record MetIn (coming : Coming) (told deeds : List Entry) : Type 0 where
 
 -- ---- between two entries
 
--- what was counted, but for the holders
+-- what was counted, except the holders
 pub record IsCounted (config : ConfigSays) (before : List WorldEntry) (summary : Summary) : Type 0 where
   pub delivered : summary.delivered ≡ delivered_in config before
   pub restarts : summary.restarts ≡ restarts_in before
@@ -50,7 +50,7 @@ pub record IsCounted (config : ConfigSays) (before : List WorldEntry) (summary :
   pub releases : summary.releases ≡ changes_in releases config before
   pub greatest : summary.greatest_term ≡ greatest_term before
 
--- a count of gains or releases rises by one at most
+-- a count of gains or releases rises by at most one
 pub record RisesByOne (old new : Summary) : Type 0 where
   pub gains : new.gains ≤ old.gains + 1
   pub releases : new.releases ≤ old.releases + 1
@@ -60,7 +60,7 @@ pub record RisesByOne (old new : Summary) : Type 0 where
   pub delivered : new.delivered ≡ old.delivered
   pub restarts : new.restarts ≡ old.restarts
 
--- what a deed of the member at a place changes
+-- the change by an action of the member at a place
 pub record IsSeen (config : ConfigSays) (before : List WorldEntry) (place : ℕ) (kept : List (Option Record))
     (frames : List SentFrame) (summary : Summary) : Type 0 where
   pub records : kept ≡ all_kept config.tickets place before
@@ -76,11 +76,11 @@ pub record HasStarted (config : ConfigSays) (place : ℕ) (kept : List (Option R
   pub state : state_of daemon.node ≡ opened (node_in config place) kept reading
   pub records : daemon.kept.items ≡ kept
 
--- a daemon keeps a record, or none, of each ticket
+-- a daemon has a record, or none, for each ticket
 abbrev pub KeepsAll : ConfigSays → Daemon → Type 0
 KeepsAll config daemon = length daemon.kept.items ≡ length config.tickets
 
--- a member's daemon stands where the entries left its member, and keeps its records
+-- a member's daemon is in the state that the entries left, and has the member's records
 pub record IsDaemon (config : ConfigSays) (before : List WorldEntry) (place : ℕ) (daemon : Daemon) : Type 0 where
   pub node : node_config daemon.node ≡ node_in config place
   pub stands : stand_after place before ≡ Doing (node_in config place) (Ends (state_of daemon.node))

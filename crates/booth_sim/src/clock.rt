@@ -3,13 +3,13 @@ ghost use Rattle.std.specs.Prelude.{◌≡◌, ◌*◌, ◌<◌, ◌≤◌, ◌+
 ghost use Rattle.booth_sim.specs.Happenings.{rate_at, reading_at};
 ghost use Rattle.booth_sim.specs.declared.clock.TheConstants.{TIMES_END};
 
-/// The rate of a clock that is right.
+/// The rate of an exact clock.
 const TRUE_RATE: u64 = 1_000_000;
 
-/// True times of a simulation are below this.
+/// The limit for the true times of a simulation.
 pub const TIMES_END: u64 = 1 << 40;
 
-// How far a clock goes in 1,000 seconds, in milliseconds.
+// Returns how far a clock goes in 1,000 seconds, in milliseconds.
 fn rate_at(place: usize) -> u64
     ensures exact { result ≡ rate_at place }
     ensures few { result ≤ 1001000 }
@@ -21,7 +21,7 @@ fn rate_at(place: usize) -> u64
     }
 }
 
-/// What the clock of the member at a place reads at a true time.
+/// Returns what the clock of the member at a place reads at a true time.
 pub fn reading_at(place: usize, time: u64) -> u64
     requires { time < TIMES_END }
     ensures { result ≡ reading_at place time }

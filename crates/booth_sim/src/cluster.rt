@@ -30,13 +30,13 @@ pub struct Cluster {
     pub config: Config,
     pub daemons: Vec<Daemon>,
     pub frames: SentFrames,
-    /// Where requests are written.
+    /// The frame for requests.
     request: Frame,
     pub time: u64,
     pub summary: Summary,
 }
 
-// All members start for the first time.
+// Starts all members for the first time.
 fn start_daemons(alloc: Global, config: &Config) -> Result<Vec<Daemon>, AllocError>
     ensures { IfOk result (λ daemons. HaveStarted config.now (length config.now.members) daemons.items) }
 {
@@ -48,7 +48,7 @@ fn start_daemons(alloc: Global, config: &Config) -> Result<Vec<Daemon>, AllocErr
 }
 
 impl Cluster {
-    /// All members have started, and nothing was counted.
+    /// Returns a cluster in which all members have started and nothing was counted.
     pub fn new(alloc: Global, config: Config, summary: Summary) -> Result<Cluster, AllocError>
         requires sound { IsSound config }
         requires nothing { IsNothing summary }
@@ -65,7 +65,7 @@ impl Cluster {
         })
     }
 
-    // What the event of this number is.
+    // Returns the event with this number.
     fn happening(&mut self, event: u32, draw: &Draw) -> Result<Happening, AllocError>
         requires { IsSound self.old.config }
         ensures happens { IfOk result (IsWhatHappens self.old.config self.old.frames event draw.now) }
@@ -81,7 +81,7 @@ impl Cluster {
         )
     }
 
-    // The member at a place makes a turn.
+    // Has the member at a place make a turn.
     fn make_turn(&mut self, place: usize, coming: &Coming<'_>) -> Result<(), AllocError>
         requires ready { IsReady self.old }
         requires place { place < length self.old.config.members }
@@ -102,7 +102,7 @@ impl Cluster {
         Ok(())
     }
 
-    // The member at a place is stopped, and starts again.
+    // Stops the member at a place, and starts it again.
     fn restart(&mut self, place: usize) -> Result<(), AllocError>
         requires ready { IsReady self.old }
         requires place { place < length self.old.config.members }
@@ -114,7 +114,7 @@ impl Cluster {
         Ok(())
     }
 
-    // What an event is happens at this true time.
+    // Applies an event at the current true time.
     fn happen(&mut self, happening: &Happening, keeps_fail: bool) -> Result<(), AllocError>
         requires ready { IsReady self.old }
         requires place { CanHappen self.old.config (says happening.now) }
@@ -141,7 +141,7 @@ impl Cluster {
         }
     }
 
-    // The most sites that hold a ticket now are counted.
+    // Counts the most sites that hold a ticket now.
     fn count_holders(&mut self)
         requires { IsReady self.old }
         ensures { (before : List WorldEntry) → AreDaemons self.old.config before 0 self.old.daemons.items
@@ -157,7 +157,7 @@ impl Cluster {
         self.summary.most_holders = self.summary.most_holders.max(most);
     }
 
-    /// The event of this number.
+    /// Runs the event with this number.
     pub fn event(&mut self, event: u32, draw: &Draw) -> Result<(), AllocError>
         requires stands { Stands self.old.config self.old.summary.events self.old.summary.number event self.old }
         requires few { event < MOST_EVENTS }

@@ -1,4 +1,4 @@
-//! What the deeds of a turn change: records that are kept, frames that are sent, and what is counted of them.
+//! The changes by the actions of a turn: written records, sent frames, and their counts.
 ghost use Rattle.std.specs.Prelude.{◌≡◌, ◌+◌, ◌<◌, ◌≤◌, ◌^◌, ◌++◌, ◌∷◌, [], ℕ, List, length, max, position, IfOk, IfSome, Ok, false};
 ghost use Rattle.booth_rec.specs.Record.{record_or_none};
 ghost use Rattle.booth_conf.specs.Lookups.{is_called};
@@ -18,7 +18,7 @@ use booth_host::Entry;
 use booth_rec::{Lease, Record};
 use std::alloc::AllocError;
 
-// Whether a record gives a lease where the one before had none, or one that ends earlier.
+// Returns whether a record gives a lease, and the one before had none, or one that ends earlier.
 fn gains(old: Option<Lease>, new: Option<Lease>) -> bool
     ensures { result ≡ gains old new }
 {
@@ -29,14 +29,14 @@ fn gains(old: Option<Lease>, new: Option<Lease>) -> bool
     }
 }
 
-// Whether a record has no lease where the one before had one.
+// Returns whether a record has no lease, and the one before had one.
 fn releases(old: Option<Lease>, new: Option<Lease>) -> bool
     ensures { result ≡ releases old new }
 {
     old.is_some() && new.is_none()
 }
 
-/// The lease of a kept record, if it has one.
+/// Returns the lease of a written record, if it has one.
 pub(crate) fn lease_of(kept: &Option<Record>) -> Option<Lease>
     ensures { result ≡ (record_or_none kept.now).lease }
 {
@@ -46,7 +46,7 @@ pub(crate) fn lease_of(kept: &Option<Record>) -> Option<Lease>
     }
 }
 
-// A record of a ticket was kept, where it had this lease before.
+// Counts the write of a record for a ticket that had this lease before.
 fn count_keep(summary: &mut Summary, old: Option<Lease>, rec: &Record)
     requires gains { summary.old.gains + 1 < 2 ^ 64 }
     requires releases { summary.old.releases + 1 < 2 ^ 64 }
@@ -65,7 +65,7 @@ fn count_keep(summary: &mut Summary, old: Option<Lease>, rec: &Record)
     }
 }
 
-// The place of the ticket of this name.
+// Returns the place of the ticket with this name.
 fn ticket_place(config: &Config, name: &[u8]) -> Option<usize>
     ensures exact { result ≡ position (is_called name.now) config.now.tickets }
     ensures within { IfSome result (λ place. place < length config.now.tickets) }
@@ -76,7 +76,7 @@ fn ticket_place(config: &Config, name: &[u8]) -> Option<usize>
         .position(|ticket| name == ticket.name.bytes())
 }
 
-// A record of the ticket of this name was kept.
+// Stores the record of the ticket with this name, and counts the write.
 fn keep(
     config: &Config,
     kept: &mut [Option<Record>],
@@ -105,7 +105,7 @@ fn keep(
     }
 }
 
-/// What one deed of the member at a place changes.
+/// Applies one action of the member at a place.
 pub(crate) fn count(
     config: &Config,
     from: usize,

@@ -16,10 +16,10 @@ use booth_node::Node;
 use booth_rec::Record;
 use std::alloc::{AllocError, Global};
 
-/// The most calls that a host tells: those of one turn.
+/// The most calls that a host records: those of one turn.
 const ROOM: u32 = u32::MAX;
 
-/// A member: its node, its host, and the record that it keeps of each ticket.
+/// A member: its node, its host, and its record of each ticket.
 #[derive(Drop)]
 pub struct Daemon {
     pub node: Node,
@@ -27,7 +27,7 @@ pub struct Daemon {
     pub kept: Vec<Option<Record>>,
 }
 
-/// What a turn meets.
+/// The input of a turn.
 #[derive(Drop)]
 pub(crate) struct Coming<'a> {
     pub arrival: Arrival,
@@ -36,7 +36,7 @@ pub(crate) struct Coming<'a> {
     pub keeps_fail: bool,
 }
 
-// A host that has nothing, and tells as many calls as there is memory for.
+// Returns a host without input, which records as many calls as there is memory for.
 fn new_host(alloc: Global) -> Result<MemoryHost, AllocError> {
     let script = Script {
         first: 0,
@@ -52,7 +52,7 @@ fn new_host(alloc: Global) -> Result<MemoryHost, AllocError> {
     MemoryHost::new(alloc, script, Vec::new(alloc), Vec::new(alloc), ROOM)
 }
 
-// The id of the member at a place.
+// Returns the id of the member at a place.
 fn id_at(config: &Config, place: usize) -> MemberId
     requires { place < length config.now.members }
     ensures same { result ≡ (node_in config.now place).me }
@@ -61,7 +61,7 @@ fn id_at(config: &Config, place: usize) -> MemberId
     config.members()[place].id
 }
 
-// The node of a member, which starts from these records.
+// Starts the node of a member from these records.
 fn start_node(
     alloc: Global,
     config: &Config,
@@ -78,7 +78,7 @@ fn start_node(
     Node::open(alloc, config.copy(alloc)?, None, me, kept, reading)
 }
 
-// No record of any ticket.
+// Returns no record for each ticket.
 fn no_records(alloc: Global, tickets: usize) -> Result<Vec<Option<Record>>, AllocError>
     ensures { IfOk result (λ kept. kept.items ≡ replicate tickets None) }
 {
@@ -89,8 +89,8 @@ fn no_records(alloc: Global, tickets: usize) -> Result<Vec<Option<Record>>, Allo
     Ok(kept)
 }
 
-// Whether a call of a turn was answered as it is to be: no send and no start of a handler fails, and each keep does
-// or none.
+// Returns whether a call of a turn has the right answer: no send and no start of a handler fails, and either each
+// write fails or none.
 fn is_answered(call: &Entry, keeps_fail: bool) -> bool
     ensures { IsTrue result ↔ IsAnswered keeps_fail call.now }
 {
@@ -109,14 +109,14 @@ fn is_answered(call: &Entry, keeps_fail: bool) -> bool
     }
 }
 
-// Whether all calls of a turn were.
+// Returns whether all calls of a turn have the right answer.
 fn are_answered(calls: &[Entry], keeps_fail: bool) -> bool
     ensures { IsTrue result → All (IsAnswered keeps_fail) calls.now }
 {
     calls.iter().all(|call| is_answered(call, keeps_fail))
 }
 
-// Whether a call is a next that brought this.
+// Returns whether a call is a `next` that returned this input.
 fn brought(call: &Entry, coming: &Coming<'_>) -> bool
     ensures { IsTrue result → Brought coming.now call.now }
 {
@@ -131,7 +131,7 @@ fn brought(call: &Entry, coming: &Coming<'_>) -> bool
     *arrival == coming.arrival && bytes.bytes() == coming.bytes
 }
 
-// Whether a call is this reading.
+// Returns whether a call is this reading.
 fn is_reading(call: &Entry, reading: u64) -> bool
     ensures { IsTrue result → call.now ≡ Entry.Now reading }
 {
@@ -141,7 +141,7 @@ fn is_reading(call: &Entry, reading: u64) -> bool
     *told == reading
 }
 
-// The deeds of a turn of these calls, where it met this.
+// Returns the actions of a turn with these calls, if it had this input.
 fn deeds_in<'a>(calls: &'a [Entry], coming: &Coming<'_>) -> Option<&'a [Entry]>
     ensures met { IfSome result (λ deeds. MetIn coming.now calls.now deeds.now) }
     ensures few { IfSome result (λ deeds. length deeds.now < 2 ^ 32) }
@@ -160,7 +160,7 @@ fn deeds_in<'a>(calls: &'a [Entry], coming: &Coming<'_>) -> Option<&'a [Entry]>
 }
 
 impl Daemon {
-    /// The member at a place starts for the first time.
+    /// Starts the member at a place for the first time.
     pub(crate) fn new(alloc: Global, config: &Config, place: usize) -> Result<Daemon, AllocError>
         requires { place < length config.now.members }
         ensures { IfOk result (HasStarted config.now place (all_kept config.now.tickets place []) 0) }
@@ -173,7 +173,7 @@ impl Daemon {
         })
     }
 
-    /// It is stopped, and starts again with the records that it kept.
+    /// Stops the member, and starts it again with the records that it wrote.
     pub(crate) fn restart(
         &mut self,
         alloc: Global,
@@ -191,7 +191,7 @@ impl Daemon {
     }
 }
 
-/// Makes a turn, and tells its deeds.
+/// Makes a turn, and returns its actions.
 pub(crate) fn take_turn<'a>(
     alloc: Global,
     node: &mut Node,

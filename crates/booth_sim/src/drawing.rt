@@ -1,4 +1,4 @@
-//! What an event draws from the generator.
+//! The draws of an event from the generator.
 ghost use Rattle.std.specs.Prelude.{◌≡◌, ◌<◌};
 ghost use Rattle.booth_sim.specs.Drawing.{drawn, generator_of, keeps_fail, kind_of, member_of, rise_of, ticket_of};
 
@@ -16,22 +16,22 @@ pub struct Draw {
     pub third: u32,
 }
 
-/// What an event is.
+/// The kind of an event.
 #[derive(Clone, Copy)]
 pub(crate) enum Kind {
-    /// A frame arrives where it was sent to.
+    /// A frame arrives at its receiver.
     Frame,
-    /// Nothing comes.
+    /// Nothing arrives.
     Quiet,
-    /// A client asks for a ticket.
+    /// A client requests a ticket.
     Grant,
-    /// A client asks that a ticket be given back.
+    /// A client requests that a ticket be revoked.
     Revoke,
     /// A member is stopped, and starts again.
     Restart,
 }
 
-/// The generator of a number.
+/// Returns the generator with a seed.
 pub fn generator_of(number: u64) -> Pcg32
     ensures { result ≡ generator_of number }
 {
@@ -39,7 +39,7 @@ pub fn generator_of(number: u64) -> Pcg32
 }
 
 impl Draw {
-    /// The next three words.
+    /// Draws the next three words.
     pub fn next(generator: &mut Pcg32) -> Draw
         ensures { (result, generator.new) ≡ drawn generator.old }
     {
@@ -53,7 +53,7 @@ impl Draw {
         }
     }
 
-    /// By how many milliseconds true time rises.
+    /// Returns by how many milliseconds true time rises.
     pub(crate) fn rise(&self) -> u64
         ensures exact { result ≡ rise_of self.now }
         ensures few { result < 2000 }
@@ -61,14 +61,14 @@ impl Draw {
         u64::from(self.first % 2000)
     }
 
-    /// Whether each keep of this event's turn fails.
+    /// Returns whether each write in this event's turn fails.
     pub(crate) fn keeps_fail(&self) -> bool
         ensures { result ≡ keeps_fail self.now }
     {
         self.third % 64 == 0
     }
 
-    /// What the event is.
+    /// Returns the kind of the event.
     pub(crate) fn kind(&self) -> Kind
         ensures { result ≡ kind_of self.now }
     {
@@ -81,7 +81,7 @@ impl Draw {
         }
     }
 
-    /// The member that the event is at, among so many.
+    /// Returns the member at which the event is, among this many.
     pub(crate) fn member(&self, members: usize) -> usize
         requires { 0 < members }
         ensures exact { result ≡ member_of self.now members }
@@ -90,7 +90,7 @@ impl Draw {
         self.third as usize % members
     }
 
-    /// The ticket that a client asks for, among so many.
+    /// Returns the ticket in a client's request, among this many.
     pub(crate) fn ticket(&self, tickets: usize) -> usize
         requires { 0 < tickets }
         ensures exact { result ≡ ticket_of self.now tickets }

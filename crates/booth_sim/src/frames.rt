@@ -1,4 +1,4 @@
-//! The frames that members sent one another, of which one may arrive.
+//! The frames that members sent to each other, one of which may arrive.
 ghost use Rattle.std.specs.Prelude.{◌≡◌, ◌++◌, ◌∷◌, [], ◌≤◌, ◌<◌, length, IfOk, IfSome, OnOk, OnErr, option_map, position};
 ghost use Rattle.booth_conf.specs.Rules.{is_at};
 ghost use Rattle.booth_sim.specs.Frames.{chosen, last_of, place_of};
@@ -9,7 +9,7 @@ use booth_conf::{Config, Member};
 use std::alloc::{AllocError, Global};
 use std::marker::Model;
 
-/// How many frames are kept as sent.
+/// How many frames are stored as sent.
 pub(crate) const KEPT_FRAMES: usize = 64;
 
 /// Among how many of the newest frames one is chosen.
@@ -20,7 +20,7 @@ pub(crate) const NEWEST_FRAMES: usize = 16;
 pub struct SentFrame {
     /// The place of the member that sent it.
     pub from: usize,
-    /// The place of the member that it goes to.
+    /// The place of the member that receives it.
     pub to: usize,
     pub bytes: ByteText,
 }
@@ -44,7 +44,7 @@ impl Model for SentFrames {
     ghost invariant = { λ s. length s.frames.items ≤ KEPT_FRAMES };
 }
 
-// The place of the member with this address.
+// Returns the place of the member with this address.
 fn place_at(members: &[Member], address: Address) -> Option<usize>
     ensures exact { result ≡ position (is_at address) members.now }
     ensures within { IfSome result (λ place. place < length members.now) }
@@ -52,7 +52,7 @@ fn place_at(members: &[Member], address: Address) -> Option<usize>
     members.iter().position(|member| address == member.address)
 }
 
-/// The place of the member that listens there, if one does.
+/// Returns the place of the member that listens there, if there is one.
 pub fn place_of(config: &Config, peer: &Peer) -> Option<usize>
     ensures exact { result ≡ place_of config.now peer.now }
     ensures within { IfSome result (λ place. place < length config.now.members) }
@@ -65,7 +65,7 @@ pub fn place_of(config: &Config, peer: &Peer) -> Option<usize>
 }
 
 impl SentFrames {
-    /// No frame.
+    /// Returns an empty store.
     pub(crate) fn new(alloc: Global) -> SentFrames
         ensures { result ≡ [] }
     {
@@ -75,7 +75,7 @@ impl SentFrames {
         }
     }
 
-    /// Keeps a frame, and lets the oldest one go where there are too many.
+    /// Stores a frame, and drops the oldest one if there are too many.
     pub(crate) fn push(&mut self, from: usize, to: usize, bytes: &[u8]) -> Result<(), AllocError>
         ensures ok { OnOk result (self.new ≡ last_of KEPT_FRAMES
             (self.old ++ record { from = from; to = to; bytes = bytes.now } ∷ [])) }
@@ -92,7 +92,7 @@ impl SentFrames {
         Ok(())
     }
 
-    /// The frame that a word chooses, counted back from the newest.
+    /// Returns the frame that a word chooses, counted back from the newest.
     pub(crate) fn chosen(&self, word: u32) -> Option<&SentFrame>
         ensures { option_map (λ frame. frame.now) result ≡ chosen word self.now }
     {

@@ -1,4 +1,4 @@
-//! What an event is.
+//! The event that follows from its draws.
 ghost use Rattle.std.specs.Prelude.{◌≡◌, ◌<◌, [], None, IfOk, length, option_map};
 ghost use Rattle.booth_conf.specs.Sound.{IsSound};
 ghost use Rattle.booth_host.specs.declared.host.Arrival.{Arrival};
@@ -17,10 +17,10 @@ use booth_host::Arrival;
 use booth_wire::{Cmd, Frame};
 use std::alloc::{AllocError, Global};
 
-/// What an event is.
+/// An event.
 #[derive(Drop)]
 pub enum Happening {
-    /// The member at a place makes a turn, in which this comes.
+    /// The member at a place makes a turn, with this input.
     Turn {
         place: usize,
         arrival: Arrival,
@@ -30,7 +30,7 @@ pub enum Happening {
     Restart(usize),
 }
 
-// Nothing comes at a member.
+// Returns a turn without an arrival at a member.
 fn quiet(alloc: Global, place: usize) -> Result<Happening, AllocError>
     ensures { IfOk result (λ happening. says happening ≡ Turns place Arrival.Quiet []) }
 {
@@ -41,7 +41,7 @@ fn quiet(alloc: Global, place: usize) -> Result<Happening, AllocError>
     })
 }
 
-// Where the member at a place listens.
+// Returns the address at which the member at a place listens.
 fn peer_in(config: &Config, place: usize) -> Peer
     ensures { result ≡ peer_in config.now place }
 {
@@ -54,7 +54,8 @@ fn peer_in(config: &Config, place: usize) -> Peer
     }
 }
 
-// A frame arrives where it was sent to, or nothing at the member at a place where there is none.
+// Returns the arrival of a frame at its receiver; without a frame, a turn without an arrival at the member at a
+// place.
 fn arrives(
     alloc: Global,
     config: &Config,
@@ -74,7 +75,7 @@ fn arrives(
     })
 }
 
-// A client asks the member at a place for the ticket at another.
+// Returns the request of a client, at one place, for the ticket at another.
 fn asks(
     alloc: Global,
     config: &Config,
@@ -97,7 +98,7 @@ fn asks(
     })
 }
 
-/// What the event of this number is, where these frames were sent; requests are written into a frame.
+/// Returns the event with this number, if these frames were sent; requests are written into a frame.
 pub fn what_happens(
     alloc: Global,
     config: &Config,

@@ -14,14 +14,14 @@ use crate::daemon::Daemon;
 use booth_conf::Config;
 use booth_rec::Record;
 
-// Whether a record is in force at a reading.
+// Returns whether a record is in force at a reading.
 fn is_in_force(kept: &Option<Record>, reading: u64) -> bool
     ensures { result ≡ is_in_force (record_or_none kept.now).lease reading }
 {
     lease_of(kept).is_some_and(|lease| reading < lease.until)
 }
 
-// Whether the member at a place is a site that holds the ticket at a place at a true time.
+// Returns whether the member at a place is a site that holds the ticket at a place at a true time.
 fn is_holder(config: &Config, daemon: &Daemon, place: usize, ticket: usize, time: u64) -> bool
     requires member { place < length config.now.members }
     requires records { KeepsAll config.now daemon.now }
@@ -34,7 +34,7 @@ fn is_holder(config: &Config, daemon: &Daemon, place: usize, ticket: usize, time
     config.members()[place].site && is_in_force(&daemon.kept[ticket], reading_at(place, time))
 }
 
-// How many sites hold the ticket at a place at a true time.
+// Returns how many sites hold the ticket at a place at a true time.
 fn holders(config: &Config, daemons: &[Daemon], ticket: usize, time: u64) -> u64
     requires all { length daemons.now ≡ length config.now.members }
     requires records { All (KeepsAll config.now) daemons.now }
@@ -54,7 +54,7 @@ fn holders(config: &Config, daemons: &[Daemon], ticket: usize, time: u64) -> u64
     holders
 }
 
-/// The most sites that hold a ticket at a true time, of those that are granted by votes.
+/// Returns the most sites that hold one automatic ticket at a true time.
 pub(crate) fn most_holders(config: &Config, daemons: &[Daemon], time: u64) -> u64
     requires all { length daemons.now ≡ length config.now.members }
     requires records { All (KeepsAll config.now) daemons.now }

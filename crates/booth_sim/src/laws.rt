@@ -1,4 +1,4 @@
-//! What holds of each simulation, each the contract of a function that does nothing.
+//! What holds for every simulation, each law the contract of a function that does nothing.
 ghost use Rattle.booth_sim.specs.Laws.{AtMostOneHolds, OneSimulation, SimulationsAreWorlds};
 
 use booth_base::laws::crc_is_the_remainder;
@@ -18,12 +18,12 @@ pub fn simulations_are_worlds()
     keeps_its_tickets();
 }
 
-/// A configuration, a number and a count of events make one simulation.
+/// A configuration, a seed and a number of events give one simulation.
 pub fn one_simulation()
     ensures { OneSimulation }
 {}
 
-/// After no event is a ticket that is granted by votes held at two sites.
+/// After no event two sites hold an automatic ticket.
 pub fn at_most_one_holds()
     ensures { AtMostOneHolds }
 {

@@ -1,4 +1,4 @@
-//! Generated schedules of a whole cluster, and what became of its tickets.
+//! Generated schedules of a whole cluster, and the counts of what happened to its tickets.
 #![tactic(auto)]
 
 mod clock;

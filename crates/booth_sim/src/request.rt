@@ -1,4 +1,4 @@
-//! What clients ask in a simulation.
+//! The requests of clients in a simulation.
 ghost use Rattle.std.specs.Prelude.{◌≡◌, true, None};
 ghost use Rattle.booth_wire.specs.Command.{kind_of};
 ghost use Rattle.booth_wire.specs.declared.command.Kind.TheVariants.{Ticket as TicketKind};
@@ -10,13 +10,13 @@ use booth_auth::seal;
 use booth_base::{Address, MemberId, NO_ONE, Name, Peer};
 use booth_wire::{Body, Cmd, Frame, Head, Message, TicketPart};
 
-/// Where all clients are.
+/// The address of all clients.
 pub(crate) const CLIENT: Peer = Peer {
     address: Address::V4([0, 0, 0, 0]),
     port: 0,
 };
 
-// A request about a ticket, of the event of this number.
+// Returns a request about a ticket, for the event with this number.
 fn message_of(cmd: Cmd, ticket: &Name, event: u32) -> Message<'static>
     requires { kind_of cmd ≡ TicketKind }
     ensures same { plain_of result ≡ request cmd ticket.now event }

@@ -1,4 +1,4 @@
-//! The events of a cluster, drawn by a number.
+//! The events of a cluster, drawn from a seed.
 ghost use Rattle.std.specs.Prelude.{◌≡◌, ◌≤◌, IfOk};
 ghost use Rattle.booth_sim.specs.Clusters.{IsNothing};
 ghost use Rattle.booth_sim.specs.Laws.{IsSummary};
@@ -11,7 +11,7 @@ use crate::laws::{at_most_one_holds, simulations_are_worlds};
 use booth_conf::Config;
 use std::alloc::{AllocError, Global};
 
-/// Nothing was counted yet.
+/// Returns a summary without a count.
 pub fn nothing_counted(events: u64, number: u64) -> Summary
     ensures nothing { IsNothing result }
     ensures events { result.events ≡ events }
@@ -29,7 +29,7 @@ pub fn nothing_counted(events: u64, number: u64) -> Summary
     }
 }
 
-/// Runs the members of a configuration through so many events, drawn by a number, and counts what became of its
+/// Runs the members of a configuration through this many events, drawn from a seed, and counts what happens to its
 /// tickets.
 pub fn simulate(
     alloc: Global,

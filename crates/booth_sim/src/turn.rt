@@ -1,4 +1,4 @@
-//! A member's turn, and what is counted of it.
+//! A member's turn, and its counts.
 ghost use Rattle.std.specs.Prelude.{◌≡◌, ◌+◌, ◌<◌, ◌^◌, [], Ok, OnOk, length};
 ghost use Rattle.booth_conf.specs.Sound.{IsSound};
 ghost use Rattle.booth_host.specs.declared.entry.Entry.{Entry};
@@ -16,7 +16,7 @@ use booth_host::{Arrival, Entry};
 use booth_rec::Record;
 use std::alloc::{AllocError, Global};
 
-// Counts a frame of a member that arrives.
+// Counts the arrival of a frame from a member.
 fn count_arrival(config: &Config, arrival: &Arrival, summary: &mut Summary)
     requires { summary.old.delivered + 1 < 2 ^ 64 }
     ensures { summary.new ≡ record summary.old {
@@ -31,7 +31,7 @@ fn count_arrival(config: &Config, arrival: &Arrival, summary: &mut Summary)
     }
 }
 
-// What the deeds of the member at a place change.
+// Applies the actions of the member at a place.
 fn count_all(
     config: &Config,
     from: usize,
@@ -53,7 +53,7 @@ fn count_all(
     Ok(())
 }
 
-/// The member at a place makes a turn, and what it does is counted.
+/// Has the member at a place make a turn, and counts what it does.
 pub(crate) fn turn(
     alloc: Global,
     config: &Config,

@@ -1,4 +1,4 @@
--- What links in memory tell, and what their script makes them answer.
+-- Links in memory: the calls that they record, and the answers that their script determines.
 use Rattle.std.specs.Prelude.{◌≡◌, ◌+◌, ◌-◌, ◌==◌, ℕ, List, [], Option, None, Some, MatchOption, Result, Ok, is_err, true, if◌then◌else◌, slice_get, length, take, min}
 use Rattle.booth_host.specs.declared.host.Failed.{Failed}
 use Rattle.booth_stream.specs.declared.link_call.LinkCall.{LinkCall}
@@ -19,13 +19,13 @@ running links = if links.begun == 0 then None else slice_get links.script.items 
 abbrev pub coming : MemoryLinks → Option LinkStep
 coming links = slice_get links.script.items links.begun
 
--- what the next step brings: its event with its bytes, or nothing behind the last
+-- the result of the next step: its event with its bytes, or nothing after the last step
 abbrev pub IsPolled : Option LinkStep → Result LinkEvent Failed → List ℕ → Type 0
 IsPolled None answer bytes = (answer ≡ Ok Quiet) × (bytes ≡ [])
 IsPolled (Some step) answer bytes = (answer ≡ step.event)
     × (bytes ≡ take (min (length step.bytes) PIECE_BYTES) step.bytes)
 
--- how many of so many bytes a write takes, or none where it fails; before the first step it takes all
+-- how many of the bytes a write takes, or none if it fails; before the first step it takes all
 abbrev pub takes_of : Option LinkStep → ℕ → Option ℕ
 takes_of None most = Some most
 takes_of (Some step) most = if step.takes == 0 then None else Some (min step.takes most)
@@ -34,7 +34,7 @@ abbrev pub Takes : Option ℕ → Result ℕ Failed → Type 0
 Takes None answer = is_err answer ≡ true
 Takes (Some taken) answer = answer ≡ Ok taken
 
--- links that were made of this script, with room for so many written bytes, and have not begun
+-- links made from this script, with room for this many written bytes, before their first step
 pub record IsNew (links : MemoryLinks) (script : List LinkStep) (most : ℕ) : Type 0 where
   pub runs : links.script.items ≡ script
   pub begun : links.begun ≡ 0
@@ -47,7 +47,7 @@ pub record Stays (old new : MemoryLinks) : Type 0 where
   pub script : new.script ≡ old.script
   pub begun : new.begun ≡ old.begun
 
--- one more step begins, where one is left
+-- the next step begins, if one is left
 pub record Begins (old new : MemoryLinks) : Type 0 where
   pub script : new.script ≡ old.script
   pub begun : MatchOption (coming old) (new.begun ≡ old.begun) (λ step. new.begun ≡ old.begun + 1)

@@ -1,4 +1,4 @@
--- The open links of a host over streams, and what becomes of them.
+-- The open links of a host over streams, and how they change.
 use Rattle.std.specs.Prelude.{◌≡◌, ◌++◌, ◌==◌, ◌&&◌, ◌||◌, ℕ, nat_le, nat_lt, Bool, false, true, if◌then◌else◌, List, [], ◌∷◌, length, map, position, slice_get, slice_set, Option, None, Some, Result, Ok, Err}
 use Rattle.std.specs.List.{All, flat_map, list_any}
 use Rattle.booth_base.specs.declared.address.Peer.{Peer}
@@ -10,7 +10,7 @@ use Rattle.booth_stream.specs.declared.link_call.LinkCall.TheVariants.{Close, Po
 use Rattle.booth_stream.specs.declared.links.LinkEvent.{LinkEvent}
 use Rattle.booth_stream.specs.declared.links.LinkEvent.TheVariants.{Opened, Bytes, Ended, Quiet}
 
--- a link: its number, its peer, and the bytes that came since it was opened and were not given
+-- a link: its number, its peer, and the bytes that arrived since it was opened and were not passed on
 pub record OpenLink : Type 0 where
   pub number : ℕ
   pub peer : Peer
@@ -20,7 +20,7 @@ pub record OpenLink : Type 0 where
 
 -- ---- frames
 
--- no frame of this place can be given
+-- this place has no whole frame
 abbrev pub NoFrame : Option OpenLink → Type 0
 NoFrame None = Unit {0}
 NoFrame (Some link) = IsTail link.rest
@@ -28,7 +28,7 @@ NoFrame (Some link) = IsTail link.rest
 abbrev pub NoneWhole : List (Option OpenLink) → Type 0
 NoneWhole places = All NoFrame places
 
--- the first frame of a link is given, with its peer
+-- the first frame of a link is returned, with its peer
 pub record GivesFrame (old : Option OpenLink) (peer : Peer) (bytes : List ℕ) (new : Option OpenLink) : Type 0 where
   pub link : OpenLink
   pub left : List ℕ
@@ -48,7 +48,7 @@ pub record Gives (old : List (Option OpenLink)) (peer : Peer) (bytes : List ℕ)
   pub gives : GivesFrame before peer bytes after
   pub now : new ≡ slice_set old place after
 
--- ---- links in which no frame follows
+-- ---- broken links
 
 abbrev pub is_broken : List ℕ → Bool
 is_broken bytes = nat_le 28 (length bytes) && (nat_lt (length_said bytes) 48 || nat_lt FRAME_BYTES (length_said bytes))
@@ -94,12 +94,12 @@ with_more number bytes place = if has_number number place then with_bytes bytes 
 abbrev pub added : ℕ → List ℕ → List (Option OpenLink) → List (Option OpenLink)
 added number bytes places = map (with_more number bytes) places
 
--- what becomes of the places, and the calls that are made for it
+-- the places afterwards, and the calls that were made
 pub record After : Type 0 where
   pub places : List (Option OpenLink)
   pub calls : List LinkCall
 
--- a new link in the first free place; where there is none it is closed
+-- a new link goes to the first free place; if there is none, it is closed
 abbrev pub placed : ℕ → Peer → List (Option OpenLink) → Option ℕ → After
 placed number peer places None = record { places = places; calls = Close number ∷ [] }
 placed number peer places (Some place) = record {
@@ -107,18 +107,18 @@ placed number peer places (Some place) = record {
   calls = [];
 }
 
--- a link that was open by this number begins anew
+-- if a link with this number is open, it restarts
 abbrev pub opened : ℕ → Peer → List (Option OpenLink) → After
 opened number peer places = placed number peer (without number places) (position is_free (without number places))
 
--- a link that is open by this number is closed
+-- if a link with this number is open, it is closed
 abbrev pub ended : ℕ → List (Option OpenLink) → After
 ended number places = record {
   places = without number places;
   calls = if list_any (has_number number) places then Close number ∷ [] else [];
 }
 
--- bytes of a number that is not open are passed over
+-- bytes for a number that is not open are ignored
 abbrev pub after_event : LinkEvent → List ℕ → List (Option OpenLink) → After
 after_event (Opened number peer) bytes places = opened number peer places
 after_event (Bytes number) bytes places = record { places = added number bytes places; calls = [] }
@@ -129,7 +129,7 @@ abbrev pub after_poll : Result LinkEvent Failed → List ℕ → List (Option Op
 after_poll (Ok event) bytes places = after_event event bytes places
 after_poll (Err fault) bytes places = record { places = places; calls = [] }
 
--- One poll, where no link had a frame: broken links are closed first, and then what it brought is done.
+-- One poll, when no link has a whole frame: broken links are closed first, and then the event is handled.
 pub record Polls (old : List (Option OpenLink)) (polled : Result LinkEvent Failed) (calls : List LinkCall)
     (new : List (Option OpenLink)) : Type 0 where
   pub bytes : List ℕ

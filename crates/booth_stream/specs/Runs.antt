@@ -1,4 +1,4 @@
--- Runs of a host over streams: what was polled of a link, and what was given of it.
+-- Runs of a host over streams: the bytes that were polled from a link, and the frames that were returned.
 use Rattle.std.specs.Prelude.{◌≡◌, ◌++◌, ◌==◌, ℕ, if◌then◌else◌, List, [], ◌∷◌, Option, Some, None, Result, Ok, Err, replicate, slice_get, slice_set, take}
 use Rattle.std.specs.List.{flat_map}
 use Rattle.booth_base.specs.declared.address.Peer.{Peer}
@@ -15,19 +15,19 @@ use Rattle.booth_stream.specs.declared.links.LinkEvent.{LinkEvent}
 use Rattle.booth_stream.specs.declared.links.LinkEvent.TheVariants.{Opened, Bytes, Ended, Quiet}
 use Rattle.booth_stream.specs.declared.stream_host.Wrote.TheVariants as wrotes
 
--- ---- what happens to the places
+-- ---- events at the places
 
 pub data Happening : Type 0 where
-  -- a poll answered so, with these bytes
+  -- a poll with this answer and these bytes
   Polled : Result LinkEvent Failed → List ℕ → Happening
-  -- a frame of the link of this number was given
+  -- the host returned a frame of the link with this number
   Given : ℕ → List ℕ → Happening
-  -- links in which no frame follows were closed
+  -- the host closed the broken links
   Pruned : Happening
-  -- the link of this number was closed
+  -- the host closed the link with this number
   Left : ℕ → Happening
 
--- the first frame of the link that has this number
+-- the first frame of the link with this number
 pub record IsGiven (old : List (Option OpenLink)) (number : ℕ) (bytes : List ℕ) (new : List (Option OpenLink))
     : Type 0 where
   pub place : ℕ
@@ -45,7 +45,7 @@ Happens old (Given number bytes) new = IsGiven old number bytes new
 Happens old Pruned new = new ≡ unbroken old
 Happens old (Left number) new = new ≡ without number old
 
--- from these places to those, the latest happening first
+-- from the first places to the second, with the latest event first
 abbrev pub Leads : List (Option OpenLink) → List Happening → List (Option OpenLink) → Type 0
 Leads old [] new = new ≡ old
 Leads old (happening ∷ earlier) new = (mid : List (Option OpenLink)) × Leads old earlier mid × Happens mid happening new
@@ -56,7 +56,7 @@ IsRun run places = Leads (replicate 16 None) run places
 
 -- ---- one number, since it was last opened
 
--- the bytes that were polled of it
+-- the bytes that were polled from it
 abbrev pub polled_of : ℕ → List Happening → List ℕ
 polled_of n [] = []
 polled_of n (Polled (Ok (Opened m peer)) bytes ∷ earlier) = if m == n then [] else polled_of n earlier
@@ -69,7 +69,7 @@ polled_of n (Given m bytes ∷ earlier) = polled_of n earlier
 polled_of n (Pruned ∷ earlier) = polled_of n earlier
 polled_of n (Left m ∷ earlier) = polled_of n earlier
 
--- the frames that were given of it
+-- the frames of it that were returned
 abbrev pub given_of : ℕ → List Happening → List (List ℕ)
 given_of n [] = []
 given_of n (Polled (Ok (Opened m peer)) bytes ∷ earlier) = if m == n then [] else given_of n earlier
@@ -81,8 +81,8 @@ given_of n (Given m bytes ∷ earlier) = if m == n then given_of n earlier ++ by
 given_of n (Pruned ∷ earlier) = given_of n earlier
 given_of n (Left m ∷ earlier) = given_of n earlier
 
--- Of an open link the frames that were given, and then the frames of its rest, are those of the cut of all that was
--- polled of it.
+-- For an open link, the frames that were returned, followed by the frames of the bytes that it still holds, are those
+-- of the cut of all bytes polled from it.
 abbrev pub GivenIsPrefix : Type 0
 GivenIsPrefix =
     (run : List Happening) (places : List (Option OpenLink)) (place : ℕ) (link : OpenLink) → IsRun run places
@@ -90,7 +90,7 @@ GivenIsPrefix =
     → (polled_of link.number run ≡ joined (given_of link.number run) ++ link.rest)
     × ((cut (polled_of link.number run)).frames ≡ given_of link.number run ++ (cut link.rest).frames)
 
--- ---- the calls of a host, as happenings
+-- ---- the calls of a host, as events
 
 abbrev pub polls_in : List LinkCall → List (Result LinkEvent Failed × List ℕ)
 polls_in [] = []
@@ -113,14 +113,14 @@ frames_in (Given number bytes ∷ earlier) = bytes ∷ frames_in earlier
 frames_in (Pruned ∷ earlier) = frames_in earlier
 frames_in (Left number ∷ earlier) = frames_in earlier
 
--- the happenings of one call: its polls, of which there is at most one, and the frames that it gave
+-- the events of one call: at most one poll, and the frames that it returned
 pub record AreOf (run : List Happening) (old new : List (Option OpenLink)) (calls : List LinkCall)
     (frames : List (List ℕ)) : Type 0 where
   pub leads : Leads old run new
   pub polls : polled_in run ≡ polls_in calls
   pub gives : frames_in run ≡ frames
 
--- A next without a frame of a link is answered by its poll or by the host inside.
+-- If no link has a frame, `next` returns the answer of its poll or of the host inside.
 pub data FitsNext (wait : ℕ) (calls : List LinkCall) (entries : List Entry) (answer : Result Arrival Failed)
     (bytes : List ℕ) (frames : List (List ℕ)) : Type 0 where
   OfLink : (peer : Peer) → frames ≡ bytes ∷ [] → answer ≡ Ok (Datagram peer) → entries ≡ []
@@ -128,7 +128,7 @@ pub data FitsNext (wait : ℕ) (calls : List LinkCall) (entries : List Entry) (a
   Else : (polled : Result LinkEvent Failed) (piece : List ℕ) → frames ≡ [] → polls_in calls ≡ (polled, piece) ∷ []
       → AnswersElse wait polled entries answer bytes → FitsNext wait calls entries answer bytes frames
 
--- Each next is such happenings, with the polls that it made and the frame that it gave.
+-- Each `next` consists of such events, with the polls that it made and the frame that it returned.
 abbrev pub NextHappens : Type 0
 NextHappens =
     (old new : List (Option OpenLink)) (wait : ℕ) (calls : List LinkCall) (entries : List Entry)
@@ -136,7 +136,7 @@ NextHappens =
     → (run : List Happening) × (frames : List (List ℕ)) × AreOf run old new calls frames
     × FitsNext wait calls entries answer bytes frames
 
--- Each send is such happenings, without a poll and without a frame.
+-- Each `send` consists of such events, without a poll and without a frame.
 abbrev pub SendHappens : Type 0
 SendHappens =
     (old new : List (Option OpenLink)) (to : Peer) (bytes : List ℕ) (calls : List LinkCall) (entries : List Entry)
@@ -145,7 +145,7 @@ SendHappens =
 
 -- ---- sends
 
--- the bytes that a call took
+-- the bytes that a call wrote
 abbrev pub taken_by : LinkCall → List ℕ
 taken_by (Write link bytes (Ok taken)) = take taken bytes
 taken_by (Write link bytes (Err fault)) = []
@@ -153,7 +153,7 @@ taken_by (Open local port answer) = []
 taken_by (Poll answer bytes) = []
 taken_by (Close link) = []
 
--- Writes that end well took all bytes, in order.
+-- Writes that succeed have written all bytes, in order.
 abbrev pub WrittenIsWhole : Type 0
 WrittenIsWhole =
     (number : ℕ) (bytes : List ℕ) (calls : List LinkCall) → Writes number bytes calls wrotes.All

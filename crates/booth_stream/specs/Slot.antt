@@ -8,7 +8,7 @@ use Rattle.booth_stream.specs.declared.slot.Caller.{Caller}
 use Rattle.booth_stream.specs.declared.link_call.LinkCall.{LinkCall}
 use Rattle.booth_stream.specs.declared.link_call.LinkCall.TheVariants.{Close}
 
--- who opened the link, the bytes in the cutter, and those that it has not taken yet
+-- who opened the link, the bytes in the cutter, and those that the cutter has not taken yet
 pub record PlainSlot : Type 0 where
   pub caller : Option Caller
   pub held : Held
@@ -22,28 +22,28 @@ called (Some caller) rest = Some (record { number = caller.number; peer = caller
 abbrev pub link_in : PlainSlot → Option OpenLink
 link_in slot = called slot.caller (slot.held.rest ++ slot.later)
 
--- the cutter took all, or is broken
+-- the cutter has taken all bytes, or is broken
 abbrev pub IsFed : PlainSlot → Type 0
 IsFed slot = slot.held.broken ≡ false → slot.later ≡ []
 
--- all was taken
+-- the cutter has taken all bytes
 abbrev pub IsIdle : PlainSlot → Type 0
 IsIdle slot = slot.later ≡ []
 
--- no frame can be given, and the cutter saw to it
+-- there is no whole frame, and the cutter has checked it
 pub record IsDry (slot : PlainSlot) : Type 0 where
   pub fed : IsFed slot
   pub none : NoFrame (link_in slot)
 
--- no whole frame stands at the front, and one may follow
+-- the bytes begin with no whole frame, and one may follow
 abbrev pub IsWaiting : List ℕ → Type 0
 IsWaiting rest = (begins_whole rest ≡ false) × (is_broken rest ≡ false)
 
--- all was taken, no frame can be given, and the link is not broken
+-- all bytes are taken, there is no whole frame, and the link is not broken
 abbrev pub IsAtRest : PlainSlot → Type 0
 IsAtRest slot = IsIdle slot × ((link : OpenLink) → link_in slot ≡ Some link → IsWaiting link.rest)
 
--- a frame is given, or none can be
+-- a frame is returned, or there is none
 abbrev pub GivesFrom : PlainSlot → Option Peer → List ℕ → PlainSlot → Type 0
 GivesFrom old (Some peer) bytes new = GivesFrame (link_in old) peer bytes (link_in new)
 GivesFrom old None bytes new = (link_in new ≡ link_in old) × IsDry new

@@ -1,4 +1,4 @@
--- What each call of a host over streams does: its calls of the links and of the host inside.
+-- The calls that each call of a host over streams makes to the links and to the host inside.
 use Rattle.std.specs.Prelude.{◌≡◌, ◌≤◌, ◌<◌, ◌⊎◌, ◌++◌, ◌+◌, ◌-◌, ◌^◌, min, ℕ, true, List, [], ◌∷◌, length, drop, Option, IsSome, Result, Ok, Err, is_err}
 use Rattle.std.specs.List.{All}
 use Rattle.booth_base.specs.declared.address.Peer.{Peer}
@@ -20,7 +20,7 @@ use Rattle.booth_stream.specs.declared.links.LinkEvent.{LinkEvent}
 use Rattle.booth_stream.specs.declared.stream_host.Wrote.{Wrote}
 use Rattle.booth_stream.specs.declared.stream_host.Wrote.TheVariants as wrotes
 
--- Where links and host tell after, they told before, and the calls between are such.
+-- If links and host record calls afterwards, they did so before, and the calls between have this form.
 pub record BothGrew (P : List LinkCall → List Entry → Type 0) (links linked : Option (List LinkCall))
     (host hosted : Option (List Entry)) : Type 0 where
   pub grew : IsSome linked → IsSome hosted → (calls : List LinkCall) × (entries : List Entry)
@@ -28,7 +28,7 @@ pub record BothGrew (P : List LinkCall → List Entry → Type 0) (links linked 
 
 -- ---- faults
 
--- the sum of three counts, or the end
+-- the sum of three counts, or the greatest value of the counter
 abbrev pub summed : ℕ → ℕ → ℕ → ℕ
 summed host links own = min (host + links + own) (2 ^ 64 - 1)
 
@@ -39,7 +39,7 @@ pub record RoseAt (wrote : Wrote) (before now : ℕ) : Type 0 where
 
 -- ---- open
 
--- the second answer, where the first is no failure
+-- the second answer, if the first is no failure
 abbrev pub both : Result (Unit {0}) Failed → Result (Unit {0}) Failed → Result (Unit {0}) Failed
 both (Ok done) second = second
 both (Err fault) second = Err fault
@@ -55,13 +55,13 @@ pub record OpensBoth (place : Place) (answer : Result (Unit {0}) Failed) (links 
 
 -- ---- next
 
--- what a poll that failed answers, or else the host inside
+-- the answer of a poll that failed, or else of the host inside
 abbrev pub AnswersElse : ℕ → Result LinkEvent Failed → List Entry → Result Arrival Failed → List ℕ → Type 0
 AnswersElse wait (Err fault) entries answer bytes = (answer ≡ Err fault) × (entries ≡ [])
 AnswersElse wait (Ok event) entries answer bytes = entries ≡ Next wait answer bytes ∷ []
 
--- A frame that is whole is given without a call. Else there is one poll, and a frame that is whole then is given. Else
--- the poll or the host inside answers, and links in which no frame follows are closed.
+-- A whole frame is returned without a call. Otherwise there is one poll, and a frame that is then whole is returned.
+-- Otherwise the answer is that of the poll or of the host inside, and broken links are closed.
 pub data IsNext (old : List (Option OpenLink)) (wait : ℕ) (calls : List LinkCall) (entries : List Entry)
     (answer : Result Arrival Failed) (bytes : List ℕ) (new : List (Option OpenLink)) : Type 0 where
   Ready : (peer : Peer) → Gives old peer bytes new → answer ≡ Ok (Datagram peer) → calls ≡ [] → entries ≡ []
@@ -75,12 +75,12 @@ pub data IsNext (old : List (Option OpenLink)) (wait : ℕ) (calls : List LinkCa
 
 -- ---- send
 
--- what ends the writes of a frame
+-- how the writes of a frame end
 abbrev pub Stops : Result ℕ Failed → Wrote → Type 0
 Stops (Ok taken) wrote = (taken ≡ 0) × (wrote ≡ wrotes.Nothing)
 Stops (Err fault) wrote = wrote ≡ wrotes.Fault
 
--- Each write is of what is left, until all was taken, or a write failed or took nothing.
+-- Each write passes the remaining bytes, until all are written, or a write fails or writes nothing.
 abbrev pub Writes : ℕ → List ℕ → List LinkCall → Wrote → Type 0
 Writes number bytes [] wrote = (bytes ≡ []) × (wrote ≡ wrotes.All)
 Writes number bytes (call ∷ calls) wrote = (0 < length bytes)
@@ -88,7 +88,7 @@ Writes number bytes (call ∷ calls) wrote = (0 < length bytes)
     × Writes number (drop taken bytes) calls wrote)
     ⊎ ((answer : Result ℕ Failed) × (call ≡ Write number bytes answer) × (calls ≡ []) × Stops answer wrote))
 
--- what a send comes to once a link of its peer is written to: one that was not written whole is closed
+-- the result of a send to an open link: the link is closed if the frame was not written whole
 abbrev pub EndsWrites : List (Option OpenLink) → ℕ → Wrote → List LinkCall → List LinkCall → Result (Unit {0}) Failed
     → List (Option OpenLink) → Type 0
 EndsWrites old number wrotes.All writes calls answer new = (answer ≡ Ok tt) × (calls ≡ writes) × (new ≡ old)
@@ -97,7 +97,7 @@ EndsWrites old number wrotes.Nothing writes calls answer new =
 EndsWrites old number wrotes.Fault writes calls answer new =
     (is_err answer ≡ true) × (calls ≡ writes ++ Close number ∷ []) × (new ≡ without number old)
 
--- A link that is open to the peer is written to, or else the host inside sends.
+-- A send to a peer with an open link writes to that link; otherwise the host inside sends.
 pub data IsSend (old : List (Option OpenLink)) (to : Peer) (bytes : List ℕ) (calls : List LinkCall)
     (entries : List Entry) (answer : Result (Unit {0}) Failed) (new : List (Option OpenLink)) : Type 0 where
   Linked : (number : ℕ) (wrote : Wrote) (writes : List LinkCall) → IsOpen old to number

@@ -1,4 +1,4 @@
-//! The bytes of a frame that has begun, whose memory is taken once.
+//! The bytes of an unfinished frame, in memory that is allocated once.
 ghost use Rattle.std.specs.Prelude.{◌≡◌, ◌≤◌, ◌+◌, ◌++◌, [], IfOk, length};
 
 use booth_host::Datagram;
@@ -24,7 +24,7 @@ impl Model for Buffer {
 }
 
 impl Buffer {
-    /// An empty buffer, with all its memory.
+    /// Returns an empty buffer, with all the memory that it will need.
     pub(crate) fn new(alloc: Global) -> Result<Buffer, AllocError>
         ensures { IfOk result (λ buffer. buffer ≡ []) }
     {
@@ -33,7 +33,7 @@ impl Buffer {
         })
     }
 
-    /// Its bytes.
+    /// Returns its bytes.
     pub(crate) fn bytes(&self) -> &[u8]
         ensures value { result.now ≡ self.now }
         ensures short { length result.now ≤ FRAME_BYTES }
@@ -48,7 +48,7 @@ impl Buffer {
         self.bytes.clear();
     }
 
-    /// Adds these bytes behind the others.
+    /// Appends these bytes.
     pub(crate) fn put(&mut self, more: &[u8])
         requires { length self.old + length more.now ≤ FRAME_BYTES }
         ensures { self.new ≡ self.old ++ more.now }
@@ -56,7 +56,7 @@ impl Buffer {
         self.bytes.extend_from_slice(more).unwrap();
     }
 
-    /// Puts all bytes into `into`, and drops them here.
+    /// Moves all bytes into `into`.
     #[tactic(auto, using(crate::proofs::BufferLemmas::take_short))]
     pub(crate) fn give(&mut self, into: &mut Datagram)
         ensures given { into.new ≡ self.old }

@@ -13,13 +13,13 @@ use std::marker::Model;
 /// The bytes up to the end of a frame's length field.
 const NAMED: usize = 28;
 
-/// The fewest bytes of a frame.
+/// The size of the smallest frame in bytes.
 const HEADER_BYTES: usize = 48;
 
-/// What a call made of its piece.
+/// The result of passing a piece.
 #[derive(Clone, Copy)]
 pub enum Got {
-    /// More bytes are wanted.
+    /// The frame is not whole yet.
     Nothing,
     /// The next frame is whole.
     Frame,
@@ -27,14 +27,14 @@ pub enum Got {
     Broken,
 }
 
-/// How many bytes of the piece were taken, and what came of them.
+/// How many bytes of the piece were taken, and the result.
 #[derive(Clone, Copy)]
 pub struct Fed {
     pub taken: usize,
     pub got: Got,
 }
 
-/// Joins the pieces of one stream, and gives its frames.
+/// Joins the pieces of one stream, and returns its frames.
 #[derive(Drop)]
 pub struct Cutter {
     rest: Buffer,
@@ -51,14 +51,14 @@ impl Model for Cutter {
     ghost invariant = { λ c. IsHeld (record { rest = c.rest; broken = c.broken }) };
 }
 
-// What the bytes so far say of the frame's length.
+// What the bytes so far state about the frame's length.
 enum Aim {
     Unsaid,
     Wrong,
     Of(usize),
 }
 
-// How many bytes a frame says that it has, whose first 28 are there.
+// Returns the length that a frame states, if its first 28 bytes are present.
 #[tactic(auto, unfolding(crate::specs::Cut::length_said))]
 fn length_said(bytes: &[u8]) -> usize
     requires { 28 ≤ length bytes.now }
@@ -83,7 +83,7 @@ fn aim_of(bytes: &[u8]) -> Aim
     }
 }
 
-// Takes of the piece what is missing to so many bytes.
+// Takes bytes of the piece until the buffer has this many.
 fn fill(rest: &mut Buffer, to: usize, piece: &[u8]) -> usize
     requires { to ≤ FRAME_BYTES }
     ensures taken { result ≡ min (to - length rest.old) (length piece.now) }
@@ -96,7 +96,7 @@ fn fill(rest: &mut Buffer, to: usize, piece: &[u8]) -> usize
 }
 
 impl Cutter {
-    /// A cutter at the beginning of a stream, with all the memory that it will have.
+    /// Returns a cutter at the start of a stream, with all the memory that it will need.
     pub fn new(alloc: Global) -> Result<Cutter, AllocError>
         ensures { IfOk result (λ cutter. cutter ≡ fresh) }
     {
@@ -106,7 +106,7 @@ impl Cutter {
         })
     }
 
-    /// Whether the stream has no next frame.
+    /// Returns whether the stream is broken: no frame can follow.
     pub fn is_broken(&self) -> bool
         ensures broken { result ≡ self.now.broken }
         ensures sound { IsHeld self.now }
@@ -114,7 +114,7 @@ impl Cutter {
         self.broken
     }
 
-    /// Begins another stream. What was held of the one before is dropped.
+    /// Starts another stream, and drops the bytes of the last one.
     pub fn restart(&mut self)
         ensures { self.new ≡ fresh }
     {
@@ -122,7 +122,8 @@ impl Cutter {
         self.broken = false;
     }
 
-    /// Takes of the next piece what ends the next frame, and puts that frame into `into`. It takes no memory.
+    /// Takes the bytes of the next piece that complete the next frame, and puts the frame into `into`. It allocates
+    /// no memory.
     pub fn feed(&mut self, piece: &[u8], into: &mut Datagram) -> Fed
         ensures { Feeds self.old piece.now result into.old into.new self.new }
     {

@@ -2,7 +2,7 @@
 ghost use Rattle.booth_stream.specs.Laws.{CutsEach, OneCut, OneAnswer, CutsDoNotMatter};
 ghost use Rattle.booth_stream.specs.Runs.{GivenIsPrefix, NextHappens, SendHappens, WrittenIsWhole};
 
-/// Each stream has the cut that `cut` says.
+/// The function `cut` returns a cut of each stream.
 pub fn each_has_a_cut()
     ensures { CutsEach }
 {}
@@ -17,28 +17,29 @@ pub fn one_answer()
     ensures { OneAnswer }
 {}
 
-/// The frames that a cutter gave of a list of pieces are those of the cut of the pieces joined.
+/// The frames that a cutter returned for a list of pieces are those of the cut of the joined pieces.
 pub fn cuts_do_not_matter()
     ensures { CutsDoNotMatter }
 {}
 
-/// Of an open link the frames that were given, and then those of its rest, are those of the cut of what was polled of
-/// it.
+/// For an open link, the frames that were returned, followed by those of the bytes that it still holds, are those of
+/// the cut of the bytes polled from it.
 pub fn given_is_prefix()
     ensures { GivenIsPrefix }
 {}
 
-/// Each `next` of a host over streams is such happenings, with the polls that it made and the frame that it gave.
+/// Each `next` of a host over streams consists of events of the links, with the polls that it made and the frame that
+/// it returned.
 pub fn next_happens()
     ensures { NextHappens }
 {}
 
-/// Each `send` is such happenings, without a poll and without a frame.
+/// Each `send` consists of such events, without a poll and without a frame.
 pub fn send_happens()
     ensures { SendHappens }
 {}
 
-/// Writes that end well took all bytes, in order.
+/// Writes that succeed have written all bytes, in order.
 pub fn written_is_whole()
     ensures { WrittenIsWhole }
 {}

@@ -1,4 +1,4 @@
-//! Clients on byte streams: frames out of streams that are cut anywhere, links, and a host over them.
+//! Clients on byte streams: frames from streams that arrive in any pieces, links, and a host over them.
 #![tactic(auto)]
 
 mod buffer;

@@ -15,12 +15,12 @@ pub enum LinkCall {
         port: u16,
         answer: Result<(), Failed>,
     },
-    /// `bytes` are those of the piece after the call.
+    /// `bytes` are the bytes of the piece after the call.
     Poll {
         answer: Result<LinkEvent, Failed>,
         bytes: ByteText,
     },
-    /// The answer says how many of the bytes were taken, from the first.
+    /// The answer says how many of the bytes were written, counted from the first.
     Write {
         link: u32,
         bytes: ByteText,

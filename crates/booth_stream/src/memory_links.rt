@@ -1,4 +1,4 @@
-//! Links in memory, which run a script and tell their calls.
+//! Links in memory, which run a script and record their calls.
 ghost use Rattle.std.specs.Prelude.{◌≡◌, ◌≤◌, [], ◌∷◌, ◌++◌, None, Ok, IfOk, OnErr, OnOk, length, option_map};
 ghost use Rattle.booth_host.specs.Causes.{HasCause, Rose};
 ghost use Rattle.booth_stream.specs.Calls.{CallsGrewBy};
@@ -10,18 +10,18 @@ use booth_base::ByteText;
 use booth_host::{Failed, Place};
 use std::alloc::{AllocError, Global};
 
-/// What one poll brings, and what writes take until the next.
+/// The result of one poll, and how many bytes writes take until the next poll.
 #[derive(Drop)]
 pub struct LinkStep {
     pub event: Result<LinkEvent, Failed>,
-    /// The bytes that come with the event.
+    /// The bytes of the event.
     pub bytes: ByteText,
-    /// The most bytes that a write takes. Where it is 0, writes fail.
+    /// The most bytes that a write takes. If it is 0, writes fail.
     pub takes: usize,
 }
 
-/// Links in memory. Each poll begins the next step, and brings nothing behind the last. They tell their calls while
-/// there is memory and their room of written bytes holds, and nothing from then on.
+/// Links in memory. Each poll starts the next step, and has no event after the last step. They record their calls
+/// until memory runs out or more bytes were written than they have room for, and record nothing from then on.
 #[derive(Drop)]
 pub struct MemoryLinks {
     alloc: Global,
@@ -33,7 +33,7 @@ pub struct MemoryLinks {
     faults: u64,
 }
 
-// Adds this call where there is memory for it.
+// Appends this call, unless memory is out.
 pub(crate) fn push<T: Drop>(list: &mut Vec<T>, last: T) -> Result<(), AllocError>
     ensures ok { OnOk result (list.new.items ≡ list.old.items ++ last ∷ []) }
     ensures err { OnErr result (list.new.items ≡ list.old.items) }
@@ -47,7 +47,7 @@ pub(crate) fn push<T: Drop>(list: &mut Vec<T>, last: T) -> Result<(), AllocError
 impl MemoryLinks {
     ghost use Rattle.booth_stream.specs.MemoryLinks.{links_past, running, coming, IsNew, IsPolled, Begins, Stays};
 
-    /// Links that run this script, and tell calls with at most `room` written bytes.
+    /// Returns links that run this script, and record calls with at most `room` written bytes.
     pub fn new(alloc: Global, script: Vec<LinkStep>, room: u32) -> Result<MemoryLinks, AllocError>
         ensures { IfOk result (λ links. IsNew links script.items room) }
     {
@@ -62,14 +62,14 @@ impl MemoryLinks {
         })
     }
 
-    /// The calls so far, the oldest first, or none where they are no longer told.
+    /// Returns the calls so far, the oldest first, or none if they are no longer recorded.
     pub fn past(&self) -> Option<&[LinkCall]>
         ensures { option_map (λ calls. calls.now) result ≡ links_past self.now }
     {
         if self.tells { Some(&self.calls) } else { None }
     }
 
-    // Adds this call, or tells nothing from now on.
+    // Records this call, or stops the recording.
     fn note(&mut self, call: Result<LinkCall, AllocError>)
         ensures told { IfOk call (λ call. CallsGrewBy (links_past self.old) (links_past self.new) (call ∷ [])) }
         ensures untold { OnErr call (links_past self.new ≡ None) }
@@ -85,7 +85,7 @@ impl MemoryLinks {
         }
     }
 
-    // Takes this many written bytes of the room, or tells nothing from now on.
+    // Uses room for this many written bytes, or stops the recording.
     fn use_room(&mut self, taken: usize)
         ensures past { CallsGrewBy (links_past self.old) (links_past self.new) [] }
         ensures faults { self.new.faults ≡ self.old.faults }
@@ -108,7 +108,7 @@ impl MemoryLinks {
         self.faults = self.faults.saturating_add(1);
     }
 
-    // Begins the next step.
+    // Starts the next step.
     fn begin(&mut self, into: &mut Piece) -> Result<LinkEvent, Failed>
         ensures past { links_past self.new ≡ links_past self.old }
         ensures cause { HasCause self.old.faults self.new.faults result }
@@ -128,7 +128,7 @@ impl MemoryLinks {
         answer
     }
 
-    // The step that runs.
+    // Returns the step that runs.
     fn step(&self) -> Option<&LinkStep>
         ensures { option_map (λ step. step.now) result ≡ running self.now }
     {

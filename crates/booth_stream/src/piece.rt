@@ -1,4 +1,4 @@
-//! The bytes that one poll of links brings, whose memory is taken once.
+//! The bytes of one poll of links, in memory that is allocated once.
 ghost use Rattle.std.specs.Prelude.{◌≡◌, ◌≤◌, [], IfOk, length, min, take};
 
 use std::alloc::{AllocError, Global};
@@ -25,7 +25,7 @@ impl Model for Piece {
 }
 
 impl Piece {
-    /// An empty piece, with the memory of all that it will hold.
+    /// Returns an empty piece, with all the memory that it will need.
     pub fn new(alloc: Global) -> Result<Piece, AllocError>
         ensures { IfOk result (λ piece. piece ≡ []) }
     {
@@ -41,7 +41,7 @@ impl Piece {
         self.bytes.clear();
     }
 
-    /// Keeps the first 4,096 of these bytes.
+    /// Stores the first 4,096 of these bytes.
     pub fn set(&mut self, bytes: &[u8])
         ensures { self.new ≡ take (min (length bytes.now) PIECE_BYTES) bytes.now }
     {
@@ -50,7 +50,7 @@ impl Piece {
         self.bytes.extend_from_slice(&bytes[..len]).unwrap();
     }
 
-    /// The bytes of the piece.
+    /// Returns the bytes of the piece.
     pub fn bytes(&self) -> &[u8]
         ensures value { result.now ≡ self.now }
         ensures short { length result.now ≤ PIECE_BYTES }

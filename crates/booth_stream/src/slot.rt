@@ -9,20 +9,20 @@ use booth_host::Datagram;
 use std::alloc::{AllocError, Global};
 use std::marker::Model;
 
-/// Who opened a link, and the number that it has.
+/// Who opened a link, and the number of the link.
 #[derive(Clone, Copy)]
 pub(crate) struct Caller {
     pub(crate) number: u32,
     pub(crate) peer: Peer,
 }
 
-/// A place for a link, with the memory that it will have.
+/// A place for a link, with all the memory that it will need.
 #[derive(Drop)]
 pub(crate) struct Slot {
     caller: Option<Caller>,
     cutter: Cutter,
     piece: Piece,
-    /// How many bytes of the piece the cutter took.
+    /// How many bytes of the piece the cutter has taken.
     taken: usize,
 }
 
@@ -38,7 +38,7 @@ impl Model for Slot {
 }
 
 impl Slot {
-    /// A free place.
+    /// Returns a free place.
     pub(crate) fn new(alloc: Global) -> Result<Slot, AllocError>
         ensures { IfOk result (λ slot. link_in slot ≡ None) }
     {
@@ -50,21 +50,21 @@ impl Slot {
         })
     }
 
-    /// Whether no link is here.
+    /// Returns whether no link is here.
     pub(crate) fn is_free(&self) -> bool
         ensures { result ≡ is_free (link_in self.now) }
     {
         self.caller.is_none()
     }
 
-    /// Who opened the link that is here.
+    /// Returns who opened the link that is here.
     pub(crate) fn caller(&self) -> Option<Caller>
         ensures { result ≡ self.now.caller }
     {
         self.caller
     }
 
-    /// Begins a link without bytes.
+    /// Starts a link without bytes.
     pub(crate) fn begin(&mut self, caller: Caller)
         ensures link { link_in self.new ≡
             Some (record { number = caller.number; peer = caller.peer; rest = [] }) }
@@ -85,7 +85,7 @@ impl Slot {
         self.taken = 0;
     }
 
-    // Whether the link of this number is here.
+    // Returns whether the link with this number is here.
     fn has(&self, number: u32) -> bool
         ensures link { result ≡ has_number number (link_in self.now) }
         ensures there { IsTrue result → IsSome self.now.caller }
@@ -96,7 +96,7 @@ impl Slot {
         }
     }
 
-    /// Drops the link that is here, where it has this number, and says whether it has.
+    /// Drops the link that is here if it has this number, and returns whether it had.
     pub(crate) fn leave(&mut self, number: u32) -> bool
         ensures link { link_in self.new ≡ unless_number number (link_in self.old) }
         ensures here { result ≡ has_number number (link_in self.old) }
@@ -108,7 +108,7 @@ impl Slot {
         here
     }
 
-    /// Adds bytes to the link that is here, where it has this number. The cutter took all that came before.
+    /// Appends bytes to the link that is here, if it has this number. The cutter must have taken all earlier bytes.
     pub(crate) fn add(&mut self, number: u32, piece: &Piece)
         requires { IsAtRest self.old }
         ensures { link_in self.new ≡ with_more number piece.now (link_in self.old) }
@@ -119,7 +119,7 @@ impl Slot {
         }
     }
 
-    /// The next frame of the link, if it is whole, and the link's peer.
+    /// Returns the link's peer if the next frame is whole, and puts the frame into `into`.
     pub(crate) fn give(&mut self, into: &mut Datagram) -> Option<Peer>
         ensures { GivesFrom self.old result into.new self.new }
     {
@@ -136,7 +136,7 @@ impl Slot {
         }
     }
 
-    /// Drops the link that is here where no frame follows in it, and says its number.
+    /// Drops the link that is here if it is broken, and returns its number.
     pub(crate) fn drop_broken(&mut self) -> Option<u32>
         requires { IsFed self.old }
         ensures link { link_in self.new ≡ unless_broken (link_in self.old) }

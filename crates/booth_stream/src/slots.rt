@@ -13,10 +13,10 @@ use booth_base::Peer;
 use booth_host::Datagram;
 use std::alloc::{AllocError, Global};
 
-/// How many links are served.
+/// How many links are served at a time.
 pub const LINKS: usize = 16;
 
-/// Gives the next frame of the first link that has a whole one, and says its peer.
+/// Puts the next whole frame of the first link that has one into `into`, and returns the peer.
 pub(crate) fn give_first(slots: &mut [Slot], into: &mut Datagram) -> Option<Peer>
     ensures { GivesOne slots.old result into.new slots.new }
 {
@@ -28,7 +28,7 @@ pub(crate) fn give_first(slots: &mut [Slot], into: &mut Datagram) -> Option<Peer
     None
 }
 
-// Closes the link of this place where no frame follows in it.
+// Closes the link of this place if it is broken.
 fn close_if_broken<L: Links>(slot: &mut Slot, links: &mut L)
     requires { IsFed slot.old }
     ensures link { link_in slot.new ≡ unless_broken (link_in slot.old) }
@@ -41,7 +41,7 @@ fn close_if_broken<L: Links>(slot: &mut Slot, links: &mut L)
     }
 }
 
-/// Closes each link in which no frame follows.
+/// Closes each broken link.
 pub(crate) fn close_broken<L: Links>(slots: &mut [Slot], links: &mut L)
     requires { All IsFed slots.old }
     ensures places { links_in slots.new ≡ unbroken (links_in slots.old) }
@@ -54,7 +54,7 @@ pub(crate) fn close_broken<L: Links>(slots: &mut [Slot], links: &mut L)
     }
 }
 
-/// Frees the places of this number, and says whether there was one.
+/// Frees the places of this number, and returns whether there was one.
 pub(crate) fn leave(slots: &mut [Slot], number: u32) -> bool
     ensures places { links_in slots.new ≡ without number (links_in slots.old) }
     ensures found { result ≡ list_any (has_number number) (links_in slots.old) }
@@ -68,7 +68,7 @@ pub(crate) fn leave(slots: &mut [Slot], number: u32) -> bool
     found
 }
 
-/// Adds bytes to the link of this number.
+/// Appends bytes to the link with this number.
 pub(crate) fn add(slots: &mut [Slot], number: u32, piece: &Piece)
     requires { All IsAtRest slots.old }
     ensures { links_in slots.new ≡ added number piece.now (links_in slots.old) }
@@ -78,21 +78,21 @@ pub(crate) fn add(slots: &mut [Slot], number: u32, piece: &Piece)
     }
 }
 
-/// Whether no link is open.
+/// Returns whether no link is open.
 pub(crate) fn are_free(slots: &[Slot]) -> bool
     ensures { result ≡ list_all (λ slot. is_free (link_in slot)) slots.now }
 {
     slots.iter().all(|slot| slot.is_free())
 }
 
-// The first free place.
+// Returns the first free place.
 fn free_place(slots: &[Slot]) -> Option<usize>
     ensures { result ≡ position (λ slot. is_free (link_in slot)) slots.now }
 {
     slots.iter().position(|slot| slot.is_free())
 }
 
-/// Begins a link in the first free place. Where there is none, the link is closed.
+/// Starts a link in the first free place. If there is none, closes the link.
 pub(crate) fn open<L: Links>(slots: &mut [Slot], caller: Caller, links: &mut L)
     ensures places { links_in slots.new ≡ (opened caller.number caller.peer (links_in slots.old)).places }
     ensures calls { CallsGrewBy (L.past links.old) (L.past links.new)
@@ -106,7 +106,7 @@ pub(crate) fn open<L: Links>(slots: &mut [Slot], caller: Caller, links: &mut L)
     }
 }
 
-/// Closes the link of this number, where it is open.
+/// Closes the link with this number, if it is open.
 pub(crate) fn end<L: Links>(slots: &mut [Slot], number: u32, links: &mut L)
     ensures places { links_in slots.new ≡ (ended number (links_in slots.old)).places }
     ensures calls { CallsGrewBy (L.past links.old) (L.past links.new) (ended number (links_in slots.old)).calls }
@@ -124,7 +124,7 @@ fn is_same(one: &Peer, other: &Peer) -> bool
     one == other
 }
 
-/// The number of a link that is open to this peer.
+/// Returns the number of a link that is open to this peer.
 pub(crate) fn reach(slots: &[Slot], peer: &Peer) -> Option<u32>
     ensures { Reaches (links_in slots.now) peer.now result }
 {
@@ -138,7 +138,7 @@ pub(crate) fn reach(slots: &[Slot], peer: &Peer) -> Option<u32>
     None
 }
 
-/// Free places.
+/// Returns free places.
 pub(crate) fn free_slots(alloc: Global) -> Result<Vec<Slot>, AllocError>
     ensures { IfOk result (λ slots. links_in slots.items ≡ replicate 16 None) }
 {

@@ -1,5 +1,5 @@
-//! A host over any host and any links: the frames of links arrive as datagrams, and what is sent to the peer of an open
-//! link is written there.
+//! A host over any host and any links: the frames of links arrive as datagrams, and a datagram to the peer of an open
+//! link is written to that link.
 ghost use Rattle.std.specs.Prelude.{◌≡◌, ◌≤◌, [], ◌∷◌, List, IfOk, None, Some, replicate};
 ghost use Rattle.booth_host.specs.Past.{GrewBy};
 ghost use Rattle.booth_host.specs.Causes.{HasCause, HasReadCause};
@@ -26,20 +26,20 @@ pub struct StreamHost<H, L> {
     table: Table,
     piece: Piece,
     told: Told,
-    /// How many writes took nothing.
+    /// How many writes wrote nothing.
     faults: u64,
 }
 
 /// How the writes of a frame ended.
 pub(crate) enum Wrote {
     All,
-    /// A write took nothing.
+    /// A write wrote nothing.
     Nothing,
     /// A write failed.
     Fault,
 }
 
-// Writes all bytes to a link, in as many writes as it takes.
+// Writes all bytes to a link, in as many writes as it needs.
 fn write_all<L: Links>(number: u32, bytes: &[u8], links: &mut L) -> Wrote
     ensures past { (calls : List LinkCall) × CallsGrewBy (L.past links.old) (L.past links.new) calls
         × Writes number bytes.now calls result }
@@ -60,7 +60,7 @@ fn write_all<L: Links>(number: u32, bytes: &[u8], links: &mut L) -> Wrote
 }
 
 impl<H: Host, L: Links> StreamHost<H, L> {
-    /// A host over this host and these links, which tells at most `room` calls. No link is open.
+    /// Returns a host over this host and these links, which records at most `room` calls. No link is open.
     pub fn new(alloc: Global, host: H, links: L, room: u32) -> Result<StreamHost<H, L>, AllocError>
     where
         H: Drop,
@@ -82,7 +82,7 @@ impl<H: Host, L: Links> StreamHost<H, L> {
         })
     }
 
-    // A frame of a link, before or after one poll; or else what the poll or the host inside answers.
+    // Returns a frame of a link, before or after one poll; otherwise the answer of the poll or of the host inside.
     fn arrive(&mut self, wait_ms: u64, into: &mut Datagram) -> Result<Arrival, Failed>
         ensures does { BothGrew
             (λ calls entries. IsNext (places_of self.old.table) wait_ms calls entries result into.new
@@ -105,7 +105,7 @@ impl<H: Host, L: Links> StreamHost<H, L> {
         }
     }
 
-    // Writes to a link, and closes it where not all was taken.
+    // Writes to a link, and closes it if not all bytes were written.
     fn write(&mut self, number: u32, bytes: &[u8]) -> Result<(), Failed>
         ensures does { (wrote : Wrote) × (writes : List LinkCall) × (calls : List LinkCall)
             × CallsGrewBy (L.past self.old.links) (L.past self.new.links) calls
@@ -151,8 +151,8 @@ impl<H: Host, L: Links> Host for StreamHost<H, L> {
         answer
     }
 
-    /// Gives the next frame of a link that has a whole one, before or after one poll of the links. Otherwise it answers
-    /// as that poll, where it failed, or as the host inside.
+    /// Returns the next whole frame of a link, before or after one poll of the links. Otherwise returns the answer of
+    /// that poll if it failed, or that of the host inside.
     fn next(&mut self, wait_ms: u64, into: &mut Datagram) -> Result<Arrival, Failed>
         ensures past { GrewBy (told_past self.old.told) (told_past self.new.told)
             (Entry.Next wait_ms result into.new ∷ []) }
@@ -168,8 +168,8 @@ impl<H: Host, L: Links> Host for StreamHost<H, L> {
         answer
     }
 
-    /// Writes to a link that is open to this peer, or else the host inside sends. A link that does not take all is
-    /// closed.
+    /// Writes to a link that is open to this peer; otherwise the host inside sends. A link that does not take all
+    /// bytes is closed.
     fn send(&mut self, to: &Peer, bytes: &[u8]) -> Result<(), Failed>
         ensures past { GrewBy (told_past self.old.told) (told_past self.new.told)
             (Entry.Send to.now bytes.now result ∷ []) }

@@ -16,12 +16,12 @@ use booth_base::Peer;
 use booth_host::{Datagram, Failed};
 use std::alloc::{AllocError, Global};
 
-/// What is known of all places at once, so that a turn to which no link brings anything looks at none of them.
+/// What is known about all places together. A turn in which no link has an event looks at no place.
 #[derive(Clone, Copy)]
 pub(crate) enum Known {
     /// No link is open.
     Empty,
-    /// No link has a frame, and none is broken.
+    /// No link has a whole frame, and none is broken.
     AtRest,
     Nothing,
 }
@@ -38,7 +38,7 @@ pub(crate) struct Table {
 impl Table {
     ghost use Rattle.booth_stream.specs.Table.{places_of};
 
-    /// Free places, with the memory of all links.
+    /// Returns free places, with the memory for all links.
     pub(crate) fn new(alloc: Global) -> Result<Table, AllocError>
         ensures { IfOk result (λ table. places_of table ≡ replicate 16 None) }
     {
@@ -48,7 +48,7 @@ impl Table {
         })
     }
 
-    // Whether no link has a frame, and none is broken, as far as is known.
+    // Returns whether no link has a whole frame and none is broken, as far as is known.
     fn is_at_rest(&self) -> bool
         ensures { IsTrue result → All IsAtRest self.now.slots.items }
     {
@@ -58,7 +58,8 @@ impl Table {
         }
     }
 
-    // The next frame of a link that has a whole one, and its peer. At most the link whose bytes came last has one.
+    // Puts the next whole frame of a link into `into`, and returns the link's peer. At most the link whose bytes
+    // arrived last has one.
     fn give(&mut self, into: &mut Datagram) -> Option<Peer>
         ensures { GivesOne self.old.slots.items result into.new self.new.slots.items }
     {
@@ -68,7 +69,7 @@ impl Table {
         }
     }
 
-    // Closes each link in which no frame follows.
+    // Closes each broken link.
     fn close_broken<L: Links>(&mut self, links: &mut L)
         requires { All IsDry self.old.slots.items }
         ensures places { places_of self.new ≡ unbroken (places_of self.old) }
@@ -89,8 +90,8 @@ impl Table {
         }
     }
 
-    /// The next frame of a link that has a whole one, and its peer. Where none has, each link in which no frame follows
-    /// is closed, and all are at rest.
+    /// Puts the next whole frame of a link into `into`, and returns the link's peer. If no link has one, closes each
+    /// broken link, and all places are at rest.
     pub(crate) fn give_or_rest<L: Links>(
         &mut self,
         into: &mut Datagram,
@@ -106,7 +107,8 @@ impl Table {
         self.give_or_close(into, links)
     }
 
-    /// The same after a poll. Each of the two is called at one place, so that where all are at rest nothing is called.
+    /// Does the same after a poll. Each of the two is called at one place, so nothing is called if all places are at
+    /// rest.
     pub(crate) fn give_polled<L: Links>(
         &mut self,
         into: &mut Datagram,
@@ -122,7 +124,7 @@ impl Table {
         self.give_or_close(into, links)
     }
 
-    // The same where a link may have a frame, or be broken.
+    // Does the same if a link may have a whole frame or may be broken.
     fn give_or_close<L: Links>(&mut self, into: &mut Datagram, links: &mut L) -> Option<Peer>
         ensures does { (calls : List LinkCall) × CallsGrewBy (L.past links.old) (L.past links.new) calls
             × GivesOrRests self.old.slots.items result into.new calls self.new.slots.items }
@@ -135,7 +137,7 @@ impl Table {
         None
     }
 
-    // Does what an event demands. All that came before was taken.
+    // Handles an event. All earlier bytes must have been taken.
     fn take<L: Links>(&mut self, event: LinkEvent, piece: &Piece, links: &mut L)
         requires { All IsAtRest self.old.slots.items }
         ensures places { places_of self.new ≡ (after_event event piece.now (places_of self.old)).places }
@@ -160,7 +162,7 @@ impl Table {
         }
     }
 
-    /// Polls once where all links are at rest, and does what that demands.
+    /// Polls once if all links are at rest, and handles the event.
     pub(crate) fn poll<L: Links>(
         &mut self,
         piece: &mut Piece,
@@ -180,7 +182,7 @@ impl Table {
         polled
     }
 
-    /// The number of a link that is open to this peer.
+    /// Returns the number of a link that is open to this peer.
     pub(crate) fn reach(&self, peer: &Peer) -> Option<u32>
         ensures { Reaches (places_of self.now) peer.now result }
     {
@@ -190,7 +192,7 @@ impl Table {
         }
     }
 
-    /// Closes the link of this number.
+    /// Closes the link with this number.
     pub(crate) fn close<L: Links>(&mut self, number: u32, links: &mut L)
         ensures places { places_of self.new ≡ without number (places_of self.old) }
         ensures calls { CallsGrewBy (L.past links.old) (L.past links.new) (LinkCall.Close number ∷ []) }

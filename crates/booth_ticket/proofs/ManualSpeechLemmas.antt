@@ -3,7 +3,7 @@ use Rattle.std.proofs.Common.{◌≡◌, Bool, true, false, refl, sym, subst}
 use Rattle.std.specs.Prelude.{Option, Some, None}
 use Rattle.booth_rec.specs.declared.record.Record.{Record}
 use Rattle.booth_wire.specs.declared.command.Cmd.{Cmd}
-use Rattle.booth_wire.specs.declared.command.Cmd.TheVariants.{CLst, Peer, CGnt, CRvk, ASet, AGet, ADel, ALst, RLst, RPer, RALs, RGnt, RRvk, RAtr, Stat, MIdx, RVot, VtFr, HrtB, Ack, UpdE, Revk, Rjc}
+use Rattle.booth_wire.specs.declared.command.Cmd.TheVariants.{CLst, CTkt, Peer, CGnt, CRvk, ASet, AGet, ADel, ALst, RLst, RTkt, RPer, RALs, RGnt, RRvk, RAtr, Stat, MIdx, RVot, VtFr, HrtB, Ack, UpdE, Revk, Rjc}
 use Rattle.booth_wire.specs.declared.message.Head.{Head}
 use Rattle.booth_wire.specs.declared.message.Setup.{Setup}
 use Rattle.booth_wire.specs.declared.message.TicketPart.{TicketPart}
@@ -31,6 +31,7 @@ hearing_speaks setup view head part HrtB = tt
 hearing_speaks setup view head part Ack = tt
 hearing_speaks setup view head part Rjc = tt
 hearing_speaks setup view head part CLst = tt
+hearing_speaks setup view head part CTkt = tt
 hearing_speaks setup view head part Peer = tt
 hearing_speaks setup view head part CGnt = tt
 hearing_speaks setup view head part CRvk = tt
@@ -39,6 +40,7 @@ hearing_speaks setup view head part AGet = tt
 hearing_speaks setup view head part ADel = tt
 hearing_speaks setup view head part ALst = tt
 hearing_speaks setup view head part RLst = tt
+hearing_speaks setup view head part RTkt = tt
 hearing_speaks setup view head part RPer = tt
 hearing_speaks setup view head part RALs = tt
 hearing_speaks setup view head part RGnt = tt

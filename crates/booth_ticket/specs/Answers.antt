@@ -1,4 +1,4 @@
--- The code's answer to a request as what its tree leaves. No public clause cites this module.
+-- The code's answer to a request as the result of its tree. No public clause cites this module.
 use Rattle.booth_raft.specs.State.{State}
 use Rattle.booth_ticket.specs.declared.requests.Done.{Done}
 use Rattle.booth_ticket.specs.Requests.{Answered}

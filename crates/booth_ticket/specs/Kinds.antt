@@ -8,7 +8,7 @@ abbrev pub state_of : Kind → TicketState
 state_of (kinds.Automatic core) = record { setup = core.setup; known = Automatic core.view }
 state_of (kinds.Manual ticket) = record { setup = ticket.setup; known = Manual ticket.known }
 
--- no keep waits between two calls; that none of a manual ticket does is so of each
+-- no write waits between two calls; for a manual ticket this holds by its definition
 abbrev pub IsIdle : Kind → Type 0
 IsIdle (kinds.Automatic core) = core.view.waiting ≡ None
 IsIdle (kinds.Manual ticket) = Unit {0}

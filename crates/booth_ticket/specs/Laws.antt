@@ -1,4 +1,4 @@
--- Laws over the trees: what is done where it may be, whatever the setup, the view and the message.
+-- Laws over the trees: what a ticket does whenever it may, for every setup, view and message.
 use Rattle.std.specs.Prelude.{◌≡◌, ◌≢◌, ℕ, ◌+◌, ◌<◌, Bool, true, false, List, [], ◌∷◌, ◌++◌, map, Some, None, if◌then◌else◌}
 use Rattle.booth_base.specs.declared.address.MemberId.{MemberId}
 use Rattle.booth_base.specs.Times.{promise_of}
@@ -33,27 +33,27 @@ use Rattle.booth_ticket.specs.Requests.{follow_request, refused_grant}
 use Rattle.booth_ticket.specs.Saying.{others}
 use Rattle.booth_ticket.specs.Waiting.{Left, joined}
 
--- these acts are the first of the tree along its path of these answers, and it goes on as this rest
+-- these acts are the first of the tree on its path with these answers, and this is the rest
 pub record IsBegunBy (deeds : Deeds Ask Left) (acts : List Act) : Type 0 where
   pub rest : Deeds Ask Left
   pub first : Leads IsAct deeds acts rest
 
--- these acts are all of the tree along its path of these answers, and this holds of what they leave
+-- these acts are all of the tree on its path with these answers, and the result has this property
 pub record IsDoneBy (deeds : Deeds Ask Left) (acts : List Act) (Holds : Left → Type 0) : Type 0
   where
     pub left : Left
     pub all : Leads IsAct deeds acts (Ends left)
     pub holds : Holds left
 
--- ---- a round is heard
+-- ---- a round is received
 
 -- a message that is a round of this kind: an election's number is 0, and a renewal's is another
 abbrev pub IsRound : RoundKind → Head → Type 0
 IsRound Election head = (head.cmd ≡ RVot) × (head.options ≡ 0)
 IsRound Renewal head = (head.cmd ≡ HrtB) × (head.options ≢ 0)
 
--- the record of the promise to a round's sender: the member is bound to it in the round's term, promised to it from
--- now on for the time of a promise, and has the lease and the abstention that it had
+-- the record with the promise to a round's sender: the member has voted for it in the round's term, promised it for
+-- the time of a promise from now on, and keeps its lease and its abstention
 abbrev pub promise_record : Setup → View → Head → TicketPart → ℕ → Record
 promise_record setup view head part now = record {
   version = 2;
@@ -70,14 +70,14 @@ answer_to setup from kind head part =
     said (Member from) (head_of setup (answer_cmd kind) head.request head.options 0 0)
     (part_of setup head.from part.term 0)
 
--- what a member does that answers a round: in version 2 its promise is kept before the answer is said
+-- the acts of a member that answers a round: in version 2 it writes its promise before it sends the answer
 abbrev pub answering_acts : Setup → View → ℕ → RoundKind → Head → TicketPart → ℕ → List Act
 answering_acts setup view from kind head part now =
     if setup.second
     then kept (promise_record setup view head part now) true ∷ answer_to setup from kind head part ∷ []
     else answer_to setup from kind head part ∷ []
 
--- A round that may be answered is answered, before all else: in version 2 where its promise is kept.
+-- A member that may answer a round does so before all else: in version 2 if its promise was written.
 abbrev pub AnswersWhereItMay : Type 0
 AnswersWhereItMay =
     (setup : Setup) (view : View) (waiters : List Waiter) (from : ℕ) (kind : RoundKind) (head : Head)
@@ -88,13 +88,13 @@ AnswersWhereItMay =
 
 -- ---- a grant
 
--- the record of a new term that is asked for a client: in version 2 with the own promise, where the member answers
+-- the record of a new term after a client's request: in version 2 with the own promise, if the member votes for
 -- itself
 abbrev pub asked_record : Setup → View → ℕ → Record
 asked_record setup view now = record_of setup (asking setup view ADMN now) view.kept.lease
 
--- what a grant of a ticket without a handler does that asks all: the new term is kept, each other member is asked
--- for its vote, and the client is told that it was begun
+-- the acts of a grant that asks all members, for a ticket without a handler: it writes the new term, asks each other
+-- member for its vote, and tells the client that it was begun
 abbrev pub asking_acts : Setup → View → Request → ℕ → List Act
 asking_acts setup view request now =
     kept (asked_record setup view now) true
@@ -105,14 +105,14 @@ asking_acts setup view request now =
     (seconds_left (shown_end view.shown) now))
     ∷ []
 
--- A member asks for votes, with this term kept and these clients waiting.
+-- A member asks for votes, with this term written and these clients waiting.
 pub record AsksVotes (kept : Record) (waiters : List Waiter) (left : Left) : Type 0 where
   pub asks : left.core.view.role ≡ Candidate
   pub kept_record : left.core.view.kept ≡ kept
   pub waiting : left.waiters ≡ waiters
 
--- A grant of a ticket without a handler that meets no refusal asks every other member, where the new term is kept and
--- this member is no majority by itself; and its client waits, where it asked to.
+-- A grant of a ticket without a handler that is not refused asks every other member, if the new term was written and
+-- this member alone is no majority; and its client waits, if it asked for that.
 abbrev pub GrantAsksAll : Type 0
 GrantAsksAll =
     (setup : Setup) (view : View) (waiters : List Waiter) (spare : ℕ) (ready : Bool) (request : Request)
@@ -123,15 +123,15 @@ GrantAsksAll =
     (asking_acts setup view request now)
     (AsksVotes (asked_record setup view now) (joined request ASYN waiters))
 
--- ---- an answer is heard
+-- ---- an answer is received
 
 -- a message that is an answer to a round of this kind
 abbrev pub IsAnswer : RoundKind → Head → Type 0
 IsAnswer Election head = (head.cmd ≡ VtFr) × (head.options ≡ 0)
 IsAnswer Renewal head = (head.cmd ≡ Ack) × (head.options ≢ 0)
 
--- The answer of the member at a place completes a majority of this member's round, which is not won
--- yet, before the lease would be over.
+-- The answer of the member at a place completes a majority for this member's round, which is not won yet, before the
+-- lease would end.
 pub record Completes (setup : Setup) (round : Round) (from : ℕ) (head : Head) (part : TicketPart)
     (now : ℕ) : Type 0 where
   pub leader : part.leader ≡ setup.me
@@ -141,27 +141,27 @@ pub record Completes (setup : Setup) (round : Round) (from : ℕ) (head : Head) 
   pub unwon : round.won ≡ false
   pub in_time : now < round.opened + setup.times.expire
 
--- the lease that the round gives: it runs from the round's opening
+-- the lease of the round: it runs from the round's opening
 abbrev pub lease_of : Setup → View → Round → Lease
 lease_of setup view round = record { term = view.term; until = round.opened + setup.times.expire }
 
--- the record of it, with what the member is pledged to
+-- the record with it and the member's pledge
 abbrev pub lease_kept : Setup → View → Lease → Record
 lease_kept setup view lease = record_of setup view (Some lease)
 
--- each of these clients is told that it was granted, first to last
+-- each of these clients is informed that the ticket was granted, first to last
 abbrev pub told_granted : Setup → List Waiter → TicketPart → List Act
 told_granted setup waiters part =
     map (λ waiter. said (Client waiter.from) (head_of setup RGnt waiter.number 0 0 SUCCESS) part) waiters
 
--- what a member does that gains: the lease is kept, and told to all others and to each client that waits
+-- the acts of a member that gains: it writes the lease, announces it to all others, and tells each client that waits
 abbrev pub gaining_acts : Setup → View → List Waiter → Lease → ℕ → List Act
 gaining_acts setup view waiters lease now =
     let state : TicketPart = part_of setup setup.me view.term (seconds_left lease.until now) in
     kept (lease_kept setup view lease) true
     ∷ said_to_each (others setup) (head_of setup UpdE 0 0 0 0) state ++ told_granted setup waiters state
 
--- A leader has the lease: this record of it is kept, it is shown as the owner, and no client waits.
+-- A leader has the lease: this record of it was written, the leader is the known owner, and no client waits.
 pub record HasLease (owner : MemberId) (own : Record) (lease : Lease) (left : Left) : Type 0 where
   pub leads : left.core.view.role ≡ Leader
   pub kept_record : left.core.view.kept ≡ own
@@ -169,7 +169,7 @@ pub record HasLease (owner : MemberId) (own : Record) (lease : Lease) (left : Le
   pub shown : left.core.view.shown ≡ Some (record { owner = owner; until = lease.until })
   pub waiting : left.waiters ≡ []
 
--- A majority in time gives the lease, where its record is kept, and each client that waits is told.
+-- A majority in time gives the lease, if its record was written, and each client that waits is informed.
 abbrev pub MajorityGains : Type 0
 MajorityGains =
     (setup : Setup) (view : View) (waiters : List Waiter) (round : Round) (from : ℕ) (kind : RoundKind)

@@ -1,4 +1,4 @@
--- What a manual ticket does when the handler of a grant is over, and at its deadline.
+-- What a manual ticket does after the handler of a grant, and at its deadline.
 use Rattle.std.specs.Prelude.{ℕ, Bool, false, nat_le, ◌==◌, List, Option, Some, None, if◌then◌else◌}
 use Rattle.std.specs.Option.{is_some}
 use Rattle.booth_base.specs.Tree.{Deeds, Ends, ◌>>=◌, ◌>>◌}
@@ -23,11 +23,11 @@ use Rattle.booth_ticket.specs.Waiting.{tell_each}
 
 -- ---- the end of a job
 
--- those that wait are told of an outcome, with the state of the ticket; and those are left that wait on
+-- waiting clients are sent an outcome, with the state of the ticket; those without a result wait on
 unfoldable pub tell_waiters : State → Told → List Waiter → Deeds Ask (List Waiter)
 tell_waiters rules told waiters = tell_each rules.setup (manual_state rules.setup rules.view) told waiters
 
--- What the end of a handler leaves: what those that wait are told, and the rules.
+-- The result of a handler's end: the outcome for the waiting clients, and the rules.
 pub record Granted : Type 0 where
   pub told : Told
   pub rules : State
@@ -38,25 +38,25 @@ grant_now rules = do
   done ← keep_tried (with_view rules (grant rules.setup rules.view).view) Grant (grant rules.setup rules.view).tried
   Ends (record { told = tells.Gained done.rules.view.sure; rules = done.rules })
 
--- the handler of a grant is over: the ticket is granted where the service can run and a term is left
+-- the handler of a grant has ended: the ticket is granted if the service can run and a term is left
 abbrev pub grant_after : State → Service → Deeds Ask Granted
 grant_after rules CanRun =
     if are_terms_spent rules.view then Ends (record { told = tells.AskFailed; rules = rules }) else grant_now rules
 grant_after rules CannotRun = Ends (record { told = tells.HandlerFailed; rules = rules })
 
--- the job is the one that a ticket waits for
+-- the job is the one for which a ticket waits
 abbrev pub is_awaited : Option Job → ℕ → Bool
 is_awaited None job = false
 is_awaited (Some awaited) job = awaited.number == job
 
--- the ticket's handler is over, and those that wait are told what came of it
+-- the ticket's handler has ended, and the waiting clients are sent the outcome
 unfoldable pub end_handler : ManualState → List Waiter → Service → Deeds Ask ManualLeft
 end_handler ticket waiters service = do
   done ← grant_after (rules_of ticket) service
   stay ← tell_waiters done.rules done.told waiters
   Ends (record { ticket = ticket_as done.rules ticket.known.greets_at None; waiters = stay })
 
--- A job is over. What is no job of the ticket changes nothing.
+-- A handler has ended. A job that is none of the ticket's changes nothing.
 abbrev pub manual_over : ManualState → List Waiter → ℕ → Service → Deeds Ask ManualLeft
 manual_over ticket waiters job service =
     if is_awaited ticket.known.job job
@@ -70,20 +70,20 @@ abbrev pub limit_of : Option Job → Option ℕ
 limit_of None = None
 limit_of (Some job) = Some job.limit
 
--- when the ticket is next to be looked at: all are to be asked for their state, or the handler is late
+-- the next deadline of the ticket: it must ask all members for their state, or the handler is late
 abbrev pub manual_deadline : ManualKnown → Option ℕ
 manual_deadline known = if is_some known.greets_at then known.greets_at else limit_of known.job
 
--- what is said at the deadline: all are asked for their state, once after a start
+-- the message at the deadline: all members are asked for their state, once after a start
 abbrev pub greeting : Setup → ManualKnown → Words
 greeting setup known = if is_some known.greets_at then asks_state setup known.view else words.Nothing
 
--- a handler runs that should be over by now
+-- a handler runs that should have ended by now
 abbrev pub is_late : Option Job → ℕ → Bool
 is_late None now = false
 is_late (Some job) now = nat_le job.limit now
 
--- no handler runs any longer, and those that wait are told that it failed
+-- no handler runs any more, and the waiting clients are informed that it failed
 unfoldable pub fail_handler : ManualState → List Waiter → Deeds Ask ManualLeft
 fail_handler ticket waiters = do
   stay ← tell_waiters (rules_of ticket) tells.HandlerFailed waiters
@@ -96,7 +96,7 @@ limit_due ticket waiters now =
     then fail_handler ticket waiters
     else Ends (record { ticket = ticket; waiters = waiters })
 
--- the deadline has come: hello, and then what a late handler leads to
+-- the deadline has passed: hello, and then the effect of a late handler
 unfoldable pub manual_due : ManualState → List Waiter → ℕ → Deeds Ask ManualLeft
 manual_due ticket waiters now = do
   say ticket.setup None (greeting ticket.setup ticket.known)

@@ -1,4 +1,4 @@
--- What a client asks of a manual ticket, and what it is answered.
+-- Clients' requests about a manual ticket, and their replies.
 use Rattle.std.specs.Prelude.{◌≡◌, ℕ, ◌+◌, ◌-◌, IsTrue, Bool, true, false, not, ◌&&◌, ◌||◌, nat_lt, ◌==◌, List, Option, Some, None, if◌then◌else◌}
 use Rattle.std.specs.Option.{is_some}
 use Rattle.std.specs.Int.{bit_at}
@@ -30,11 +30,11 @@ use Rattle.booth_ticket.specs.Waiting.{waits, joined}
 
 -- ---- options
 
--- the client wants the ticket although another is shown as its holder
+-- the client requests the ticket although another holder is known
 abbrev pub forces : ℕ → Bool
 forces options = bit_at options 0 == 1
 
--- what else it wants
+-- the other options of the request
 abbrev pub unforced : ℕ → ℕ
 unforced options = if forces options then options - IMMEDIATE else options
 
@@ -44,13 +44,13 @@ is_strange options = nat_lt (IMMEDIATE + WAIT + COMMIT) options
 
 -- ---- what is refused
 
--- another member is shown as the holder
+-- the known holder is another member
 abbrev pub is_another_shown : Option MemberId → MemberId → Bool
 is_another_shown None me = false
 is_another_shown (Some shown) me = not (is_same shown me)
 
--- what a grant is answered at once, while a handler runs or none does, and where its prerequisites hold or do not: the
--- first of these that holds; else it is granted. An owner that is not sure of its record keeps it again.
+-- the immediate reply to a grant, while a handler runs or not, and with or without its prerequisites: the first of
+-- these that applies; otherwise the ticket is granted. An owner whose last write failed writes its record again.
 abbrev pub refused_manual_grant : Setup → ManualView → Bool → ℕ → Bool → ℕ → Option ℕ
 refused_manual_grant setup view runs spare ready options =
     if not setup.site || is_strange options then Some IARG else
@@ -62,7 +62,7 @@ refused_manual_grant setup view runs spare ready options =
     if waits (unforced options) && spare == 0 then Some BUSY else
     None
 
--- what a revoke is answered at once: the first of these that holds; else a record is kept
+-- the immediate reply to a revoke: the first of these that applies; otherwise a record is written
 abbrev pub refused_manual_revoke : Setup → ManualView → Bool → Option ℕ
 refused_manual_revoke setup view runs =
     if view.owner then None else
@@ -75,58 +75,59 @@ refused_by_hand setup view runs spare ready options Grant =
     refused_manual_grant setup view runs spare ready options
 refused_by_hand setup view runs spare ready options Revoke = refused_manual_revoke setup view runs
 
--- ---- what is done
+-- ---- the action
 
--- what no refusal leaves: an owner that is not sure, or a term that is not spent; and of a revoke an owner
+-- the state if a request is not refused: an owner whose last write failed, or a term that is not used up; and for a
+-- revoke an owner
 abbrev pub MayTry : ManualView → Wish → Type 0
 MayTry view Grant =
     (IsTrue view.owner → view.sure ≡ false) × (view.owner ≡ false → are_terms_spent view ≡ false)
 MayTry view Revoke = IsTrue view.owner
 
--- the rule that the wish runs: its record is to be kept
+-- the rule for the request: the record that it writes
 abbrev pub tries_for : Setup → ManualView → Wish → Tries
 tries_for setup view Grant = if view.owner then again setup view else grant setup view
 tries_for setup view Revoke = revoke setup view
 
--- what the keep's answer is to who asked: an owner stays one where the record may not be kept
+-- the reply after the write: an owner stays one if the record may not have been written
 abbrev pub result_of_keep : Wish → Bool → ℕ
 result_of_keep Grant ok = if ok then SUCCESS else PEND
 result_of_keep Revoke ok = if ok then SUCCESS else FAIL
 
--- What a keep leaves: what is answered, and the rules.
+-- The result of a write: the reply, and the rules.
 pub record Tried : Type 0 where
   pub answer : ℕ
   pub rules : State
 
--- a record is kept, or not
+-- a record is written, or the write fails
 abbrev pub keep : Record → Deeds Ask Bool
 keep tried = Does (Keep tried) (λ ok. Ends ok)
 
--- the record is kept, and what follows of the answer is said to all
+-- the record is written, and the message that follows goes to all members
 unfoldable pub keep_tried : State → Wish → Record → Deeds Ask Tried
 keep_tried rules wish tried = do
   ok ← keep tried
   say rules.setup None (finish rules.setup rules.view ok).say
   Ends (record { answer = result_of_keep wish ok; rules = with_view rules (finish rules.setup rules.view ok).view })
 
--- the wish's rule is run, and its record is kept
+-- the request's rule runs, and its record is written
 unfoldable pub keep_for : State → Wish → Deeds Ask Tried
 keep_for rules wish =
     keep_tried (with_view rules (tries_for rules.setup rules.view wish).view) wish
     (tries_for rules.setup rules.view wish).tried
 
--- the wish wants a handler to agree first: that of a grant at a site that does not hold the ticket
+-- the request needs its handler first: a grant at a site that does not hold the ticket
 abbrev pub wants_handler : ManualView → Wish → Bool
 wants_handler view Grant = not view.owner
 wants_handler view Revoke = false
 
--- What a wish leaves: what is answered, the rules, and the handler that runs.
+-- The result of a request: the reply, the rules, and the handler that runs.
 pub record Begun : Type 0 where
   pub answer : ℕ
   pub rules : State
   pub running : Option Job
 
--- what the start of a handler leads to: the grant waits for its end, or it failed
+-- after the start of a handler: the grant waits for its end, or the handler has failed
 abbrev pub waits_for : State → Option Job → ℕ → ℕ → Bool → Begun
 waits_for rules running job now true = record {
   answer = ASYN;
@@ -138,14 +139,15 @@ waits_for rules running job now false = record { answer = XPRG; rules = rules; r
 unfoldable pub start_for : State → Option Job → ℕ → ℕ → Deeds Ask Begun
 start_for rules running job now = Does (Start job 0) (λ ok. Ends (waits_for rules running job now ok))
 
--- a wish that is not refused: its record is kept, after the handler that is started as this job, where there is one
+-- A request that is not refused: without a job number its record is written at once; with one, its handler is started
+-- first, under this number.
 abbrev pub begin_for : State → Option Job → Option ℕ → Wish → ℕ → Deeds Ask Begun
 begin_for rules running None wish now = do
   done ← keep_for rules wish
   Ends (record { answer = done.answer; rules = done.rules; running = running })
 begin_for rules running (Some job) wish now = start_for rules running job now
 
--- what a wish comes to: it is refused, or begun
+-- the result of a request: it is refused, or begun
 abbrev pub do_for : State → Option Job → Option ℕ → Option ℕ → Wish → ℕ → Deeds Ask Begun
 do_for rules running (Some result) job wish now =
     Ends (record { answer = result; rules = rules; running = running })
@@ -154,7 +156,8 @@ do_for rules running None job wish now =
 
 -- ---- the reply
 
--- Who waits for a grant by hand hears of a keep that failed too, and that it was forced is of no account.
+-- A client that waits for a grant of a manual ticket is also told about a failed write; the option to force it no
+-- longer matters.
 abbrev pub as_waiting : Request → Request
 as_waiting request = record request { options = if waits (unforced request.options) then WAIT else 0 }
 
@@ -164,7 +167,7 @@ manual_reply rules request answer =
     say_to (Client request.from) (head_of rules.setup (reply_cmd request.wish) request.number 0 0 answer)
     (manual_state rules.setup rules.view)
 
--- what is done for a client before it is answered
+-- the actions for a client before the reply
 abbrev pub done_by_hand : ManualState → ℕ → Given → Request → Deeds Ask Begun
 done_by_hand ticket spare given request =
     do_for (rules_of ticket) ticket.known.job
@@ -172,7 +175,7 @@ done_by_hand ticket spare given request =
     request.wish)
     given.job request.wish given.now
 
--- A client's request is followed, and the reply is the last deed; and it waits, where it does. So many more clients
+-- A client's request is done, and the reply is the last act; the client waits, if it asked to. This many more clients
 -- may wait.
 unfoldable pub manual_asked : ManualState → List Waiter → ℕ → Given → Request → Deeds Ask ManualLeft
 manual_asked ticket waiters spare given request = do

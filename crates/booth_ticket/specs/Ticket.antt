@@ -7,8 +7,10 @@ use Rattle.booth_wire.specs.declared.message.TicketPart.{TicketPart}
 use Rattle.booth_wire.specs.declared.message.Setup.{Setup}
 use Rattle.booth_raft.specs.declared.view.Shown.{Shown}
 use Rattle.booth_raft.specs.declared.view.View.{View}
+use Rattle.booth_raft.specs.Messages.{part_of}
 use Rattle.booth_raft.specs.StartAndLearn.{started}
 use Rattle.booth_base.specs.declared.address.MemberId.{MemberId}
+use Rattle.booth_base.specs.declared.address.TheConstants.{NO_ONE}
 use Rattle.booth_manual.specs.declared.view.ManualView.{ManualView}
 use Rattle.booth_ticket.specs.declared.handling.Service.{Service}
 use Rattle.booth_ticket.specs.declared.ticket.Owner.{Owner}
@@ -20,24 +22,24 @@ use Rattle.booth_ticket.specs.Automatic.{come_due, end_job, hear}
 use Rattle.booth_ticket.specs.Manual.{ManualKnown, ManualLeft, manual_started, manual_heard}
 use Rattle.booth_ticket.specs.ManualHandling.{manual_deadline, manual_due, manual_over}
 use Rattle.booth_ticket.specs.ManualRequests.{manual_asked}
-use Rattle.booth_ticket.specs.Requests.{follow_request}
+use Rattle.booth_ticket.specs.Requests.{follow_request, told_part}
 use Rattle.booth_ticket.specs.Waiting.{Left}
 
--- What the rules of a ticket know of it, by its kind.
+-- The state of a ticket's rules, by its kind.
 pub data Known : Type 0 where
   Automatic : View → Known
   Manual : ManualKnown → Known
 
--- A ticket: its setup, and what its rules know.
+-- A ticket: its setup, and the state of its rules.
 pub record TicketState : Type 0 where
   pub setup : Setup
   pub known : Known
 
--- a ticket starts, from the record that was kept
+-- a ticket starts from the record that was written last
 abbrev pub opened : Setup → Record → ℕ → TicketState
 opened setup rec now = record { setup = setup; known = Automatic (started setup rec now) }
 
--- a manual ticket starts so
+-- the same for a manual ticket
 abbrev pub opened_by_hand : Setup → Record → ℕ → TicketState
 opened_by_hand setup rec now = record { setup = setup; known = Manual (manual_started rec now) }
 
@@ -46,21 +48,21 @@ pub record TicketLeft : Type 0 where
   pub ticket : TicketState
   pub waiters : List Waiter
 
--- what an automatic ticket's call leaves
+-- the result of an automatic ticket's call
 abbrev pub left_as : Left → TicketLeft
 left_as left = record {
   ticket = record { setup = left.core.setup; known = Automatic left.core.view };
   waiters = left.waiters;
 }
 
--- a manual ticket's likewise
+-- the result of a manual ticket's call
 abbrev pub left_by_hand : ManualLeft → TicketLeft
 left_by_hand left = record {
   ticket = record { setup = left.ticket.setup; known = Manual left.ticket.known };
   waiters = left.waiters;
 }
 
--- the message of the member at a place is heard
+-- a message of the member at a place is handled
 abbrev pub ticket_heard : Setup → Known → List Waiter → ℕ → Head → TicketPart → ℕ → Deeds Ask TicketLeft
 ticket_heard setup (Automatic view) waiters from head part now = do
   left ← hear (record { setup = setup; view = view }) waiters from head part now
@@ -69,7 +71,7 @@ ticket_heard setup (Manual known) waiters from head part now = do
   ticket ← manual_heard (record { setup = setup; known = known }) from head part
   Ends (left_by_hand (record { ticket = ticket; waiters = waiters }))
 
--- a client's request is followed; so many more clients may wait
+-- a client's request is followed; this many more clients may wait
 abbrev pub ticket_asked : Setup → Known → List Waiter → ℕ → Given → Request → Deeds Ask TicketLeft
 ticket_asked setup (Automatic view) waiters spare given request = do
   left ← follow_request (record { setup = setup; view = view }) waiters spare given request request.wish
@@ -78,7 +80,7 @@ ticket_asked setup (Manual known) waiters spare given request = do
   left ← manual_asked (record { setup = setup; known = known }) waiters spare given request
   Ends (left_by_hand left)
 
--- the deadline has come
+-- the deadline has passed
 abbrev pub ticket_due : Setup → Known → List Waiter → Given → Deeds Ask TicketLeft
 ticket_due setup (Automatic view) waiters given = do
   left ← come_due (record { setup = setup; view = view }) waiters given
@@ -87,7 +89,7 @@ ticket_due setup (Manual known) waiters given = do
   left ← manual_due (record { setup = setup; known = known }) waiters given.now
   Ends (left_by_hand left)
 
--- the job of a handler is over
+-- a handler has ended
 abbrev pub ticket_over : Setup → Known → List Waiter → ℕ → Service → ℕ → Deeds Ask TicketLeft
 ticket_over setup (Automatic view) waiters job service now = do
   left ← end_job (record { setup = setup; view = view }) waiters job service now
@@ -96,16 +98,16 @@ ticket_over setup (Manual known) waiters job service now = do
   left ← manual_over (record { setup = setup; known = known }) waiters job service
   Ends (left_by_hand left)
 
--- when the ticket is next to be looked at
+-- the next deadline of the ticket
 abbrev pub deadline : Known → Option ℕ
 deadline (Automatic view) = view.due
 deadline (Manual known) = manual_deadline known
 
--- the deadline has come
+-- the deadline has passed
 abbrev pub IsDue : Known → ℕ → Type 0
 IsDue known now = IsSomeAnd (deadline known) (λ due. due ≤ now)
 
--- the site that is shown as the owner now, and the end of its lease in whole seconds
+-- the site that is the known owner now, and the end of its lease in whole seconds
 abbrev pub shown_owner : Option Shown → ℕ → Option Owner
 shown_owner None now = None
 shown_owner (Some shown) now =
@@ -113,15 +115,25 @@ shown_owner (Some shown) now =
     then Some (record { site = shown.owner; until_secs = shown.until / 1000 })
     else None
 
--- a site that holds a manual ticket, whose lease has no end: it is told as 0
+-- the site that holds a manual ticket, whose lease has no end: the end is given as 0
 abbrev pub endless_owner : Option MemberId → Option Owner
 endless_owner None = None
 endless_owner (Some site) = Some (record { site = site; until_secs = 0 })
 
--- who holds a manual ticket, as far as this member knows: itself, or who is shown
+-- the holder of a manual ticket as far as this member knows: itself, or the known holder
 abbrev pub manual_owner : Setup → ManualView → Option Owner
 manual_owner setup view = endless_owner (if view.owner then Some setup.me else view.shown)
 
 abbrev pub owner : Setup → Known → ℕ → Option Owner
 owner setup (Automatic view) now = shown_owner view.shown now
 owner setup (Manual known) now = manual_owner setup known.view
+
+-- the owner of a manual ticket is named without a term, with the most seconds that there can be
+abbrev pub endless_part : Setup → Option Owner → TicketPart
+endless_part setup None = part_of setup NO_ONE 0 0
+endless_part setup (Some shown) = part_of setup shown.site 0 4294967295
+
+-- the reply to a client that asks for this ticket alone
+abbrev pub told_ticket : Setup → Known → ℕ → TicketPart
+told_ticket setup (Automatic view) now = told_part setup view now
+told_ticket setup (Manual known) now = endless_part setup (manual_owner setup known.view)

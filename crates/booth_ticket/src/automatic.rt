@@ -19,7 +19,7 @@ use booth_raft::{Core, Deed, Note, Role, Told, Want};
 use booth_wire::reasons::TLST;
 use booth_wire::{Head, TicketPart};
 
-/// The message of the member at the place `from` is heard. The last deed says what clients are told.
+/// Handles a message of the member at the place `from`. The last action has the result for clients.
 #[tactic(auto, unfolding(crate::specs::Automatic::hear_message))]
 pub(crate) fn hear_message<W: Hands>(
     core: &mut Core,
@@ -41,8 +41,7 @@ pub(crate) fn hear_message<W: Hands>(
     carry_out(core, Some(from), now, deed, hands)
 }
 
-// The ticket is acquired where its prerequisites hold. Where they do not, it is looked at again a
-// renewal's time later.
+// Acquires the ticket if its prerequisites hold. Otherwise looks at it again a renewal's time later.
 #[tactic(auto, using(crate::proofs::DidLemmas::did_end))]
 fn take_over<W: Hands>(core: &mut Core, given: Given, hands: &mut W) -> Deed
     requires early { given.now < 2 ^ 62 }
@@ -61,7 +60,7 @@ fn take_over<W: Hands>(core: &mut Core, given: Given, hands: &mut W) -> Deed
     acquire_by(core, given.job, TLST, given.now, hands)
 }
 
-// What the rule of a deadline wants to follow.
+// Does the step that the rule of a deadline requests.
 #[tactic(auto, using(crate::proofs::DidLemmas::did_end))]
 fn follow<W: Hands>(core: &mut Core, deed: Deed, given: Given, hands: &mut W) -> Deed
     requires early { given.now < 2 ^ 62 }
@@ -80,7 +79,7 @@ fn follow<W: Hands>(core: &mut Core, deed: Deed, given: Given, hands: &mut W) ->
     }
 }
 
-// The rule of the role, and what it wants to follow.
+// Runs the rule for the member's role, and then the step that it requests.
 fn rule_due<W: Hands>(core: &mut Core, given: Given, hands: &mut W) -> Deed
     requires early { given.now < 2 ^ 62 }
     requires idle { core.old.view.waiting ≡ None }
@@ -96,7 +95,7 @@ fn rule_due<W: Hands>(core: &mut Core, given: Given, hands: &mut W) -> Deed
     follow(core, deed, given, hands)
 }
 
-// The rule of the role at its deadline: a handler that still works has failed.
+// Runs the rule for the member's role, at its deadline. A handler that still runs then has failed.
 #[tactic(auto, using(crate::proofs::DidLemmas::did_end))]
 fn role_due<W: Hands>(core: &mut Core, given: Given, hands: &mut W) -> Deed
     requires early { given.now < 2 ^ 62 }
@@ -115,7 +114,7 @@ fn role_due<W: Hands>(core: &mut Core, given: Given, hands: &mut W) -> Deed
     rule_due(core, given, hands)
 }
 
-/// The deadline has come. The last deed says what clients are told.
+/// Handles the deadline. The last action has the result for clients.
 #[tactic(auto, using(crate::proofs::DidLemmas::did_then), unfolding(crate::specs::Automatic::tick))]
 pub(crate) fn tick<W: Hands>(core: &mut Core, given: Given, hands: &mut W) -> Deed
     requires early { given.now < 2 ^ 62 }
@@ -131,7 +130,7 @@ pub(crate) fn tick<W: Hands>(core: &mut Core, given: Given, hands: &mut W) -> De
     carry_out(core, None, given.now, deed, hands)
 }
 
-/// The deadline has come, and those that wait are told.
+/// Handles the deadline, and tells the waiting clients.
 #[tactic(auto, using(crate::proofs::DidLemmas::did_then), unfolding(crate::specs::Automatic::come_due))]
 pub(crate) fn come_due<W: Hands>(
     core: &mut Core,

@@ -1,4 +1,4 @@
-//! Hands that note what they do.
+//! Hands that record what they do.
 ghost use Rattle.std.specs.Prelude.{◌≡◌, [], true, false};
 
 use crate::hands::{Hands, To};
@@ -25,15 +25,15 @@ pub enum Noted {
     },
 }
 
-/// Hands that note their acts, the oldest first, while there is memory for them.
+/// Hands that record their acts, the oldest first, while there is memory for them.
 #[derive(Drop)]
 pub struct FakeHands {
     pub acts: Vec<Noted>,
-    /// Whether `acts` are all.
+    /// Whether `acts` has all acts.
     pub tells: bool,
-    /// Whether keeps fail.
+    /// Whether writes fail.
     pub fails: bool,
-    /// Whether keeps fail from the next but one on.
+    /// Whether writes fail from the next but one on.
     pub breaks: bool,
     /// Whether starts of a handler fail.
     pub fails_to_start: bool,
@@ -42,7 +42,7 @@ pub struct FakeHands {
 impl FakeHands {
     ghost use Rattle.booth_ticket.specs.Fake.{Notes};
 
-    /// Hands that have done nothing, and keep all records.
+    /// Returns hands that have done nothing, and write all records.
     pub fn new(alloc: Global) -> FakeHands
         ensures acts { result.acts.items ≡ [] }
         ensures tells { result.tells ≡ true }

@@ -1,4 +1,4 @@
-//! What an automatic ticket does for its handler: its starts, and what comes of its end.
+//! The starts of an automatic ticket's handler, and the effects of its end.
 ghost use Rattle.std.specs.Prelude.{◌≡◌, ◌<◌, ◌^◌, ◌||◌, None, IsTrue, is_some, if◌then◌else◌};
 ghost use Rattle.booth_raft.specs.Facts.{KeepWaits};
 ghost use Rattle.booth_raft.specs.Members.{is_follower, is_leader, is_working};
@@ -14,16 +14,16 @@ use booth_raft::{Core, Deed, Note, Role, Told, Want, is_promised_elsewhere, own_
 use booth_wire::Say;
 use booth_wire::reasons::{LOCF, RACQ};
 
-/// What the end of a handler says of the service of its ticket at this site.
+/// What the end of a handler says about the service of its ticket at this site.
 #[derive(Clone, Copy)]
 pub enum Service {
     /// The handler ended with status 0.
     CanRun,
-    /// It ended with another.
+    /// It ended with another status.
     CannotRun,
 }
 
-/// A deed in which clients alone are told.
+/// Returns an action with a result for clients alone.
 pub(crate) fn telling(told: Told) -> Deed
     ensures { result ≡ record { keep = None; say = Say.Nothing; want = Want.Nothing; told = told } }
 {
@@ -37,7 +37,7 @@ pub(crate) fn telling(told: Told) -> Deed
 
 // ---- before an acquisition
 
-// A new term is asked for. Where the terms are spent, the acquisition fails.
+// Starts an election in a new term. If the terms are used up, the acquisition fails.
 fn acquire(core: &mut Core, reason: u32, now: u64) -> Deed
     requires early { now < 2 ^ 62 }
     requires idle { core.old.view.waiting ≡ None }
@@ -57,7 +57,7 @@ fn acquire(core: &mut Core, reason: u32, now: u64) -> Deed
     }
 }
 
-// The handler was started before an acquisition, or could not be.
+// Goes on after the start of a handler before an acquisition.
 fn work(core: &mut Core, job: u64, reason: u32, now: u64, ok: bool) -> Deed
     requires early { now < 2 ^ 62 }
     requires idle { core.old.view.waiting ≡ None }
@@ -75,8 +75,8 @@ fn work(core: &mut Core, job: u64, reason: u32, now: u64, ok: bool) -> Deed
     telling(Told::Nothing)
 }
 
-/// The ticket is acquired: its handler is started as this job, where it has one, and a new term is asked
-/// for at once where it has none.
+/// Acquires the ticket: starts its handler under this job number if it has one, and otherwise starts an election at
+/// once.
 #[tactic(auto, using(crate::proofs::DidLemmas::did_end))]
 pub(crate) fn acquire_by<W: Hands>(
     core: &mut Core,
@@ -103,7 +103,7 @@ pub(crate) fn acquire_by<W: Hands>(
 
 // ---- before a renewal
 
-// The handler was started before a renewal, or could not be.
+// Goes on after the start of a handler before a renewal.
 fn check(core: &mut Core, job: u64, now: u64, ok: bool) -> Deed
     requires early { now < 2 ^ 62 }
     requires idle { core.old.view.waiting ≡ None }
@@ -121,14 +121,14 @@ fn check(core: &mut Core, job: u64, now: u64, ok: bool) -> Deed
     telling(Told::Nothing)
 }
 
-// The job of a site's handler; an arbitrator has none.
+// Returns the job of a site's handler; an arbitrator has none.
 fn job_at(site: bool, job: Option<u64>) -> Option<u64>
     ensures { result ≡ (if site then job else None) }
 {
     if site { job } else { None }
 }
 
-/// The lease is renewed, after the handler where the ticket of a site has one.
+/// Renews the lease, after the handler if the ticket of a site has one.
 #[tactic(auto, using(crate::proofs::DidLemmas::did_end))]
 pub(crate) fn renew_by<W: Hands>(core: &mut Core, job: Option<u64>, now: u64, hands: &mut W) -> Deed
     requires early { now < 2 ^ 62 }
@@ -149,7 +149,7 @@ pub(crate) fn renew_by<W: Hands>(core: &mut Core, job: Option<u64>, now: u64, ha
 // ---- the end of a job
 
 impl Service {
-    /// What the status of a handler says.
+    /// Returns what an exit status says.
     pub fn of_status(status: i32) -> Service
         ensures { result ≡ service_of status }
     {
@@ -161,7 +161,7 @@ impl Service {
     }
 }
 
-// The ticket is acquired after its handler, unless this member is promised to another by now.
+// Acquires the ticket after its handler, unless this member has promised another by now.
 fn acquire_after(core: &mut Core, now: u64) -> Deed
     requires early { now < 2 ^ 62 }
     requires idle { core.old.view.waiting ≡ None }
@@ -180,7 +180,7 @@ fn acquire_after(core: &mut Core, now: u64) -> Deed
     acquire(core, reason, now)
 }
 
-// The handler before an acquisition is over.
+// Goes on after the end of the handler before an acquisition.
 fn work_on(core: &mut Core, service: Service, now: u64) -> Deed
     requires early { now < 2 ^ 62 }
     requires idle { core.old.view.waiting ≡ None }
@@ -200,7 +200,7 @@ fn work_on(core: &mut Core, service: Service, now: u64) -> Deed
     }
 }
 
-// The lease is renewed where the service can run, and given back where it cannot.
+// Renews the lease if the service can run, and releases it otherwise.
 fn renew_or_release(core: &mut Core, service: Service, now: u64) -> Deed
     requires early { now < 2 ^ 62 }
     requires idle { core.old.view.waiting ≡ None }
@@ -217,7 +217,7 @@ fn renew_or_release(core: &mut Core, service: Service, now: u64) -> Deed
     }
 }
 
-// The handler before a renewal is over.
+// Goes on after the end of the handler before a renewal.
 fn lead_on(core: &mut Core, service: Service, now: u64) -> Deed
     requires early { now < 2 ^ 62 }
     requires idle { core.old.view.waiting ≡ None }
@@ -234,7 +234,7 @@ fn lead_on(core: &mut Core, service: Service, now: u64) -> Deed
     renew_or_release(core, service, now)
 }
 
-// The job of the ticket is over.
+// Goes on after the end of the ticket's handler.
 fn go_on(core: &mut Core, service: Service, now: u64) -> Deed
     requires early { now < 2 ^ 62 }
     requires idle { core.old.view.waiting ≡ None }
@@ -255,7 +255,7 @@ fn go_on(core: &mut Core, service: Service, now: u64) -> Deed
     }
 }
 
-// A job is over: the one that the ticket waits for, or another.
+// Handles the end of a handler: the one for which the ticket waits, or another.
 fn job_over(core: &mut Core, job: u64, service: Service, now: u64) -> Deed
     requires early { now < 2 ^ 62 }
     requires idle { core.old.view.waiting ≡ None }
@@ -270,7 +270,7 @@ fn job_over(core: &mut Core, job: u64, service: Service, now: u64) -> Deed
     go_on(core, service, now)
 }
 
-/// A job is over. The last deed says what clients are told.
+/// Handles the end of a handler. The last action has the result for clients.
 #[tactic(auto, unfolding(crate::specs::Automatic::hear_job))]
 pub(crate) fn hear_job<W: Hands>(
     core: &mut Core,

@@ -1,4 +1,4 @@
-//! The deeds of an outcome of the lease rules: what is kept, and then what is said.
+//! The calls for an outcome of the lease rules: first the write, and then the messages.
 ghost use Rattle.std.specs.Prelude.{◌≡◌, ◌<◌, ◌^◌, None};
 ghost use Rattle.std.specs.Option.{ForSome};
 ghost use Rattle.booth_raft.specs.Facts.{KeepWaits};
@@ -11,8 +11,8 @@ use crate::hands::Hands;
 use crate::saying::say;
 use booth_raft::{Core, Deed};
 
-// Keeps the record of a deed, where it has one, and gives the deed that follows. After the answer
-// of a gain no other keep follows; after another answer a gain's may.
+// Writes the record of an action, if it has one, and returns the action that follows. After the result of a gain no
+// other write follows; after another result the write of a gain may.
 fn keep_once<W: Hands>(core: &mut Core, now: u64, deed: Deed, hands: &mut W) -> Deed
     requires early { now < 2 ^ 62 }
     requires waits { KeepWaits deed.keep core.old.view.waiting now }
@@ -32,8 +32,8 @@ fn keep_once<W: Hands>(core: &mut Core, now: u64, deed: Deed, hands: &mut W) -> 
     core.kept(now, ok)
 }
 
-/// Does a step: its keeps, and then what it says, where the message of the member at the place
-/// `from` was heard or none was. The last deed says what clients are told.
+/// Does a step: its writes, and then its messages, after a message of the member at the place `from` or without one.
+/// The last action has the result for clients.
 #[tactic(auto, using(crate::proofs::DidLemmas::did_calls), unfolding(crate::specs::Keeping::carry_out))]
 pub(crate) fn carry_out<W: Hands>(
     core: &mut Core,

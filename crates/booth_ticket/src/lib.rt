@@ -1,4 +1,4 @@
-//! One ticket: its rules, done by hands. It knows no frames, no files and no other ticket.
+//! One ticket: its rules, carried out by hands. It knows no frames, no files and no other ticket.
 #![tactic(auto)]
 
 mod automatic;
@@ -13,6 +13,7 @@ mod manual_requests;
 mod request;
 mod requests;
 mod saying;
+mod standing;
 mod telling;
 mod ticket;
 mod waiters;

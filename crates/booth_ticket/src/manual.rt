@@ -1,4 +1,4 @@
-//! A manual ticket: what is known of it, and what it does in each call.
+//! A manual ticket: its state, and what it does in each call.
 ghost use Rattle.std.specs.Prelude.{◌≡◌, ◌≤◌, ◌<◌, ◌^◌, None, IsTrue, length, slice_set};
 ghost use Rattle.booth_raft.specs.Sound.{IsSound};
 ghost use Rattle.booth_ticket.specs.Acts.{Did};
@@ -21,7 +21,7 @@ use booth_rec::Record;
 use booth_wire::{Head, Say, Setup, TicketPart};
 use std::marker::Model;
 
-/// The handler of a grant by hand that runs.
+/// The handler that runs before a grant of a manual ticket.
 #[derive(Clone, Copy)]
 pub struct Job {
     pub number: u64,
@@ -33,7 +33,7 @@ pub struct Job {
 #[derive(Drop)]
 pub(crate) struct ManualTicket {
     rules: Manual,
-    /// The reading of its start, until all were asked for their state.
+    /// The reading of its start, until it has asked all members for their state.
     greets_at: Option<u64>,
     /// The handler that runs before a grant.
     running: Option<Job>,
@@ -59,7 +59,7 @@ impl ManualTicket {
     ghost use Rattle.booth_rec.specs.Record.{record_or_none};
     ghost use Rattle.booth_ticket.specs.Manual.{manual_started};
 
-    /// A manual ticket starts, from the record that was kept.
+    /// Starts a manual ticket from the record that was written last.
     pub fn open(setup: &Setup, kept: Option<&Record>, now: u64) -> ManualTicket
         requires sound { IsSound setup.now }
         requires second { IsTrue setup.now.second }
@@ -75,7 +75,7 @@ impl ManualTicket {
         }
     }
 
-    /// The setup that it started with.
+    /// Returns the setup with which it started.
     pub fn setup(&self) -> &Setup
         ensures value { result.now ≡ self.now.setup }
         ensures sound { IsSound result.now }
@@ -83,14 +83,14 @@ impl ManualTicket {
         self.rules.setup()
     }
 
-    /// What its rules know of it.
+    /// Returns the state of its rules.
     pub fn view(&self) -> &ManualView
         ensures { result.now ≡ self.now.known.view }
     {
         self.rules.view()
     }
 
-    /// When it is next to be looked at: all are to be asked for their state, or the handler is late.
+    /// Returns its next deadline: it must ask all members for their state, or the handler is late.
     pub fn deadline(&self) -> Option<u64>
         ensures { result ≡ manual_deadline self.now.known }
     {
@@ -100,7 +100,7 @@ impl ManualTicket {
         self.running.map(|job| job.limit)
     }
 
-    /// The message of the member at the place `from` is heard.
+    /// Handles a message of the member at the place `from`.
     pub fn hear<W: Hands>(&mut self, from: u32, head: &Head, part: &TicketPart, hands: &mut W)
         ensures did { Did W.did (manual_heard self.old from head.now part.now) self.new hands.old hands.new }
     {
@@ -108,7 +108,7 @@ impl ManualTicket {
         say(self.rules.setup(), Some(from), &words, hands);
     }
 
-    /// A client's request is followed. The reply is the last deed.
+    /// Follows a client's request. The reply is the last act.
     pub fn client<W: Hands>(
         &mut self,
         request: &Request,
@@ -136,14 +136,14 @@ impl ManualTicket {
         join(&as_waiting(request), answer, list, waiters);
     }
 
-    // The job is the one that is waited for.
+    // Returns whether the ticket waits for this job.
     fn awaits(&self, job: u64) -> bool
         ensures { result ≡ is_awaited self.now.known.job job }
     {
         self.running.is_some_and(|awaited| awaited.number == job)
     }
 
-    /// The job of a handler is over. What is no job of the ticket changes nothing.
+    /// Handles the end of a handler. A job that is none of the ticket's changes nothing.
     pub fn handler_done<W: Hands>(
         &mut self,
         job: u64,
@@ -165,7 +165,7 @@ impl ManualTicket {
         tell_waiters(&self.rules, told, list, waiters, hands);
     }
 
-    // What is said at the deadline.
+    // Returns the message at the deadline.
     fn greeting(&self) -> Say
         ensures { result ≡ greeting self.now.setup self.now.known }
     {
@@ -176,14 +176,14 @@ impl ManualTicket {
         }
     }
 
-    // A handler runs that should be over by now.
+    // Returns whether a handler runs that should have ended by now.
     fn is_late(&self, now: u64) -> bool
         ensures { result ≡ is_late self.now.known.job now }
     {
         self.running.is_some_and(|job| job.limit <= now)
     }
 
-    // A handler that is late has failed.
+    // Ends a late handler as failed.
     fn end_late<W: Hands>(&mut self, now: u64, list: u32, waiters: &mut Waiters, hands: &mut W)
         requires exists { list < length waiters.old }
         ensures did { Did W.did (limit_due self.old (waiting_at waiters.old list) now)
@@ -197,7 +197,7 @@ impl ManualTicket {
         tell_waiters(&self.rules, Told::HandlerFailed, list, waiters, hands);
     }
 
-    /// The deadline has come.
+    /// Handles the deadline.
     pub fn tick<W: Hands>(&mut self, now: u64, list: u32, waiters: &mut Waiters, hands: &mut W)
         requires exists { list < length waiters.old }
         ensures did { Did W.did (manual_due self.old (waiting_at waiters.old list) now)

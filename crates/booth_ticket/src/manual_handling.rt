@@ -1,4 +1,4 @@
-//! What the end of a handler before a grant by hand leads to.
+//! The effects of the end of a handler before a grant of a manual ticket.
 ghost use Rattle.std.specs.Prelude.{◌≡◌, ◌<◌, None, length, slice_set};
 ghost use Rattle.booth_raft.specs.Sound.{IsSound};
 ghost use Rattle.booth_ticket.specs.Acts.{Did};
@@ -14,7 +14,7 @@ use crate::waiters::Waiters;
 use booth_manual::Manual;
 use booth_raft::Told;
 
-// The service can run: the ticket is granted, where a term is left. What those that wait are told.
+// Grants the ticket, if a term is left, since the service can run. Returns the outcome for the waiting clients.
 fn grant<W: Hands>(rules: &mut Manual, hands: &mut W) -> Told
     requires sound { IsSound rules.old.setup }
     requires idle { rules.old.view.waiting ≡ None }
@@ -33,7 +33,7 @@ fn grant<W: Hands>(rules: &mut Manual, hands: &mut W) -> Told
     }
 }
 
-/// The handler of a grant is over. What those that wait are told.
+/// Goes on after the handler of a grant. Returns the outcome for the waiting clients.
 #[tactic(auto, using(crate::proofs::DidLemmas::did_end))]
 pub(crate) fn grant_after<W: Hands>(rules: &mut Manual, service: Service, hands: &mut W) -> Told
     requires sound { IsSound rules.old.setup }
@@ -48,7 +48,7 @@ pub(crate) fn grant_after<W: Hands>(rules: &mut Manual, service: Service, hands:
     }
 }
 
-/// Tells those that wait for a manual ticket of an outcome.
+/// Tells the clients that wait for a manual ticket an outcome.
 #[tactic(auto, unfolding(crate::specs::ManualHandling::tell_waiters))]
 pub(crate) fn tell_waiters<W: Hands>(
     rules: &Manual,

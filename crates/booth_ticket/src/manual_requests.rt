@@ -1,4 +1,4 @@
-//! What a client asks of a manual ticket.
+//! Clients' requests about a manual ticket.
 ghost use Rattle.std.specs.Prelude.{◌≡◌, ◌≢◌, ◌<◌, ◌^◌, None, IsSome, IsTrue, IfNone, is_some, if◌then◌else◌};
 ghost use Rattle.booth_raft.specs.Sound.{IsSound};
 ghost use Rattle.booth_manual.specs.State.{with_view};
@@ -20,14 +20,14 @@ use booth_wire::options::{COMMIT, IMMEDIATE, WAIT};
 use booth_wire::results::{APRQ, ASYN, BUSY, FAIL, IARG, OVER, PEND, REDR, SUCCESS, TIDL, XPRG};
 use booth_wire::{Setup, TicketPart};
 
-// The client wants the ticket although another is shown as its holder.
+// Returns whether the client requests the ticket although another holder is known.
 fn forces(options: u32) -> bool
     ensures { result ≡ forces options }
 {
     options & IMMEDIATE == IMMEDIATE
 }
 
-// What else the client wants.
+// Returns the other options of the request.
 fn unforced(options: u32) -> u32
     ensures { result ≡ unforced options }
 {
@@ -38,21 +38,21 @@ fn unforced(options: u32) -> u32
     }
 }
 
-// A bit is set that no request has.
+// Returns whether a bit is set that no request has.
 fn is_strange(options: u32) -> bool
     ensures { result ≡ is_strange options }
 {
     options > IMMEDIATE + WAIT + COMMIT
 }
 
-// Another member is shown as the holder.
+// Returns whether the known holder is another member.
 fn is_another_shown(shown: Option<MemberId>, me: MemberId) -> bool
     ensures { result ≡ is_another_shown shown me }
 {
     shown.is_some_and(|shown| shown != me)
 }
 
-// What a grant is answered at once, or none where it is begun. `runs` while a handler runs.
+// Returns the immediate reply to a grant, or none if it is begun. `runs`: a handler runs.
 fn refused_grant(
     setup: &Setup,
     view: &ManualView,
@@ -87,7 +87,7 @@ fn refused_grant(
     None
 }
 
-// What a revoke is answered at once, or none where a record is kept. `runs` while a handler runs.
+// Returns the immediate reply to a revoke, or none if a record is written. `runs`: a handler runs.
 fn refused_revoke(setup: &Setup, view: &ManualView, runs: bool) -> Option<u32>
     ensures { result ≡ refused_manual_revoke setup.now view.now runs }
 {
@@ -103,7 +103,7 @@ fn refused_revoke(setup: &Setup, view: &ManualView, runs: bool) -> Option<u32>
     Some(TIDL)
 }
 
-// What a request is answered at once, or none where it is begun.
+// Returns the immediate reply to a request, or none if it is begun.
 fn refused(
     setup: &Setup,
     view: &ManualView,
@@ -121,7 +121,7 @@ fn refused(
     }
 }
 
-// The ticket is granted; or the owner's record is to be kept again.
+// Grants the ticket, or returns the owner's record to write it again.
 fn try_grant(rules: &mut Manual) -> Record
     requires idle { rules.old.view.waiting ≡ None }
     requires may { MayTry rules.old.view Wish.Grant }
@@ -138,7 +138,7 @@ fn try_grant(rules: &mut Manual) -> Record
     }
 }
 
-// The rule that the wish runs: the record that is to be kept.
+// Runs the rule for the request, and returns the record to write.
 fn try_for(rules: &mut Manual, wish: Wish) -> Record
     requires idle { rules.old.view.waiting ≡ None }
     requires may { MayTry rules.old.view wish }
@@ -152,7 +152,7 @@ fn try_for(rules: &mut Manual, wish: Wish) -> Record
     }
 }
 
-// What the keep's answer is to who asked.
+// Returns the reply after the write.
 fn result_of_keep(wish: Wish, ok: bool) -> u32
     ensures { result ≡ result_of_keep wish ok }
 {
@@ -163,7 +163,8 @@ fn result_of_keep(wish: Wish, ok: bool) -> u32
     }
 }
 
-/// The record is kept, and what follows of the answer is said to all. The result is for the client that asked.
+/// Writes the record, and sends the message that follows to all members. Returns the result for the client that
+/// asked.
 pub(crate) fn keep_tried<W: Hands>(
     rules: &mut Manual,
     wish: Wish,
@@ -183,7 +184,7 @@ pub(crate) fn keep_tried<W: Hands>(
     result_of_keep(wish, ok)
 }
 
-// The wish's rule is run, and its record is kept. The result is for the client that asked.
+// Runs the request's rule, and writes its record. Returns the result for the client that asked.
 fn keep_for<W: Hands>(rules: &mut Manual, wish: Wish, hands: &mut W) -> u32
     requires sound { IsSound rules.old.setup }
     requires idle { rules.old.view.waiting ≡ None }
@@ -197,7 +198,7 @@ fn keep_for<W: Hands>(rules: &mut Manual, wish: Wish, hands: &mut W) -> u32
     keep_tried(rules, wish, &tried, hands)
 }
 
-// The wish wants a handler to agree first.
+// Returns whether the request needs its handler first.
 fn wants_handler(view: &ManualView, wish: Wish) -> bool
     ensures { result ≡ wants_handler view.now wish }
 {
@@ -207,7 +208,7 @@ fn wants_handler(view: &ManualView, wish: Wish) -> bool
     }
 }
 
-// The handler of a grant is started as this job. The result is for the client that asked.
+// Starts the handler of a grant under this job number. Returns the result for the client that asked.
 fn start_for<W: Hands>(
     rules: &Manual,
     running: &mut Option<Job>,
@@ -230,14 +231,14 @@ fn start_for<W: Hands>(
     ASYN
 }
 
-// The job of a wish that wants a handler to agree first.
+// Returns the job of a request that needs its handler first.
 fn job_for(view: &ManualView, job: Option<u64>, wish: Wish) -> Option<u64>
     ensures { result ≡ (if wants_handler view.now wish then job else None) }
 {
     if wants_handler(view, wish) { job } else { None }
 }
 
-// A wish that is not refused is begun: its record is kept, after its handler, where there is one. The result is for
+// Begins a request that is not refused: writes its record, after its handler if there is one. Returns the result for
 // the client that asked.
 fn begin_for<W: Hands>(
     rules: &mut Manual,
@@ -263,7 +264,7 @@ fn begin_for<W: Hands>(
     }
 }
 
-/// What the client wishes is begun, or it is found why not. What it is answered.
+/// Begins the client's request, or refuses it. Returns the reply.
 pub(crate) fn do_for<W: Hands>(
     rules: &mut Manual,
     running: &mut Option<Job>,
@@ -295,7 +296,7 @@ pub(crate) fn do_for<W: Hands>(
     }
 }
 
-/// The state that clients are told.
+/// Returns the state for clients.
 pub(crate) fn client_part(setup: &Setup, view: &ManualView) -> TicketPart
     ensures { result ≡ manual_state setup.now view.now }
 {
@@ -317,7 +318,7 @@ pub(crate) fn manual_reply<W: Hands>(rules: &Manual, request: &Request, answer: 
     hands.say(To::Client(request.from), &head, &part);
 }
 
-/// The request as it waits: it hears of a keep that failed too.
+/// Returns the request in the form in which it waits: its client is also told about a failed write.
 pub(crate) fn as_waiting(request: &Request) -> Request
     ensures { result ≡ as_waiting request.now }
 {

@@ -1,4 +1,4 @@
-//! What a client asks of an automatic ticket.
+//! Clients' requests about an automatic ticket.
 ghost use Rattle.std.specs.Prelude.{◌≡◌, ◌≢◌, ◌<◌, ◌^◌, ◌&&◌, ◌==◌, None, IsTrue, length, slice_set};
 ghost use Rattle.booth_wire.specs.declared.codes.results.TheConstants.{ASYN};
 ghost use Rattle.booth_raft.specs.Members.{is_follower};
@@ -22,21 +22,21 @@ use booth_wire::options::WAIT;
 use booth_wire::reasons::ADMN;
 use booth_wire::results::{APRQ, ASYN, BUSY, FAIL, IARG, OVER, PEND, REDR, SUCCESS, TIDL, XPRG};
 
-// This site leads, and its lease is not over.
-fn is_holder(setup: &Setup, view: &View, now: u64) -> bool
+/// Returns whether this site leads and its lease has not ended.
+pub(crate) fn is_holder(setup: &Setup, view: &View, now: u64) -> bool
     ensures { result ≡ is_holder setup.now view.now now }
 {
     setup.site && view.role == Role::Leader && now < own_end(view)
 }
 
-// An owner is shown that is another, and its lease is not over.
-fn is_shown_elsewhere(shown: Option<Shown>, me: MemberId, now: u64) -> bool
+/// Returns whether the known owner is another member, and its lease has not ended.
+pub(crate) fn is_shown_elsewhere(shown: Option<Shown>, me: MemberId, now: u64) -> bool
     ensures { result ≡ is_shown_elsewhere shown me now }
 {
     shown.is_some_and(|shown| now < shown.until && shown.owner != me)
 }
 
-// What a grant is answered at a site that holds the ticket.
+// Returns the reply to a grant at a site that holds the ticket.
 fn holder_result(sure: bool, spare: u32, options: u32) -> u32
     ensures { result ≡ holder_result sure spare options }
 {
@@ -50,7 +50,7 @@ fn holder_result(sure: bool, spare: u32, options: u32) -> u32
     }
 }
 
-// What a grant is answered at once, or none where the ticket is acquired.
+// Returns the immediate reply to a grant, or none if the ticket is acquired.
 fn refused_grant(
     setup: &Setup,
     view: &View,
@@ -85,8 +85,8 @@ fn refused_grant(
     None
 }
 
-// The result of an acquisition. To who wants to hear of the keep, a lease that could not be kept was
-// begun.
+// Returns the result of an acquisition. For a client that asked to hear about the write, a lease that could not be
+// written was begun.
 fn grant_result(options: u32, told: Told) -> u32
     ensures { result ≡ grant_result options told }
 {
@@ -100,14 +100,14 @@ fn grant_result(options: u32, told: Told) -> u32
     }
 }
 
-/// What a client is answered, and the last deed that was done for it.
+/// The reply to a client, and the last action that was done for it.
 #[derive(Drop)]
 pub(crate) struct Done {
     pub answer: u32,
     pub last: Deed,
 }
 
-// The ticket is acquired for a client.
+// Acquires the ticket for a client.
 #[tactic(auto, using(crate::proofs::DidLemmas::did_calls), unfolding(crate::specs::Requests::acquire_for))]
 fn acquire_for<W: Hands>(
     core: &mut Core,
@@ -133,7 +133,7 @@ fn acquire_for<W: Hands>(
     }
 }
 
-// The ticket is granted, or it is found why not.
+// Grants the ticket, or refuses the request.
 #[tactic(auto, using(crate::proofs::DidLemmas::did_end))]
 fn grant<W: Hands>(core: &mut Core, spare: u32, given: Given, options: u32, hands: &mut W) -> Done
     requires early { given.now < 2 ^ 62 }
@@ -160,7 +160,7 @@ fn grant<W: Hands>(core: &mut Core, spare: u32, given: Given, options: u32, hand
     }
 }
 
-// What the revoke is answered at once, or none where the lease is given back.
+// Returns the immediate reply to a revoke, or none if the lease is released.
 fn refused_revoke(setup: &Setup, view: &View, options: u32, now: u64) -> Option<u32>
     ensures { result ≡ refused_revoke setup.now view.now options now }
 {
@@ -179,7 +179,7 @@ fn refused_revoke(setup: &Setup, view: &View, options: u32, now: u64) -> Option<
     Some(TIDL)
 }
 
-// The result of a release.
+// Returns the result of a release.
 fn revoke_result(told: Told) -> u32
     ensures { result ≡ revoke_result told }
 {
@@ -190,7 +190,7 @@ fn revoke_result(told: Told) -> u32
     }
 }
 
-// The lease is given back for a client.
+// Releases the lease for a client.
 #[tactic(auto, using(crate::proofs::DidLemmas::did_calls), unfolding(crate::specs::Requests::release_for))]
 fn release_for<W: Hands>(core: &mut Core, now: u64, hands: &mut W) -> Done
     requires early { now < 2 ^ 62 }
@@ -208,7 +208,7 @@ fn release_for<W: Hands>(core: &mut Core, now: u64, hands: &mut W) -> Done
     }
 }
 
-// The lease is given back, or it is found why not.
+// Releases the lease, or refuses the request.
 #[tactic(auto, using(crate::proofs::DidLemmas::did_end))]
 fn revoke<W: Hands>(core: &mut Core, options: u32, now: u64, hands: &mut W) -> Done
     requires early { now < 2 ^ 62 }
@@ -227,7 +227,7 @@ fn revoke<W: Hands>(core: &mut Core, options: u32, now: u64, hands: &mut W) -> D
     }
 }
 
-// What the client wishes is done, or it is found why not.
+// Does what the client requests, or refuses it.
 fn do_for<W: Hands>(
     core: &mut Core,
     request: &Request,
@@ -248,8 +248,7 @@ fn do_for<W: Hands>(
     }
 }
 
-/// A client's request is followed: what it wishes is done, those that wait are told, and then it is
-/// answered.
+/// Follows a client's request: does its actions, tells the waiting clients, and then sends the reply.
 pub(crate) fn follow_request<W: Hands>(
     core: &mut Core,
     request: &Request,

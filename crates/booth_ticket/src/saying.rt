@@ -1,4 +1,4 @@
-//! What the rules say, to members and to clients.
+//! The messages of the rules, to members and to clients.
 ghost use Rattle.std.specs.Prelude.{◌≡◌, ◌==◌, ◌<◌, ◌++◌, ◌∷◌, [], cond};
 ghost use Rattle.std.specs.Int.{bit_at};
 ghost use Rattle.arrayvec.specs.ArrayVec.{array_vec_len};
@@ -17,7 +17,7 @@ use booth_wire::{Head, Say, Setup, TicketPart};
 
 type Places = ArrayVec<u32, MEMBERS>;
 
-// A place joins the others where it is one of those looked for.
+// Adds a place to the others, if it is wanted.
 fn add_where(places: &mut Places, place: u32, looked_for: bool)
     requires room { array_vec_len places.old < MEMBERS }
     ensures { places.new.items ≡ places.old.items ++ cond looked_for (place ∷ []) [] }
@@ -27,7 +27,7 @@ fn add_where(places: &mut Places, place: u32, looked_for: bool)
     }
 }
 
-// The places of the other members.
+// Returns the places of the other members.
 fn others(setup: &Setup) -> Places
     requires sound { IsSound setup.now }
     ensures { result.items ≡ others setup.now }
@@ -46,7 +46,7 @@ fn is_set(bits: u16, place: u32) -> bool
     (bits >> place) & 1 == 1
 }
 
-// The places whose bits are set.
+// Returns the places whose bits are set.
 fn places_in(bits: u16) -> Places
     ensures { result.items ≡ places_in bits }
 {
@@ -57,7 +57,7 @@ fn places_in(bits: u16) -> Places
     places
 }
 
-// Answers the member whose message was heard.
+// Answers the member that sent the message.
 #[tactic(auto, using(crate::proofs::DidLemmas::did_end))]
 fn say_back<W: Hands>(from: Option<u32>, head: &Head, part: &TicketPart, hands: &mut W)
     requires kind { kind_of head.now.cmd ≡ Kind.Ticket }
@@ -68,8 +68,7 @@ fn say_back<W: Hands>(from: Option<u32>, head: &Head, part: &TicketPart, hands: 
     }
 }
 
-/// Says what a rule says, where the message of the member at the place `from` was heard or none
-/// was.
+/// Sends the message of a rule, after a message of the member at the place `from` or without one.
 pub(crate) fn say<W: Hands>(setup: &Setup, from: Option<u32>, words: &Say, hands: &mut W)
     requires sound { IsSound setup.now }
     requires speech { IsSpeech setup.now words.now }

@@ -1,4 +1,4 @@
-//! What clients are told: those that wait, and who asked.
+//! The messages to clients: to those that wait, and to the one that asked.
 ghost use Rattle.std.specs.Prelude.{◌≡◌, ◌≤◌, ◌<◌, ◌++◌, [], ◌∷◌, IsTrue, length, slice_set};
 ghost use Rattle.booth_wire.specs.Command.{kind_of};
 ghost use Rattle.booth_wire.specs.declared.command.Kind.{Kind};
@@ -15,21 +15,21 @@ use booth_wire::options::{COMMIT, WAIT};
 use booth_wire::results::{ASYN, FAIL, PEND, SUCCESS, XPRG};
 use booth_wire::{Cmd, Head, Setup, TicketPart};
 
-/// Whether a client wants to hear of a grant only once that is kept.
+/// Returns whether a client asked to be told about a grant only once it is written.
 pub(crate) fn commits(options: u32) -> bool
     ensures { result ≡ commits options }
 {
     options == COMMIT || options == WAIT + COMMIT
 }
 
-/// Whether a client wants to hear the outcome too.
+/// Returns whether a client asked for the outcome of its request, in addition to the first answer.
 pub(crate) fn waits(options: u32) -> bool
     ensures { result ≡ waits options }
 {
     options == WAIT || commits(options)
 }
 
-/// The head of a message to a client.
+/// Returns the head of a message to a client.
 pub(crate) fn reply_head(setup: &Setup, number: u32, cmd: Cmd, answer: u32) -> Head
     ensures { result ≡ head_of setup.now cmd number 0 0 answer }
 {
@@ -57,7 +57,7 @@ fn reply_part(setup: &Setup, view: &View, now: u64) -> TicketPart
     }
 }
 
-// What an outcome is to a client that waits: its result, or none where it waits on.
+// Returns the result of an outcome for a client that waits, or none if the client waits on.
 fn result_for(told: Told, waiter: &Waiter) -> Option<u32>
     ensures { result ≡ result_for told waiter.now }
 {
@@ -70,7 +70,7 @@ fn result_for(told: Told, waiter: &Waiter) -> Option<u32>
     }
 }
 
-// Tells a client that waits its result, where it has one.
+// Tells a waiting client its result, if it has one.
 #[tactic(auto, using(crate::proofs::DidLemmas::did_end), unfolding(crate::specs::Waiting::tell_one))]
 fn tell_one<W: Hands>(setup: &Setup, part: &TicketPart, waiter: &Waiter, told: Told, hands: &mut W)
     ensures did { Did W.did (tell_one setup.now part.now told waiter.now) tt hands.old hands.new }
@@ -81,7 +81,7 @@ fn tell_one<W: Hands>(setup: &Setup, part: &TicketPart, waiter: &Waiter, told: T
     }
 }
 
-// A client that was told nothing waits on, behind those that were not looked at yet.
+// Has a client without a result wait on, behind those that were not looked at yet.
 fn keep_waiting(waiter: Waiter, told: Told, list: u32, waiters: &mut Waiters)
     requires exists { list < length waiters.old }
     requires room { 0 < spare_in waiters.old }
@@ -93,8 +93,8 @@ fn keep_waiting(waiter: Waiter, told: Told, list: u32, waiters: &mut Waiters)
     }
 }
 
-/// Tells those that wait for the ticket of an outcome, first to last, with this state of the ticket. Who was told
-/// leaves the list.
+/// Tells the clients that wait for the ticket an outcome, first to last, with this state of the ticket. A client that
+/// was told leaves the list.
 pub(crate) fn tell_each<W: Hands>(
     setup: &Setup,
     part: &TicketPart,
@@ -118,7 +118,7 @@ pub(crate) fn tell_each<W: Hands>(
     }
 }
 
-/// Tells those that wait for an automatic ticket of its last deed.
+/// Tells the clients that wait for an automatic ticket about its last action.
 #[tactic(auto, using(crate::proofs::DidLemmas::did_calls), unfolding(crate::specs::Waiting::tell))]
 pub(crate) fn tell<W: Hands>(
     core: &Core,
@@ -139,7 +139,7 @@ pub(crate) fn tell<W: Hands>(
     tell_each(core.setup(), &part, last.told, list, waiters, hands);
 }
 
-/// Who asked waits for the outcome, where its request was begun and it wants that.
+/// Has the client wait for the outcome, if its request was begun and it asked for that.
 pub(crate) fn join(request: &Request, answer: u32, list: u32, waiters: &mut Waiters)
     requires exists { list < length waiters.old }
     requires room { IsTrue (joins request.now answer) → 0 < spare_in waiters.old }
@@ -158,7 +158,7 @@ pub(crate) fn join(request: &Request, answer: u32, list: u32, waiters: &mut Wait
     }
 }
 
-/// The command that answers a request.
+/// Returns the command that answers a request.
 pub(crate) fn reply_cmd(wish: Wish) -> Cmd
     ensures cmd { result ≡ reply_cmd wish }
     ensures kind { kind_of result ≡ Kind.Ticket }

@@ -6,6 +6,7 @@ use crate::handling::Service;
 use crate::hands::Hands;
 use crate::manual::ManualTicket;
 use crate::request::{Given, Request};
+use crate::standing::{endless_part, told_part};
 use crate::telling::tell;
 use crate::waiters::Waiters;
 use crate::{automatic, handling, requests};
@@ -15,7 +16,7 @@ use booth_rec::Record;
 use booth_wire::{Head, Setup, TicketPart};
 use std::marker::Model;
 
-/// Who is shown as the owner of a ticket.
+/// The known owner of a ticket.
 #[derive(Clone, Copy)]
 pub struct Owner {
     pub site: MemberId,
@@ -25,9 +26,8 @@ pub struct Owner {
 
 /// A ticket at one member.
 ///
-/// Every `now` is a reading of the member's clock in milliseconds since 1970, below 2^62. The clients
-/// that wait for it stand at the place `list` of `waiters`; no call changes another list. No call takes
-/// memory.
+/// Every `now` is a reading of the member's clock in milliseconds since 1970, below 2^62. The clients that wait for
+/// it are at the place `list` of `waiters`; no call changes another list. No call allocates memory.
 #[derive(Drop)]
 pub struct Ticket {
     kind: Kind,
@@ -36,9 +36,9 @@ pub struct Ticket {
 /// The rules of a ticket, by its kind.
 #[derive(Drop)]
 enum Kind {
-    /// It is granted by votes.
+    /// It is granted by a majority of the members.
     Automatic(Core),
-    /// It is granted by hand alone.
+    /// Only an operator grants it.
     Manual(ManualTicket),
 }
 
@@ -53,7 +53,7 @@ impl Model for Ticket {
     ghost invariant = { λ ticket. IsIdle ticket.kind };
 }
 
-// The owner that is shown, while its lease is not over.
+// Returns the known owner, while its lease has not ended.
 fn shown_owner(shown: Option<Shown>, now: u64) -> Option<Owner>
     ensures { result ≡ shown_owner shown now }
 {
@@ -64,7 +64,7 @@ fn shown_owner(shown: Option<Shown>, now: u64) -> Option<Owner>
     })
 }
 
-// The owner of a manual ticket, whose lease has no end.
+// Returns the owner of a manual ticket, whose lease has no end.
 fn manual_owner(ticket: &ManualTicket) -> Option<Owner>
     ensures { result ≡ manual_owner ticket.now.setup ticket.now.known.view }
 {
@@ -85,10 +85,10 @@ impl Ticket {
     ghost use Rattle.booth_rec.specs.Record.{record_or_none};
     ghost use Rattle.std.specs.Prelude.{option_copied};
     ghost use Rattle.booth_ticket.specs.Acts.{Did};
-    ghost use Rattle.booth_ticket.specs.Ticket.{opened, opened_by_hand, ticket_heard, ticket_asked, ticket_due, ticket_over, deadline, owner, IsDue};
+    ghost use Rattle.booth_ticket.specs.Ticket.{opened, opened_by_hand, ticket_heard, ticket_asked, ticket_due, ticket_over, deadline, owner, told_ticket, IsDue};
     ghost use Rattle.booth_ticket.specs.Waiting.{waiting_at, spare_in};
 
-    /// An automatic ticket starts, from the record that was kept.
+    /// Starts an automatic ticket from the record that was written last.
     pub fn open(setup: &Setup, kept: Option<&Record>, now: u64) -> Ticket
         requires sound { IsSound setup.now }
         requires second { IsTrue setup.now.second }
@@ -100,7 +100,7 @@ impl Ticket {
         }
     }
 
-    /// A manual ticket starts, from the record that was kept.
+    /// Starts a manual ticket from the record that was written last.
     pub fn open_manual(setup: &Setup, kept: Option<&Record>, now: u64) -> Ticket
         requires sound { IsSound setup.now }
         requires second { IsTrue setup.now.second }
@@ -111,7 +111,7 @@ impl Ticket {
         }
     }
 
-    /// The setup that it started with.
+    /// Returns the setup with which it started.
     pub fn setup(&self) -> &Setup
         ensures value { result.now ≡ self.now.setup }
         ensures sound { IsSound result.now }
@@ -122,7 +122,7 @@ impl Ticket {
         }
     }
 
-    /// A message of the member at the place `from`, another than this one, is heard.
+    /// Handles a message of the member at the place `from`, which is another than this one.
     pub fn hear<W: Hands>(
         &mut self,
         now: u64,
@@ -152,9 +152,8 @@ impl Ticket {
         }
     }
 
-    /// A client's request is followed; `ready` says whether the prerequisites of a grant hold that is
-    /// asked for. Where the ticket has a handler, `job` is the number of the job that may be started. The
-    /// reply is the last deed.
+    /// Follows a client's request; `ready`: the prerequisites of the requested grant hold. If the ticket has a
+    /// handler, `job` is the number under which it may be started. The reply is the last act.
     pub fn client<W: Hands>(
         &mut self,
         now: u64,
@@ -182,7 +181,7 @@ impl Ticket {
         }
     }
 
-    /// The job of a handler is over. A job of another ticket, or an earlier one, changes nothing.
+    /// Handles the end of a handler. A job of another ticket, or an earlier one, changes nothing.
     pub fn handler_done<W: Hands>(
         &mut self,
         now: u64,
@@ -209,8 +208,8 @@ impl Ticket {
         }
     }
 
-    /// The deadline has come; `ready` says whether the prerequisites of a takeover hold. Where the ticket has
-    /// a handler, `job` is the number of the job that may be started.
+    /// Handles the deadline; `ready`: the prerequisites of a takeover hold. If the ticket has a handler, `job` is the
+    /// number under which it may be started.
     pub fn tick<W: Hands>(
         &mut self,
         now: u64,
@@ -237,7 +236,7 @@ impl Ticket {
         }
     }
 
-    /// When it is next to be looked at, in milliseconds since 1970.
+    /// Returns its next deadline, in milliseconds since 1970.
     pub fn deadline(&self) -> Option<u64>
         ensures { result ≡ deadline self.now.known }
     {
@@ -247,13 +246,24 @@ impl Ticket {
         }
     }
 
-    /// Who is shown as the owner now; none where nobody is.
+    /// Returns the known owner now; none if no owner is known.
     pub fn owner(&self, now: u64) -> Option<Owner>
         ensures { result ≡ owner self.now.setup self.now.known now }
     {
         match &self.kind {
             Kind::Automatic(core) => shown_owner(core.view().shown, now),
             Kind::Manual(ticket) => manual_owner(ticket),
+        }
+    }
+    /// Returns the state of the ticket now, for a client that asks for this ticket alone: the holder, the term of its
+    /// lease, and the seconds that are left. Only the holder reports a term; it is 0 if another member holds the
+    /// ticket or none does.
+    pub fn told(&self, now: u64) -> TicketPart
+        ensures { result ≡ told_ticket self.now.setup self.now.known now }
+    {
+        match &self.kind {
+            Kind::Automatic(core) => told_part(core.setup(), core.view(), now),
+            Kind::Manual(ticket) => endless_part(ticket.setup(), manual_owner(ticket)),
         }
     }
 }

@@ -1,4 +1,4 @@
--- Why bytes are no frame: seven conditions, of which the first that holds is the fault.
+-- Why bytes are not a frame: seven conditions. The fault is the first condition that holds.
 use Rattle.std.specs.Prelude.{◌≡◌, ℕ, ◌+◌, ◌-◌, Bool, false, not, ◌&&◌, ◌||◌, ◌==◌, nat_le, nat_lt, List, [], ◌∷◌, length, Option, Some, None, is_none, option_map, Result, Ok, Err}
 use Rattle.std.specs.List.{find}
 use Rattle.booth_wire.specs.declared.frame.TheConstants.{FRAME_BYTES}
@@ -17,14 +17,14 @@ abbrev pub fault_of : {A F : Type 0} → Result A F → Option F
 fault_of (Ok x) = None
 fault_of (Err fault) = Some fault
 
--- the head, where the code is a command's and opts are that command's
+-- the head, if the code is that of a command and opts are allowed for it
 abbrev pub head_in : List ℕ → Option Head
 head_in bytes = elim (cmd_of (word_at 28 bytes)) [
   | None ↦ None
   | Some cmd ↦ option_map (λ auth. head_at auth cmd bytes) (auth_in (kind_of cmd) (word_at 0 bytes))
 ]
 
--- it holds of the head, where there is one
+-- whether a condition holds for the head; false if there is no head
 abbrev pub of_head : Option Head → (Head → Bool) → Bool
 of_head None holds = false
 of_head (Some h) holds = holds h
@@ -36,7 +36,7 @@ around h = 48 + auth_len h.auth
 abbrev pub size_of : Head → List ℕ → ℕ
 size_of h bytes = length bytes - around h
 
--- the conditions, each of the bytes alone, in the order in which they are told
+-- the conditions, each over the bytes alone, in the order of the faults
 abbrev pub conditions : List ℕ → List (Bool × FrameFault)
 conditions bytes =
     (nat_lt (length bytes) 48, faults.Short)
@@ -56,6 +56,6 @@ conditions bytes =
     )
     ∷ []
 
--- Reading gives the first of them, and a message where none holds.
+-- Reading returns the first fault, and a message if there is none.
 abbrev pub GivesFirstFault : Type 0
 GivesFirstFault = (bytes : List ℕ) → fault_of (decoded bytes) ≡ first_of (conditions bytes)

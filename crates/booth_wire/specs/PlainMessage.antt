@@ -1,4 +1,4 @@
--- What a message says, apart from where its text lies in memory, and the forms of its parts.
+-- A message without the place of its text in memory, and the forms of its parts.
 use Rattle.std.specs.Prelude.{ℕ, Bool, true, not, ◌&&◌, ◌==◌, nat_le, List, length, is_none, if◌then◌else◌}
 use Rattle.std.specs.List.{list_all}
 use Rattle.booth_base.specs.Name.{is_line_byte}
@@ -15,14 +15,14 @@ use Rattle.booth_wire.specs.declared.message.Body.TheVariants as bodies
 use Rattle.booth_wire.specs.declared.message.Message.{Message}
 use Rattle.booth_wire.specs.Command.{code_of}
 
--- what a message says behind its head
+-- the content of a message behind its head
 pub data Content : Type 0 where
   Bare : Content
   Ticket : (part : TicketPart) → Content
   Attr : (part : AttrPart) → Content
   Text : (text : List ℕ) → Content
 
--- a message without where its text lies
+-- a message without the place of its text in memory
 pub record PlainMessage : Type 0 where
   pub head : Head
   pub content : Content
@@ -42,7 +42,7 @@ kind_in (Ticket part) = kinds.Ticket
 kind_in (Attr part) = kinds.Attr
 kind_in (Text text) = kinds.Text
 
--- only the command that asks for a list of attributes names none
+-- only the command that lists attributes names none
 abbrev pub names_none : Cmd → Bool
 names_none cmd = code_of cmd == code_of ALst
 

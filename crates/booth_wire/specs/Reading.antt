@@ -1,4 +1,4 @@
--- What bytes are read as, each field from its place, and the first fault.
+-- The message that bytes spell, each field read from its place, or the first fault.
 use Rattle.std.specs.Prelude.{◌≡◌, ℕ, ◌+◌, ◌-◌, Bool, true, false, not, ◌&&◌, ◌||◌, ◌==◌, nat_le, nat_lt, if◌then◌else◌, List, length, drop, Option, Some, None, option_map, ok_or, Result, Ok, Err}
 use Rattle.std.specs.List.{list_all, take_while}
 use Rattle.booth_base.specs.Name.{is_name, is_value, is_line_byte}
@@ -29,7 +29,7 @@ text_of field = take_while (λ b. not (b == 0)) field
 abbrev pub are_zeros : List ℕ → Bool
 are_zeros bytes = list_all (λ b. b == 0) bytes
 
--- behind those bytes there are zeros alone
+-- all bytes behind those are zeros
 abbrev pub is_padded : List ℕ → Bool
 is_padded field = are_zeros (drop (length (text_of field)) field)
 
@@ -39,7 +39,7 @@ name_in field = if is_padded field && is_name (text_of field) then Some (text_of
 abbrev pub value_in : List ℕ → Option (List ℕ)
 value_in field = if is_padded field && is_value (text_of field) then Some (text_of field) else None
 
--- AUTH, where these are the opts of a command with such a body
+-- whether AUTH is set, if these are the opts of a command with this kind of body
 abbrev pub auth_in : Kind → ℕ → Option Bool
 auth_in kind opts =
     if opts == opts_of false kind then Some false else
@@ -96,7 +96,7 @@ ticket_with bytes ticket = Ticket (record {
 abbrev pub ticket_in : List ℕ → Option Content
 ticket_in bytes = option_map (ticket_with bytes) (name_in (field_at 0 64 bytes))
 
--- an attribute's name; none, in a field of zeros, where the command names none
+-- an attribute's name; none, in a field of zeros, if the command names none
 abbrev pub attr_name_in : Cmd → List ℕ → Option (Option (List ℕ))
 attr_name_in cmd field =
     if names_none cmd then (if are_zeros field then Some None else None)
@@ -115,14 +115,14 @@ attr_in cmd bytes =
 abbrev pub text_in : List ℕ → Option Content
 text_in bytes = if list_all is_line_byte bytes then Some (Text bytes) else None
 
--- the content of a body's bytes, where names, values and texts have their forms
+-- the content of a body, if its names, values and texts have their forms
 abbrev pub content_in : Cmd → Kind → List ℕ → Option Content
 content_in cmd kinds.Bare bytes = Some Bare
 content_in cmd kinds.Ticket bytes = ticket_in bytes
 content_in cmd kinds.Attr bytes = attr_in cmd bytes
 content_in cmd kinds.Text bytes = text_in bytes
 
--- the message that bytes are read as, or the first fault
+-- the message that bytes spell, or the first fault
 abbrev pub decoded : List ℕ → Result PlainMessage FrameFault
 decoded bytes = do
   h ← head_read bytes
@@ -130,7 +130,7 @@ decoded bytes = do
   content ← ok_or (content_in h.cmd (kind_of h.cmd) inner) faults.Name
   Ok (record { head = h; content = content })
 
--- a message or a fault, against what is read
+-- a message or a fault equals what the bytes are read as
 abbrev pub Gives : Result Message FrameFault → Result PlainMessage FrameFault → Type 0
 Gives (Ok m) read = read ≡ Ok (plain_of m)
 Gives (Err f) read = read ≡ Err f

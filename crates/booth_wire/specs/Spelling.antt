@@ -1,4 +1,4 @@
--- The bytes of a message, which messages have some, which bytes spell it, and what signing changes.
+-- The bytes of a message, which messages have a spelling, which bytes spell a message, and what signing changes.
 use Rattle.std.specs.Prelude.{◌≡◌, ℕ, ◌+◌, ◌-◌, ◌%◌, ◌^◌, ◌≤◌, ◌<◌, true, Bool, if◌then◌else◌, List, [], ◌++◌, length, take, replicate, unwrap_or, IfSome}
 use Rattle.booth_base.specs.Name.{is_name, is_value}
 use Rattle.booth_wire.specs.declared.message.Head.{Head}
@@ -8,7 +8,7 @@ use Rattle.booth_wire.specs.Command.{code_of, kind_of}
 use Rattle.booth_wire.specs.Layout.{word, padded_to, word_at, opts_of, auth_len}
 use Rattle.booth_wire.specs.PlainMessage.{Content, Bare, Ticket, Attr, Text, PlainMessage, kind_in, is_named, has_text}
 
--- the twelve numbers of the header, in a frame of so many bytes
+-- the twelve numbers of the header of a frame with this many bytes
 unfoldable pub header : Head → ℕ → List ℕ
 header h size =
     word (opts_of h.auth (kind_of h.cmd)) ++ word h.secs ++ word h.usecs ++ word 0x5F1BA08C
@@ -40,7 +40,7 @@ frame_with auth l = header l.head (frame_len l) ++ body l.content ++ auth
 unfoldable pub blank_auth : Bool → List ℕ
 blank_auth auth = if auth then word 2 ++ replicate 24 0 else []
 
--- the one spelling of a message that is not signed yet
+-- the one spelling of a message before it is signed
 abbrev pub spelling : PlainMessage → List ℕ
 spelling l = frame_with (blank_auth l.head.auth) l
 
@@ -78,7 +78,7 @@ pub record Fits (l : PlainMessage) : Type 0 where
   pub named : is_named l.head.cmd l.content ≡ true
   pub text : has_text l.content ≡ true
 
--- Header, body, and where AUTH is set 28 bytes of any content.
+-- Header, body and, if AUTH is set, 28 bytes of any content.
 pub record Spells (bytes : List ℕ) (l : PlainMessage) : Type 0 where
   pub auth : List ℕ
   pub size : length auth ≡ auth_len l.head.auth
@@ -89,7 +89,7 @@ pub record HasAuth (bytes : List ℕ) : Type 0 where
   pub room : 76 ≤ length bytes
   pub bit : word_at 0 bytes % 2 ≡ 1
 
--- the bytes of such a frame that its authentication part vouches for
+-- the bytes of such a frame that its authentication part covers
 abbrev pub before_auth : List ℕ → List ℕ
 before_auth bytes = take (length bytes - 28) bytes
 

@@ -1,4 +1,4 @@
-//! The bytes of a frame, in memory that is taken once.
+//! The bytes of a frame, in memory that is allocated once.
 ghost use Rattle.std.specs.Prelude.{◌≡◌, ◌≤◌, ◌+◌, ◌++◌, [], length, replicate, IfOk};
 ghost use Rattle.booth_wire.specs.Layout.{word};
 ghost use Rattle.booth_wire.specs.Spelling.{HasAuth, signed};
@@ -10,7 +10,7 @@ use std::marker::Model;
 /// The most bytes of a frame.
 pub const FRAME_BYTES: usize = 16_460;
 
-/// Room for one frame. Contracts see its bytes.
+/// Memory for one frame. Contracts see its bytes.
 #[derive(Drop)]
 pub struct Frame {
     bytes: Vec<u8>,
@@ -28,7 +28,11 @@ impl Model for Frame {
 }
 
 impl Frame {
-    /// An empty frame, with all the memory that it will have.
+    /// Returns an empty frame, with all the memory that it will need.
+    ///
+    /// # Errors
+    ///
+    /// `AllocError` if memory is out.
     pub fn new(alloc: Global) -> Result<Frame, AllocError>
         ensures { IfOk result (λ frame. frame ≡ []) }
     {
@@ -37,7 +41,7 @@ impl Frame {
         })
     }
 
-    /// The bytes.
+    /// Returns the bytes.
     pub fn bytes(&self) -> &[u8]
         ensures value { result.now ≡ self.now }
         ensures fits { length result.now ≤ FRAME_BYTES }
@@ -45,7 +49,7 @@ impl Frame {
         &self.bytes
     }
 
-    /// Writes an authentication part in place of the frame's own: the last 28 bytes.
+    /// Replaces the authentication part of the frame, which is its last 28 bytes.
     pub fn set_auth(&mut self, id: u32, hash: &[u8; 24])
         requires { HasAuth self.old }
         ensures signed { self.new ≡ signed self.old id hash.now }

@@ -1,4 +1,4 @@
-//! Laws between bytes and messages, over all of them.
+//! Laws on bytes and messages, which hold for all of them.
 ghost use Rattle.std.specs.Prelude.{◌≡◌, ◌++◌, ℕ, List, length, Ok, Err};
 ghost use Rattle.booth_wire.specs.declared.command.Cmd.{Cmd};
 ghost use Rattle.booth_wire.specs.declared.message.FrameFault.{FrameFault};
@@ -15,7 +15,7 @@ pub fn spelling_is_read()
     ensures { (l : PlainMessage) → Fits l → decoded (spelling l) ≡ Ok l }
 {}
 
-/// So is its frame with any other authentication part of the right size.
+/// The same holds for its frame with any other authentication part of the right size.
 pub fn signed_is_read()
     ensures { (l : PlainMessage) (auth : List ℕ) → Fits l → length auth ≡ auth_len l.head.auth
         → decoded (frame_with auth l) ≡ Ok l }
@@ -33,13 +33,13 @@ pub fn one_message()
         → l ≡ m }
 {}
 
-/// What is refused spells no message.
+/// Bytes that are refused spell no message.
 pub fn refused_spells_nothing()
     ensures { (bytes : List ℕ) (fault : FrameFault) → decoded bytes ≡ Err fault → (l : PlainMessage) → Fits l
         → Spells bytes l → ⊥ }
 {}
 
-/// Reading gives the first of seven faults, each under its condition, and a message where none holds.
+/// Reading returns the first of seven faults, each under its condition, and a message if there is none.
 pub fn first_fault_is_told()
     ensures { GivesFirstFault }
 {}

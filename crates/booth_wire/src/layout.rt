@@ -1,4 +1,4 @@
-//! What reading and writing share: the sizes, the fixed numbers and the bits of opts.
+//! Constants and functions that reading and writing share: sizes, fixed numbers, and the bits of opts.
 ghost use Rattle.std.specs.Prelude.{◌≡◌};
 ghost use Rattle.booth_wire.specs.Layout.{auth_bit, attr_bit, auth_len, opts_of};
 
@@ -7,7 +7,7 @@ use crate::command::Kind;
 /// The bytes of a header.
 pub(crate) const HEADER_BYTES: usize = 48;
 
-/// The number by which a frame is known.
+/// The number with which each frame begins.
 pub(crate) const MAGIC: u32 = 0x5F1B_A08C;
 
 /// The version of the protocol.
@@ -28,7 +28,7 @@ pub(crate) const ATTR_BYTES: usize = 256;
 /// The bytes of an authentication part: a number and a hash.
 pub const AUTH_BYTES: usize = 28;
 
-/// How many bytes an authentication part has, where there is one.
+/// Returns the size of the authentication part, if there is one.
 pub(crate) fn auth_len(auth: bool) -> usize
     ensures { result ≡ auth_len auth }
 {
@@ -50,7 +50,7 @@ fn attr_bit(kind: Kind) -> u32
     }
 }
 
-/// The opts of a frame with such a body.
+/// Returns the opts of a frame with this body.
 pub(crate) fn opts_of(auth: bool, kind: Kind) -> u32
     ensures { result ≡ opts_of auth kind }
 {

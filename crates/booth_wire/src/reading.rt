@@ -27,7 +27,7 @@ fn are_zeros(bytes: &[u8]) -> bool
     bytes.iter().all(|b| *b == 0)
 }
 
-// How many bytes stand before the first zero.
+// Returns the number of bytes before the first zero.
 fn text_len(field: &[u8]) -> usize
     ensures value { result ≡ prefix_len (λ b. not (b == 0)) field.now }
     ensures within { result ≤ length field.now }
@@ -35,7 +35,7 @@ fn text_len(field: &[u8]) -> usize
     field.iter().take_while(|b| **b != 0).count()
 }
 
-// The text of a field that is filled up with zeros.
+// Returns the text of a field that is padded with zeros.
 fn padded(field: &[u8]) -> Option<&[u8]>
     ensures { option_map (λ t. t.now) result ≡
         (if is_padded field.now then Some (text_of field.now) else None) }
@@ -56,7 +56,7 @@ fn value_in(field: &[u8]) -> Option<AttrValue>
     AttrValue::read(padded(field)?).ok()
 }
 
-// Whether these are the opts of such a body with an authentication part, or without.
+// Returns whether AUTH is set in the opts, if these are the opts of a command with this kind of body.
 fn auth_in(kind: Kind, opts: u32) -> Option<bool>
     ensures { result ≡ auth_in kind opts }
 {
@@ -118,7 +118,7 @@ fn read_head(bytes: &[u8]) -> Result<Head, FrameFault>
     Ok(head_at(auth, cmd, bytes))
 }
 
-// The bytes between header and authentication part.
+// Returns the bytes between the header and the authentication part.
 fn read_body<'a>(head: &Head, bytes: &'a [u8]) -> Result<&'a [u8], FrameFault>
     ensures value { MatchResult result (λ inner. body_read head.now bytes.now ≡ Ok inner.now)
         (λ fault. body_read head.now bytes.now ≡ Err fault) }
@@ -148,7 +148,7 @@ fn read_ticket(bytes: &[u8]) -> Option<Body<'_>>
     }))
 }
 
-// Whether only a list of attributes is asked for, so that none is named.
+// Returns whether the command requests a list of attributes, and so names none.
 fn names_none(cmd: Cmd) -> bool
     ensures { result ≡ names_none cmd }
 {
@@ -208,7 +208,7 @@ fn read_content(cmd: Cmd, bytes: &[u8]) -> Option<Body<'_>>
     }
 }
 
-// The message behind this head, which these bytes begin with.
+// Returns the message whose head these bytes begin with.
 fn read_behind(head: Head, bytes: &[u8]) -> Result<Message<'_>, FrameFault>
     requires { head_read bytes.now ≡ Ok head }
     ensures { Gives result (decoded bytes.now) }
@@ -218,17 +218,21 @@ fn read_behind(head: Head, bytes: &[u8]) -> Result<Message<'_>, FrameFault>
     Ok(Message { head, body })
 }
 
-/// The message that a frame spells, or the first fault. The authentication part is not looked at.
+/// Returns the message that a frame spells. It does not check the authentication part.
+///
+/// # Errors
+///
+/// The first fault, in the order of `FrameFault`.
 pub fn decode(bytes: &[u8]) -> Result<Message<'_>, FrameFault>
-    // What is read is spelled so.
+    // The bytes spell the message that is returned.
     ensures found { IfOk result (λ m. Spells bytes.now (plain_of m)) }
     ensures fits { IfOk result (λ m. Fits (plain_of m)) }
     ensures len { IfOk result (λ m. length bytes.now ≡ frame_len (plain_of m)) }
 
-    // What is spelled so is read.
+    // Each message that the bytes spell is returned.
     ensures only { (l : PlainMessage) → Fits l → Spells bytes.now l → Gives result (Ok l) }
 
-    // Which fault it is.
+    // Which fault is returned.
     ensures exact { Gives result (decoded bytes.now) }
 {
     // (a message is large, and most faults are those of a head)

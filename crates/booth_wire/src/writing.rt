@@ -144,8 +144,8 @@ fn put_frame(into: &mut Frame, message: &Message<'_>)
     put_auth(into, message.head.auth);
 }
 
-/// Writes the message as a frame. Where `auth` is true it ends with 28 bytes of an authentication
-/// part that is not signed yet: the number 2 and 24 zeros.
+/// Writes the message as a frame. If `auth` is true, the frame ends with an authentication part of 28 bytes that is
+/// not signed yet: the number 2 and 24 zeros.
 pub fn encode(message: &Message<'_>, into: &mut Frame)
     requires kind { kind_in (content_of message.now.body) ≡ kind_of message.now.head.cmd }
     requires named { is_named message.now.head.cmd (content_of message.now.body) ≡ true }

@@ -11,7 +11,7 @@ use Rattle.booth_wire.specs.declared.message.Setup.{Setup}
 use Rattle.booth_raft.specs.declared.view.View.{View}
 use Rattle.booth_raft.specs.Members.{is_leader}
 use Rattle.booth_raft.specs.GainReleaseLost.{own_end}
-use Rattle.booth_ticket.specs.Requests.{is_holder}
+use Rattle.booth_ticket.specs.Requests.{is_holder, told_lease}
 use Rattle.booth_ticket.specs.Ticket.{TicketState, Automatic}
 use Rattle.booth_node.specs.Opening.{setup_of}
 use Rattle.booth_node.specs.World.{World, id_at, clock_at, IsSecondWorld, IsUntimedWorld}
@@ -21,7 +21,7 @@ use Rattle.booth_world.specs.States.{opening, HasClocks}
 use Rattle.booth_world.specs.Steps.{WorldStep, IsRun, AreSecond, world_of}
 use Rattle.booth_world.specs.Shadows.{HasShadow}
 use Rattle.booth_world.specs.Fencing.{HasGained}
-use Rattle.booth_world.specs.Told.{told_lease, WouldTell, ToldTermsAreOfOneIn, WorldsHaveFencingTerms}
+use Rattle.booth_world.specs.Told.{WouldTell, ToldTermsAreOfOneIn}
 use Rattle.booth_world.proofs.Lists.{none_is, some_same}
 use Rattle.booth_world.proofs.Views.{kept_of}
 use Rattle.booth_world.proofs.Configured.{setting_of}
@@ -30,10 +30,9 @@ use Rattle.booth_world.proofs.WorldEntries.{has_clocks}
 use Rattle.booth_world.proofs.WorldRuns.{begins_free}
 use Rattle.booth_world.proofs.WorldGrowth.{shadows_grow}
 use Rattle.booth_world.proofs.FencedLaws.{terms_of_one}
-use Rattle.booth_world.proofs.FencedWorlds.{world_terms_of_one, holders_of_one_term, world_askers}
 
 -- what is told is the record's lease, and not over
-told_is : (setup : Setup) (view : View) (now : ℕ) (lease : Lease) → told_lease setup view now ≡ Some lease
+pub told_is : (setup : Setup) (view : View) (now : ℕ) (lease : Lease) → told_lease setup view now ≡ Some lease
     → (view.kept.lease ≡ Some lease) × (now < lease.until)
 told_is setup view now lease e = by_holder (is_holder setup view now) refl e
   where
@@ -86,7 +85,7 @@ gained_told w is_world ticket automatic m moment lease shadow tells =
       fresh = λ began. let over = (free m).over lease began in let live = told.1 in omega (arith, over, live, rise, read, last, later);
     }
 
-told_terms : (w : World) → IsUntimedWorld w → IsSecondWorld w → ToldTermsAreOfOneIn w
+pub told_terms : (w : World) → IsUntimedWorld w → IsSecondWorld w → ToldTermsAreOfOneIn w
 told_terms w is_world all ticket automatic early late between later s t first second by_s by_t same =
     let c = cluster_of w ticket in
     let g = shadows_grow w is_world ticket automatic early late between later in
@@ -95,11 +94,3 @@ told_terms w is_world all ticket automatic early late between later s t first se
     (gained_told w is_world ticket automatic s early first g.first by_s)
     (subst (λ (steps : List WorldStep). HasGained c (world_of c steps) t second) g.goes_on (gained_told w is_world ticket automatic t late second g.second by_t))
     same
-
-pub worlds_have_fencing_terms : WorldsHaveFencingTerms
-worlds_have_fencing_terms w is_world all = record {
-  terms = world_terms_of_one w is_world all;
-  holders = holders_of_one_term w is_world all;
-  askers = world_askers w is_world all;
-  told = told_terms w is_world all;
-}

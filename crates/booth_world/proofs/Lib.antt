@@ -76,9 +76,11 @@ pub mod TellerTickets
 pub mod TellerClaims
 pub mod TellerLists
 pub mod TellerNodes
+pub mod TellerStanding
 pub mod TellerTurns
 pub mod TellerMembers
 pub mod TellerWorlds
+pub mod TermTurns
 pub mod KeptLaws
 pub mod WaitingLaws
 pub mod DeadlineRules
@@ -90,3 +92,4 @@ pub mod DeadlineNodes
 pub mod DeadlineWorlds
 pub mod FencedExample
 pub mod FencedTellers
+pub mod TermWorlds

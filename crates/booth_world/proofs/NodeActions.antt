@@ -21,7 +21,7 @@ use Rattle.booth_node.specs.declared.state.Common.{Common}
 use Rattle.booth_node.specs.Befalling.{AttributeAsking}
 use Rattle.booth_node.specs.AttributeRequests.{attr_request_in}
 use Rattle.booth_node.specs.Reaction.{Action, Hears, Answers, answers, asks, attends, attended, requested, hears, said, routed, demanded}
-use Rattle.booth_node.specs.Replies.{Reply, answered, is_list, list_lines, part_messages, replies_to, reply_with, request_in, text_for}
+use Rattle.booth_node.specs.Replies.{Reply, answered, is_list, list_lines, part_messages, replies_to, reply_with, request_in, text_for, told_for}
 use Rattle.booth_node.specs.Lists.{cut_lines}
 
 -- ---- what an action stands for
@@ -56,6 +56,7 @@ IsToClient (Some a) = direction_of a ≡ ToClient
 
 to_client : (cmd : Cmd) → IsToClient (answer_of cmd)
 to_client cmds.CLst = refl
+to_client cmds.CTkt = refl
 to_client cmds.Peer = refl
 to_client cmds.CGnt = refl
 to_client cmds.CRvk = refl
@@ -93,7 +94,7 @@ module _ (node : NodeConfig) (now : ℕ) (tickets : List TicketState) (common : 
       by_list : (b : Bool) → AreReplies node (map (stamped node.ring now)
           (if b then part_messages node.me message.head.request 0 (cut_lines 0 (list_lines node now tickets))
           else answered node.me message.head.request (answer_of message.head.cmd)
-          (reply_with (text_for node common message.head.cmd) message.head.cmd message.content)))
+          (reply_with (text_for node common message.head.cmd) (told_for node now tickets message.content) message.head.cmd message.content)))
       by_list true = of_parts message.head.request 0 (cut_lines 0 (list_lines node now tickets))
       by_list false = of_answer message.head.request (answer_of message.head.cmd) _ (to_client message.head.cmd)
 

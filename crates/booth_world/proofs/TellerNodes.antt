@@ -89,7 +89,7 @@ module _ (s : Setup) (at_found : Option ℕ) (lasts : 0 < s.times.expire) (addre
   module _ (node : NodeConfig) (moment : ℕ) where
     -- ---- its own deeds
 
-    own_message : (may : List Record) (head : Head) (part : TicketPart) → IsTrueOf s moment may head part
+    pub own_message : (may : List Record) (head : Head) (part : TicketPart) → IsTrueOf s moment may head part
         → IsHonestMessage by node.ring may (sent_as node moment head part)
     own_message may head part so =
         told_of_ticket by node.ring may (sent_as node moment head part) part refl refl

@@ -114,7 +114,7 @@ for_none P x e = absurd (none_is x e)
 none_left : (now end : ℕ) → end < now + 1 → 0 < seconds_left end now → ⊥
 none_left now end over some = omega (arith, over, some)
 
-some_left : (now end : ℕ) → 0 < seconds_left end now → now < end
+pub some_left : (now end : ℕ) → 0 < seconds_left end now → now < end
 some_left now end some = omega (arith, some)
 
 module _ (s : Setup) (now : ℕ) (base : Record) (Q : Type 0) where
@@ -328,6 +328,7 @@ module _ (s : Setup) (now : ℕ) (base : Record) (Q : Type 0) where
       by_cmd cmds.UpdE = quietly _ learns
       by_cmd cmds.Revk = quietly _ (revoked_calm (with_seen view part.term) head.from part.term head.reason seen)
       by_cmd cmds.CLst = quietly view calm
+      by_cmd cmds.CTkt = quietly view calm
       by_cmd cmds.Peer = quietly view calm
       by_cmd cmds.CGnt = quietly view calm
       by_cmd cmds.CRvk = quietly view calm
@@ -336,6 +337,7 @@ module _ (s : Setup) (now : ℕ) (base : Record) (Q : Type 0) where
       by_cmd cmds.ADel = quietly view calm
       by_cmd cmds.ALst = quietly view calm
       by_cmd cmds.RLst = quietly view calm
+      by_cmd cmds.RTkt = quietly view calm
       by_cmd cmds.RPer = quietly view calm
       by_cmd cmds.RALs = quietly view calm
       by_cmd cmds.RGnt = quietly view calm

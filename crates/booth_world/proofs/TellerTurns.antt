@@ -53,11 +53,12 @@ use Rattle.booth_node.specs.Counting.{accepted}
 use Rattle.booth_node.specs.Jobs.{job_at}
 use Rattle.booth_node.specs.Lists.{cut_lines, part_text}
 use Rattle.booth_node.specs.Reaction.{Action, Drops, Hears, Asks, Attends, Answers, Rests, action, acts, acts_as, all_places, answers, arrived, asks, attended, attends, befalls, demanded, due_places, dues, each_due, each_over, hears, met, react, requested, routed, said, turn_end, sends_back}
-use Rattle.booth_node.specs.Replies.{Reply, answered, is_list, list_lines, no_attribute, no_attribute_of, no_ticket, part_message, part_messages, replies_to, reply_message, reply_with, request_in, text_for}
+use Rattle.booth_node.specs.Replies.{Reply, answered, is_list, list_lines, no_attribute, no_attribute_of, no_ticket, part_message, part_messages, replies_to, reply_message, reply_with, request_in, text_for, ticket_in, told_for, told_of}
 use Rattle.booth_node.specs.State.{State, with_ticket}
 use Rattle.booth_world.specs.Tellers.{Claim, IsGranted, HasLeft, EndsIn, IsListed, HasLine, ListTells, MessageTells, PartTells}
 use Rattle.booth_world.proofs.TellerClaims.{IsBacked, IsHonestMessage, IsOwn, IsPlaced, found_or_not, same_part, same_text, text_is_none, told_of_none, told_of_ticket}
 use Rattle.booth_world.proofs.TellerLists.{AreTheirs, IsLineTold, lines_told}
+use Rattle.booth_world.proofs.TellerStanding.{standing_true}
 use Rattle.booth_world.proofs.TellerTexts.{AllOf, AllParts, IsLineOf, cut_of_all, line_found, named_is_some}
 use Rattle.booth_world.proofs.TellerSteps.{Honest, IsHonest, IsHonestLeft}
 use Rattle.booth_world.proofs.TellerTickets.{ticket_asked_honest, ticket_due_honest, ticket_heard_honest, ticket_over_honest}
@@ -221,18 +222,39 @@ module _ (s : Setup) (at_found : Option ℕ) (lasts : 0 < s.times.expire) (addre
     attribute_honest may request cmd (Ticket part) other = tt
     attribute_honest may request cmd (Text text) other = tt
 
-    answer_honest : (may : List Record) (request : ℕ) (text : List ℕ) (cmd : Cmd) (content : Content)
-        → AreHonestUnstamped may (answered node.me request (answer_of cmd) (reply_with text cmd content))
-    answer_honest may request text cmds.Peer content =
+    -- how a ticket stands
+    abbrev IsStanding : List Record → ℕ → TicketPart → Option TicketState → Type 0
+    IsStanding may request asked ticket = AreHonestUnstamped may (answered node.me request (Some cmds.RTkt) (told_of ticket moment asked))
+
+    standing_honest : (may : List Record) (tickets : List TicketState) (request : ℕ) (content : Content) → IsPlaced s at_found may tickets
+        → AreHonestUnstamped may (answered node.me request (Some cmds.RTkt) (told_for node moment tickets content))
+    standing_honest may tickets request (Ticket asked) at = by_place (position (is_called asked.ticket) node.config.tickets)
+      where
+        by_ticket : (place : ℕ) (o : Option TicketState) → slice_get tickets place ≡ o → IsStanding may request asked o
+        by_ticket place None is = unknown_honest may request cmds.RTkt (Ticket asked)
+        by_ticket place (Some ticket) is = (standing_true s at_found lasts address node moment may request place ticket tickets at is, tt)
+
+        by_place : (o : Option ℕ) → IsStanding may request asked (ticket_in tickets o)
+        by_place None = unknown_honest may request cmds.RTkt (Ticket asked)
+        by_place (Some place) = by_ticket place (slice_get tickets place) refl
+    standing_honest may tickets request Bare at = tt
+    standing_honest may tickets request (Attr attr) at = tt
+    standing_honest may tickets request (Text text) at = tt
+
+    answer_honest : (may : List Record) (request : ℕ) (text : List ℕ) (told : Option Reply) (cmd : Cmd) (content : Content)
+        → AreHonestUnstamped may (answered node.me request (Some cmds.RTkt) told)
+        → AreHonestUnstamped may (answered node.me request (answer_of cmd) (reply_with text told cmd content))
+    answer_honest may request text told cmds.CTkt content so = so
+    answer_honest may request text told cmds.Peer content so =
         other_honest may request cmds.RPer (record { result = SUCCESS; content = Text text }) (λ part e. text_is_none text part e) (λ e. absurd (cc))
-    answer_honest may request text cmds.CGnt content = unknown_honest may request cmds.RGnt content
-    answer_honest may request text cmds.CRvk content = unknown_honest may request cmds.RRvk content
-    answer_honest may request text cmds.ASet content = attribute_honest may request cmds.RAtr content (λ e. absurd (cc))
-    answer_honest may request text cmds.AGet content = attribute_honest may request cmds.RAtr content (λ e. absurd (cc))
-    answer_honest may request text cmds.ADel content = attribute_honest may request cmds.RAtr content (λ e. absurd (cc))
-    answer_honest may request text cmds.ALst content =
+    answer_honest may request text told cmds.CGnt content so = unknown_honest may request cmds.RGnt content
+    answer_honest may request text told cmds.CRvk content so = unknown_honest may request cmds.RRvk content
+    answer_honest may request text told cmds.ASet content so = attribute_honest may request cmds.RAtr content (λ e. absurd (cc))
+    answer_honest may request text told cmds.AGet content so = attribute_honest may request cmds.RAtr content (λ e. absurd (cc))
+    answer_honest may request text told cmds.ADel content so = attribute_honest may request cmds.RAtr content (λ e. absurd (cc))
+    answer_honest may request text told cmds.ALst content so =
         other_honest may request cmds.RALs (record { result = IARG; content = Text text }) (λ part e. text_is_none text part e) (λ e. absurd (cc))
-    answer_honest may request text cmd content = tt
+    answer_honest may request text told cmd content so = tt
 
     -- ---- lists
 
@@ -277,7 +299,8 @@ module _ (s : Setup) (at_found : Option ℕ) (lasts : 0 < s.times.expire) (addre
           on_cond (AreHonestUnstamped may) (is_list message.head.cmd) _ _
           (parts_honest may message.head.request 0 (cut_lines 0 (list_lines node moment tickets))
           (cut_of_all (IsTrueLine may) 0 (list_lines node moment tickets) (lines_told s at_found node.config address theirs moment may tickets at)))
-          (answer_honest may message.head.request (text_for node common message.head.cmd) message.head.cmd message.content)
+          (answer_honest may message.head.request (text_for node common message.head.cmd) (told_for node moment tickets message.content)
+          message.head.cmd message.content (standing_honest may tickets message.head.request message.content at))
 
     answers_honest : (may : List Record) (messages : List PlainMessage) → AreHonestUnstamped may messages
         → IsHonestAction may (answers node.ring moment messages)

@@ -55,27 +55,27 @@ use Rattle.booth_world.proofs.WorldSteps.{other_bytes, same_bytes, setup_by}
 use Rattle.booth_world.specs.Clusters.{cluster_of}
 use Rattle.booth_world.proofs.Untimed.{untimed}
 
-same_message : (r : Result PlainMessage FrameFault) (a b : PlainMessage) → r ≡ Ok a → r ≡ Ok b → a ≡ b
+pub same_message : (r : Result PlainMessage FrameFault) (a b : PlainMessage) → r ≡ Ok a → r ≡ Ok b → a ≡ b
 same_message r a b e f = cc
 
 -- ---- where a member stands
 
 module _ (conf : TicketConf) (me : MemberId) (address : Address) (lasts : 0 < conf.times.expire) where
   -- where a node's configuration has the ticket
-  abbrev at_of : NodeConfig → Option ℕ
+  abbrev pub at_of : NodeConfig → Option ℕ
   at_of node = position (is_called conf.name) node.config.tickets
 
-  abbrev setup : NodeConfig → Setup
+  abbrev pub setup : NodeConfig → Setup
   setup node = setup_of node (unwrap_or (at_of node) 0) conf
 
   -- the node is this member's, with an address of its own
-  record IsItsNode (node : NodeConfig) : Type 0 where
+  pub record IsItsNode (node : NodeConfig) : Type 0 where
     pub sound : IsSoundConfig node.config
     pub me_is : node.me ≡ me
     pub theirs : AreTheirs node.config node.me address
 
   -- all that a member that stands so is to tell of the ticket is borne out by the records that it may have kept then
-  abbrev IsHonestAt : List Record → Stand → Type 0
+  abbrev pub IsHonestAt : List Record → Stand → Type 0
   IsHonestAt may Down = Unit {0}
   IsHonestAt may (Doing node deeds) = IsItsNode node × KeepsHonest (setup node) (at_of node) lasts address node.ring may deeds
   IsHonestAt may (Hearing node old answer bytes) = IsItsNode node × IsPlaced (setup node) (at_of node) may old.tickets
@@ -190,19 +190,19 @@ module _ (conf : TicketConf) (me : MemberId) (address : Address) (lasts : 0 < co
 
 module _ (w : World) (is_world : IsUntimedWorld w) (ticket : TicketConf) (one : IsOneTicket w ticket) (automatic : ticket.manual ≡ false) (m : ℕ)
     (below : m < members_of w) where
-  lasts : 0 < ticket.times.expire
+  pub lasts : 0 < ticket.times.expire
   lasts = let e = (setup_sound w is_world.form ticket one m below (opening_session false)).renewal in omega (arith, e)
 
-  abbrev may_of : List WorldEntry → List Record
+  abbrev pub may_of : List WorldEntry → List Record
   may_of before = may_after_all ticket.name (begins_with w m ticket.name ∷ []) (entries_of m before)
 
-  abbrev IsHonestAfter : List WorldEntry → Type 0
+  abbrev pub IsHonestAfter : List WorldEntry → Type 0
   IsHonestAfter before = IsHonestAt ticket (id_at w m) (address_at w m) lasts (may_of before) (stand_after m before)
 
-  abbrev found : NodeConfig → Option ℕ
+  abbrev pub found : NodeConfig → Option ℕ
   found node = at_of ticket (id_at w m) (address_at w m) lasts node
 
-  abbrev setup_now : NodeConfig → Setup
+  abbrev pub setup_now : NodeConfig → Setup
   setup_now node = setup ticket (id_at w m) (address_at w m) lasts node
 
   -- the setup of the ticket is by its name and its times alone
@@ -268,7 +268,7 @@ module _ (w : World) (is_world : IsUntimedWorld w) (ticket : TicketConf) (one : 
       by_what (Makes call) config agree many = tt
       by_what (IsCut call) config agree many = tt
 
-  may_do_at : (before after : List WorldEntry) (e : WorldEntry) → w.entries ≡ before ++ e ∷ after → e.member ≡ m
+  pub may_do_at : (before after : List WorldEntry) (e : WorldEntry) → w.entries ≡ before ++ e ∷ after → e.member ≡ m
       → MayDo (stand_after m before) e.what
   may_do_at before after e whole is =
       sessions_at Down (entries_of m before) (entries_of m after) e.what
@@ -277,36 +277,56 @@ module _ (w : World) (is_world : IsUntimedWorld w) (ticket : TicketConf) (one : 
       ∙ ap (λ (xs : List SessionEntry). entries_of m before ++ xs) (entry_own m e after is))
       (is_world.one_daemon m below))
 
-  one_step : (before after : List WorldEntry) (e : WorldEntry) → w.entries ≡ before ++ e ∷ after → IsHonestAfter before
-      → IsHonestAfter (before ++ e ∷ [])
-  one_step before after e whole h = by_member (same_or_not e.member m)
-    where
-      by_member : (e.member ≡ m) ⊎ (e.member ≢ m) → IsHonestAfter (before ++ e ∷ [])
-      by_member (inr ne) =
-          let same : entries_of m (before ++ e ∷ []) ≡ entries_of m before =
-          entries_join m before (e ∷ []) ∙ ap (λ (xs : List SessionEntry). entries_of m before ++ xs) (entry_other m e [] ne)
-          ∙ append_none (entries_of m before) in
-          subst (λ (xs : List SessionEntry). IsHonestAt ticket (id_at w m) (address_at w m) lasts (may_after_all ticket.name (begins_with w m ticket.name ∷ []) xs) (after_entries Down xs)) (sym same) h
-      by_member (inl is) =
-          let all : entries_of m (before ++ e ∷ []) ≡ entries_of m before ++ e.what ∷ [] =
-          entries_join m before (e ∷ []) ∙ ap (λ (xs : List SessionEntry). entries_of m before ++ xs) (entry_own m e [] is) in
-          let may_do : MayDo (stand_after m before) e.what = may_do_at before after e whole is in
-          let r = one_entry ticket (id_at w m) (address_at w m) lasts (stand_after m before) e.what (may_of before) h may_do (starts_so before after e whole is may_do) in
-          subst (λ (s : Stand). IsHonestAt ticket (id_at w m) (address_at w m) lasts (may_of (before ++ e ∷ [])) s) (sym (stand_own m before e is))
-          (subst (λ (rs : List Record). IsHonestAt ticket (id_at w m) (address_at w m) lasts rs (after_entry (stand_after m before) e.what))
-          (sym (ap (λ (xs : List SessionEntry). may_after_all ticket.name (begins_with w m ticket.name ∷ []) xs) all
-          ∙ may_join ticket.name (begins_with w m ticket.name ∷ []) (entries_of m before) (e.what ∷ []))) r)
+  -- what each of the member's entries keeps true is true after all of them
+  module _ (Q : List Record → Stand → Type 0)
+      (keeps : (before after : List WorldEntry) (e : WorldEntry) → w.entries ≡ before ++ e ∷ after → e.member ≡ m
+      → MayDo (stand_after m before) e.what → Q (may_of before) (stand_after m before)
+      → Q (may_after ticket.name (may_of before) e.what) (after_entry (stand_after m before) e.what)) where
+    abbrev IsSoAfter : List WorldEntry → Type 0
+    IsSoAfter before = Q (may_of before) (stand_after m before)
 
-  steps : (between before after : List WorldEntry) → w.entries ≡ before ++ (between ++ after) → IsHonestAfter before
-      → IsHonestAfter (before ++ between)
-  steps [] before after whole h = subst (λ (es : List WorldEntry). IsHonestAfter es) (sym (append_none before)) h
-  steps (e ∷ between) before after whole h =
-      subst (λ (es : List WorldEntry). IsHonestAfter es) (append_both before (e ∷ []) between)
-      (steps between (before ++ e ∷ []) after (whole ∙ sym (append_both before (e ∷ []) (between ++ after)))
-      (one_step before (between ++ after) e whole h))
+    one_step : (before after : List WorldEntry) (e : WorldEntry) → w.entries ≡ before ++ e ∷ after → IsSoAfter before
+        → IsSoAfter (before ++ e ∷ [])
+    one_step before after e whole h = by_member (same_or_not e.member m)
+      where
+        by_member : (e.member ≡ m) ⊎ (e.member ≢ m) → IsSoAfter (before ++ e ∷ [])
+        by_member (inr ne) =
+            let same : entries_of m (before ++ e ∷ []) ≡ entries_of m before =
+            entries_join m before (e ∷ []) ∙ ap (λ (xs : List SessionEntry). entries_of m before ++ xs) (entry_other m e [] ne)
+            ∙ append_none (entries_of m before) in
+            subst (λ (xs : List SessionEntry). Q (may_after_all ticket.name (begins_with w m ticket.name ∷ []) xs) (after_entries Down xs)) (sym same) h
+        by_member (inl is) =
+            let all : entries_of m (before ++ e ∷ []) ≡ entries_of m before ++ e.what ∷ [] =
+            entries_join m before (e ∷ []) ∙ ap (λ (xs : List SessionEntry). entries_of m before ++ xs) (entry_own m e [] is) in
+            let r = keeps before after e whole is (may_do_at before after e whole is) h in
+            subst (λ (s : Stand). Q (may_of (before ++ e ∷ [])) s) (sym (stand_own m before e is))
+            (subst (λ (rs : List Record). Q rs (after_entry (stand_after m before) e.what))
+            (sym (ap (λ (xs : List SessionEntry). may_after_all ticket.name (begins_with w m ticket.name ∷ []) xs) all
+            ∙ may_join ticket.name (begins_with w m ticket.name ∷ []) (entries_of m before) (e.what ∷ []))) r)
+
+    steps : (between before after : List WorldEntry) → w.entries ≡ before ++ (between ++ after) → IsSoAfter before
+        → IsSoAfter (before ++ between)
+    steps [] before after whole h = subst (λ (es : List WorldEntry). IsSoAfter es) (sym (append_none before)) h
+    steps (e ∷ between) before after whole h =
+        subst (λ (es : List WorldEntry). IsSoAfter es) (append_both before (e ∷ []) between)
+        (steps between (before ++ e ∷ []) after (whole ∙ sym (append_both before (e ∷ []) (between ++ after)))
+        (one_step before (between ++ after) e whole h))
+
+    pub along : (before after : List WorldEntry) → w.entries ≡ before ++ after → Q (begins_with w m ticket.name ∷ []) Down
+        → Q (may_of before) (stand_after m before)
+    along before after whole first = steps before [] after whole first
+
+  -- all that the member tells after these entries is borne out
+  pub honest_after : (before after : List WorldEntry) → w.entries ≡ before ++ after → IsHonestAfter before
+  honest_after before after whole =
+      along (λ (may : List Record) (stand : Stand). IsHonestAt ticket (id_at w m) (address_at w m) lasts may stand)
+      (λ earlier later e is own may_do h.
+      one_entry ticket (id_at w m) (address_at w m) lasts (stand_after m earlier) e.what (may_of earlier) h may_do
+      (starts_so earlier later e is own may_do))
+      before after whole tt
 
   -- the records that may have been kept are still among them with that of the next entry
-  some_after : (k : Record) (may : List Record) (xs : List SessionEntry) → Has may k → Has (with_next ticket.name may xs) k
+  pub some_after : (k : Record) (may : List Record) (xs : List SessionEntry) → Has may k → Has (with_next ticket.name may xs) k
   some_after k may [] h = h
   some_after k may (Makes (calls.Keep name rec answer) ∷ xs) h = by_name (bytes_eq name ticket.name)
     where
@@ -350,7 +370,7 @@ module _ (w : World) (is_world : IsUntimedWorld w) (ticket : TicketConf) (one : 
       whole = moment.whole ∙ ap (λ (es : List WorldEntry). moment.before ++ es) next.1
 
       honest : IsHonestAfter moment.before
-      honest = steps moment.before [] moment.after moment.whole tt
+      honest = honest_after moment.before moment.after moment.whole
 
       may_do : MayDo (stand_after m moment.before) entry.what
       may_do = may_do_at moment.before next.0 entry whole is
@@ -366,7 +386,7 @@ module _ (w : World) (is_world : IsUntimedWorld w) (ticket : TicketConf) (one : 
 
   -- where it rests, it stands as an automatic ticket
   pub stands_by_votes : (moment : Moment w) → RestsInKind ticket (stand_after m moment.before)
-  stands_by_votes moment = by_stand (stand_after m moment.before) (steps moment.before [] moment.after moment.whole tt)
+  stands_by_votes moment = by_stand (stand_after m moment.before) (honest_after moment.before moment.after moment.whole)
     where
       by_known : (s : Setup) (may : List Record) (known : Known) → IsHonest s may known → IsOfKind false known
       by_known s may (Automatic view) h = tt

@@ -22,15 +22,16 @@ use Rattle.booth_ticket.specs.Laws.{HasLease, IsDoneBy, asked_record, told_grant
 use Rattle.booth_ticket.specs.Requests.{follow_request, refused_grant}
 use Rattle.booth_ticket.specs.Saying.{others}
 
--- the lease of the next term, which runs from now on
+-- the lease in the next term, which runs from now on
 abbrev pub lease_alone : Setup → View → ℕ → Lease
 lease_alone setup view now = record { term = next_term view; until = now + setup.times.expire }
 
--- its record: with what the member is pledged to by the record of the new term
+-- its record, with the member's pledge from the record of the new term
 abbrev pub record_alone : Setup → View → ℕ → Record
 record_alone setup view now = record_of setup (asking setup view ADMN now) (Some (lease_alone setup view now))
 
--- the new term is kept, and then the lease; the others are told, then who waits, and then who asked
+-- the new term is written, and then the lease; the other members are informed, then the waiting clients, and then the
+-- client that asked
 abbrev pub alone_acts : Setup → View → List Waiter → Request → ℕ → List Act
 alone_acts setup view waiters request now =
     let state : TicketPart = part_of setup setup.me (next_term view) (seconds_left (now + setup.times.expire) now) in
@@ -41,8 +42,8 @@ alone_acts setup view waiters request now =
     ++ said (Client request.from) (head_of setup RGnt request.number 0 0 SUCCESS) state
     ∷ [])
 
--- A grant of a ticket without a handler that meets no refusal, at a member that is a majority by its own answer, gives
--- the lease at once where both records are kept; who asked is told of success, and nobody waits.
+-- A grant of a ticket without a handler that is not refused, at a member that is a majority by its own answer, gives
+-- the lease at once if both records are written; the client that asked gets success, and no client waits.
 abbrev pub GrantGainsAlone : Type 0
 GrantGainsAlone =
     (setup : Setup) (view : View) (waiters : List Waiter) (spare : ℕ) (ready : Bool) (request : Request)

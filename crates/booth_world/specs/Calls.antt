@@ -1,4 +1,4 @@
--- Each call of the lease rules, and each answer of a keep, is a list of world steps of its member.
+-- Each call of the lease rules, and each result of a write, is a list of world steps of its member.
 use Rattle.std.specs.Prelude.{◌≡◌, ℕ, ◌<◌, List, [], ◌∷◌, Bool, true, false, None, IsTrue}
 use Rattle.booth_base.specs.declared.address.MemberId.{MemberId}
 use Rattle.booth_rec.specs.declared.record.Record.{Record}
@@ -19,9 +19,9 @@ use Rattle.booth_world.specs.Messages.{IsFact}
 use Rattle.booth_world.specs.Gives.{may_answered, Mark, mark_of, releases_answered, Given, given_by, LeadsTo}
 use Rattle.booth_world.specs.Rules.{MemberMessage, CoreCall, Asks, Hears, RenewsLease, GivesBack, Rules}
 
--- ---- may answer
+-- ---- answers
 
--- where a member may answer a round of a site, by its view, it may promise to it in the world
+-- if a member may answer a round of a site, by its view, it may promise that site in the world
 abbrev pub PromisesWhereItMayAnswer : Type 0
 PromisesWhereItMayAnswer =
     (c : Cluster) (id_of : ℕ → MemberId) (f : Facts) (m : ℕ) (view : View) (x : MemberState)
@@ -29,7 +29,7 @@ PromisesWhereItMayAnswer =
     → (site term : ℕ) → site < c.members → c.is_site site ≡ true
     → MayAnswer view (id_of site) term x.reading → MayPromise c x site term
 
--- ---- a member that calls
+-- ---- the calling member
 
 -- A member as its callers know it: the ids of all places, its place, its setup and its view.
 pub record Caller : Type 0 where
@@ -47,7 +47,7 @@ pub record IsMember (c : Cluster) (w : WorldState) (member : Caller) : Type 0 wh
   pub view_facts : ViewFacts member.setup member.view
   pub agrees : Agrees c member.id_of w.facts member.place member.view (w.member member.place)
 
--- what holds of each member of each world that a list of steps leads to
+-- what holds for each member of each world to which a list of steps leads
 abbrev pub OfEachMember : (Cluster → WorldState → Caller → Type 0) → Type 0
 OfEachMember P =
     (c : Cluster) → HasClocks c → (steps : List WorldStep) → IsRun c (opening c) steps
@@ -59,18 +59,18 @@ state_of w member = w.member member.place
 abbrev pub mark_at : WorldState → ℕ → Mark
 mark_at w m = mark_of w.now m (w.member m)
 
--- ---- what a call gives
+-- ---- the result of a call
 
--- steps of the member lead from this world to what is given
+-- steps of the member lead from this world to the given result
 abbrev pub Gives : Cluster → (ℕ → MemberId) → WorldState → ℕ → Given → Type 0
 Gives c id_of w m given = LeadsTo c id_of (mark_at w m) w.facts (w.member m) given
 
--- the same where a session of this version begins
+-- the same in a session of this version
 abbrev pub GivesIn : Bool → Cluster → (ℕ → MemberId) → WorldState → ℕ → Given → Type 0
 GivesIn second c id_of w m given =
     LeadsTo c id_of (record (mark_at w m) { second = second }) w.facts (w.member m) given
 
--- by a call, at the member's last reading
+-- the result of a call, at the member's last reading
 abbrev pub given_by_call : Rules → WorldState → Caller → CoreCall → Given
 given_by_call rules w member call =
     given_by
@@ -78,7 +78,7 @@ given_by_call rules w member call =
     (records_in member.id_of (state_of w member).may)
     w.facts.releases
 
--- by the answer of the keep that waits
+-- the result after the write that waits
 abbrev pub given_by_answer : Rules → WorldState → Caller → Bool → Given
 given_by_answer rules w member ok =
     given_by
@@ -86,7 +86,7 @@ given_by_answer rules w member ok =
     (may_answered member.view.waiting ok (records_in member.id_of (state_of w member).may))
     (releases_answered (mark_at w member.place) member.view.waiting ok w.facts.releases)
 
--- by a start, after which the record that it read is the only one that may be kept
+-- the result of a start, after which the record that it read is the only one that may have been written
 abbrev pub given_by_start : Rules → WorldState → ℕ → Setup → Record → Given
 given_by_start rules w m setup kept = record {
   view = rules.start setup kept (w.member m).reading;
@@ -97,7 +97,7 @@ given_by_start rules w m setup kept = record {
 
 -- ---- the calls
 
--- a message is heard at the true time of the reading, from a member, and is a fact of it
+-- a message of a member arrives at the true time of the reading, and is a fact about that member
 pub record IsHeard (c : Cluster) (w : WorldState) (member : Caller) (message : MemberMessage)
     : Type 0 where
   pub timely : (state_of w member).at ≡ w.now
@@ -105,7 +105,7 @@ pub record IsHeard (c : Cluster) (w : WorldState) (member : Caller) (message : M
   pub from : message.head.from ≡ member.id_of message.sender
   pub fact : IsFact member.id_of w.facts message.sender message.head message.part message.head.cmd
 
--- what a call needs, beside that no keep waits
+-- the condition of a call; in addition, no write waits
 abbrev pub MayCall : Cluster → WorldState → Caller → CoreCall → Type 0
 MayCall c w member (Asks reason) = IsTrue member.setup.site
 MayCall c w member (Hears message) = IsHeard c w member message
@@ -113,8 +113,8 @@ MayCall c w member RenewsLease = IsTrue (is_leader member.view.role)
 MayCall c w member (GivesBack reason) = IsTrue member.setup.site
 MayCall c w member call = Unit {0}
 
--- a member that is down starts with a record that may be kept, in a session of either version, but not of version 1
--- after one of version 2
+-- a member that is down starts with a record that it may have written, in a session of either version, but not of
+-- version 1 after one of version 2
 abbrev pub StartsAreSteps : Rules → Type 0
 StartsAreSteps rules =
     (c : Cluster) → HasClocks c → (steps : List WorldStep) → IsRun c (opening c) steps
@@ -125,8 +125,8 @@ StartsAreSteps rules =
     → (kept : Record) → Has (records_in id_of ((world_of c steps).member m).may) kept
     → GivesIn second c id_of (world_of c steps) m (given_by_start rules (world_of c steps) m setup kept)
 
--- Each start, each call and each answer of a keep gives steps. A keep's answer may come later than
--- its call, when others have done more.
+-- Each start, each call and each result of a write gives steps. The result of a write may come later than its call,
+-- after steps of others.
 pub record CallsAreSteps (rules : Rules) : Type 0 where
   pub start_gives : StartsAreSteps rules
   pub call_gives : OfEachMember (λ c w member.
@@ -135,7 +135,7 @@ pub record CallsAreSteps (rules : Rules) : Type 0 where
   pub answer_gives : OfEachMember (λ c w member.
       (ok : Bool) → Gives c member.id_of w member.place (given_by_answer rules w member ok))
 
--- steps that one member may do from a world are steps of the world
+-- steps that one member may make from a world are steps of the world
 abbrev pub StepsOfOneAreSteps : Type 0
 StepsOfOneAreSteps =
     (c : Cluster) (w : WorldState) (m : ℕ) (steps : List MemberStep) → m < c.members

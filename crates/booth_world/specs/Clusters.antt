@@ -23,7 +23,7 @@ promise_at w None = None
 promise_at w (Some promise) =
     Some (record { to = place_of w promise.to; term = promise.term; until = promise.until })
 
--- a record by the places of the members that it names: one of version 2 has a pledge
+-- a record with members named by their places: a record of version 2 has a pledge
 abbrev pub kept_at : World → Record → KeptRecord
 kept_at w kept = record {
   term = kept.term;

@@ -1,4 +1,4 @@
--- The three laws, over entries of the lease cores of one ticket.
+-- The three laws (one holder, holders apart, terms never fall), for a list of entries of the lease cores of one ticket.
 use Rattle.std.specs.Prelude.{◌≡◌, ◌≢◌, ◌⊎◌, ℕ, ◌<◌, ◌≤◌, List, [], ◌∷◌, true, None, Some, IsSomeAnd}
 use Rattle.booth_rec.specs.declared.record.Lease.{Lease}
 use Rattle.booth_rec.specs.declared.record.Record.{Record}
@@ -12,13 +12,13 @@ use Rattle.booth_world.specs.Cores.{CoreEntry, HasAnswer, StartsWith, Cores, ope
 
 -- ---- releases, by the entries
 
--- the rules whose keep gives a term back: a release, and a round that ends
+-- the rules whose write releases a term: a release, and the end of a round
 abbrev pub IsReleasing : Rule → Type 0
 IsReleasing (rules.Release reason) = Unit {0}
 IsReleasing rules.EndRound = Unit {0}
 IsReleasing rule = ⊥
 
--- the answer of a keep gives a term back where a record of it, without a lease, was kept for such a rule
+-- the result of a write releases a term if a record with it, without a lease, was written for such a rule
 abbrev pub IsReleaseAt : Cores → CoreEntry → Release → Type 0
 IsReleaseAt cores (HasAnswer m kept true) release =
     (release ≡ record { site = m; term = kept.term; at = cores.now }) × (kept.lease ≡ None)
@@ -33,7 +33,7 @@ IsReleaseIn c cast cores (entry ∷ entries) release =
 
 -- ---- holders
 
--- a member holds by a record that it may have kept, while that is in force at what its clock reads
+-- a member holds by a record that it may have written, while the record is in force at what the member's clock reads
 -- now
 abbrev pub CoreHoldsBy : Cluster → Cores → ℕ → Record → Type 0
 CoreHoldsBy c cores s k =
@@ -44,7 +44,7 @@ CoreHolds c cores s = (k : Record) × CoreHoldsBy c cores s k
 
 -- ---- the laws
 
--- Entries from before anything has happened, in two parts.
+-- Entries from the very beginning, in two parts.
 pub record CoreCourse (c : Cluster) (cast : Cast) (early late : List CoreEntry) : Type 0 where
   pub clocks : HasClocks c
   pub is_cast : IsCast c cast
@@ -57,15 +57,15 @@ early_cores c cast early = cores_after c cast (opening_cores c cast) early
 abbrev pub late_cores : Cluster → Cast → List CoreEntry → List CoreEntry → Cores
 late_cores c cast early late = cores_after c cast (early_cores c cast early) late
 
--- at no moment is the ticket held at two sites
+-- no two sites ever hold the ticket at the same moment
 abbrev pub CoresHoldOne : Type 0
 CoresHoldOne =
     (c : Cluster) (cast : Cast) (entries : List CoreEntry) → CoreCourse c cast entries [] → IsTimed c
     → (s t : ℕ) → CoreHolds c (early_cores c cast entries) s
     → CoreHolds c (early_cores c cast entries) t → s ≡ t
 
--- Where one holds by a record and another holds later, acquire-after lies between each time at which that record was
--- in force and the later one, or an entry between the two gave the record's lease back.
+-- If one site holds by a record and another holds later, acquire-after lies between each time at which that record
+-- was in force and the later one, or an entry between the two released the record's lease.
 abbrev pub CoresAreApart : Type 0
 CoresAreApart =
     (c : Cluster) (cast : Cast) (early late : List CoreEntry) → CoreCourse c cast early late → IsTimed c
@@ -75,7 +75,7 @@ CoresAreApart =
     ⊎ ((release : Release) × IsReleaseIn c cast (early_cores c cast early) late release
     × GivesBackLease s k.lease release)
 
--- where each record that a member may have kept has at least a term, so has each one later
+-- if each record that a member may have written has at least a term, so has each one later
 abbrev pub CoreTermsNeverFall : Type 0
 CoreTermsNeverFall =
     (c : Cluster) (cast : Cast) (early late : List CoreEntry) → CoreCourse c cast early late
@@ -94,7 +94,7 @@ abbrev pub AreSecondStarts : List CoreEntry → Type 0
 AreSecondStarts [] = Unit {0}
 AreSecondStarts (entry ∷ entries) = IsSecondStart entry × AreSecondStarts entries
 
--- Where each start is of version 2, and one member holds by a lease and another holds later by a lease, the later lease
+-- If each start is of version 2, and one member holds by a lease and another holds later by a lease, the later lease
 -- has the later term.
 abbrev pub LaterCoreHasLaterTerm : Type 0
 LaterCoreHasLaterTerm =

@@ -1,5 +1,5 @@
--- Entries of the lease cores of one ticket, at all members, and where they leave each: the records
--- that may be kept, what was said and what was released are counted from the entries alone.
+-- Entries of the lease cores of one ticket, at all members, and the state of each member after them: the records that
+-- may have been written, the messages and the releases follow from the entries alone.
 use Rattle.std.specs.Prelude.{◌≡◌, refl, ℕ, ◌<◌, ◌≤◌, nat_lt, List, [], ◌∷◌, Bool, true, Option, Some, None, IsTrue, IsSomeAnd}
 use Rattle.std.specs.Option.{ForSome}
 use Rattle.booth_base.specs.declared.address.MemberId.{MemberId}
@@ -20,8 +20,8 @@ use Rattle.booth_world.specs.Gives.{Mark, Given, given_by, may_answered, release
 
 -- ---- entries
 
--- What a session has of its own: whether it is of version 2, and how many sites come before its member, by the weights
--- that its configuration gives the ticket.
+-- The properties of a session: whether it is of version 2, and how many sites come before its member, by the weights
+-- in its configuration.
 pub record Session : Type 0 where
   pub second : Bool
   pub rank : ℕ
@@ -31,8 +31,8 @@ pub record Session : Type 0 where
 abbrev pub opening_session : Bool → Session
 opening_session second = record { second = second; rank = 0; few = refl }
 
--- What happens: true time passes; or, at one member, it reads its clock, calls its core, or has the answer of a
--- keep; it stops, or starts with a record, in a session of its own.
+-- An event: true time passes; or, at one member, the member reads its clock, calls its core, or gets the result of a
+-- write; it stops, or starts with a record, in a session of its own.
 pub data CoreEntry : Type 0 where
   TimePasses : (time : ℕ) → CoreEntry
   ReadsTime : (m time : ℕ) → CoreEntry
@@ -41,10 +41,10 @@ pub data CoreEntry : Type 0 where
   Stops : (m : ℕ) → CoreEntry
   StartsWith : (m : ℕ) (session : Session) (kept : Record) → CoreEntry
 
--- ---- where entries leave the members
+-- ---- the state of the members after entries
 
--- A member: its view while it is up; its session, or its last one while it is down; its last reading and the true time
--- of it; and the records that may be kept.
+-- A member: its view while it is up; its session, or its last one while it is down; its last reading and the true
+-- time of it; and the records that it may have written.
 pub record CorePlace : Type 0 where
   pub view : Option View
   pub session : Session
@@ -52,7 +52,7 @@ pub record CorePlace : Type 0 where
   pub at : ℕ
   pub may : List Record
 
--- All members, what was said, what was released, and the marks that facts may bear.
+-- All members, the messages that were sent, the releases, and the marks that facts may carry.
 pub record Cores : Type 0 where
   pub now : ℕ
   pub place : ℕ → CorePlace
@@ -60,7 +60,7 @@ pub record Cores : Type 0 where
   pub releases : List Release
   pub marks : List Mark
 
--- Who stands at the places: their ids, and their setups, each for any session.
+-- The members at the places: their ids, and their setups, each for any session.
 pub record Cast : Type 0 where
   pub id_of : ℕ → MemberId
   pub setup : ℕ → Session → Setup
@@ -71,7 +71,7 @@ pub record IsCast (c : Cluster) (cast : Cast) : Type 0 where
       → IsSeated c cast.id_of m session.second (cast.setup m session)
   pub sound : (m : ℕ) → m < c.members → (session : Session) → IsSound (cast.setup m session)
 
--- Nobody has started: each has what it begins with.
+-- No member has started: each has what it begins with.
 abbrev pub opening_cores : Cluster → Cast → Cores
 opening_cores c cast = record {
   now = 0;
@@ -89,7 +89,7 @@ opening_cores c cast = record {
 
 -- ---- what may come next
 
--- what a call needs that hears nothing, beside that no keep waits
+-- the condition of a call without a message; in addition, no write waits
 abbrev pub MayCallAlone : Setup → View → CoreCall → Type 0
 MayCallAlone setup view (Asks reason) = IsTrue setup.site
 MayCallAlone setup view (Hears message) = ⊥
@@ -102,15 +102,15 @@ MayCallAlone setup view call = Unit {0}
 abbrev pub setup_in : Cast → Cores → ℕ → Setup
 setup_in cast cores m = cast.setup m (cores.place m).session
 
--- a message is heard that was said, with its sender's id, at the true time of the reading
+-- a message arrives that was sent, with its sender's id, at the true time of the reading
 abbrev pub MayCallCore : Cast → Cores → ℕ → View → CoreCall → Type 0
 MayCallCore cast cores m view (Hears message) =
     (Has cores.said message) × (message.head.from ≡ cast.id_of message.sender)
     × ((cores.place m).at ≡ cores.now)
 MayCallCore cast cores m view call = MayCallAlone (setup_in cast cores m) view call
 
--- While a keep waits, its answer comes, or a stop; in version 2 no reading comes in between. A start reads one of the
--- records that may be kept, and is not of version 1 after one of version 2.
+-- While a write waits, only its result or a stop may come; in version 2 no reading comes in between. A start reads
+-- one of the records that may have been written, and is not of version 1 after one of version 2.
 abbrev pub MayEnter : Cluster → Cast → Cores → CoreEntry → Type 0
 MayEnter c cast cores (TimePasses time) = (cores.now ≤ time) × (time < c.span)
 MayEnter c cast cores (ReadsTime m time) =
@@ -130,9 +130,9 @@ MayEnter c cast cores (StartsWith m session kept) =
     (m < c.members) × ((cores.place m).view ≡ None) × Has (cores.place m).may kept
     × ((cores.place m).session.second ≡ true → session.second ≡ true)
 
--- ---- what it changes
+-- ---- the state after an entry
 
--- what is said once more
+-- the messages after one more
 abbrev pub said_more : ℕ → Say → List MemberMessage → List MemberMessage
 said_more m says.Nothing said = said
 said_more m (says.All head part) said = record { sender = m; head = head; part = part } ∷ said
@@ -149,7 +149,7 @@ mark_in cores m = record {
   now = cores.now;
 }
 
--- a member's core has given this, in this session
+-- a member's core has returned this, in this session
 abbrev pub has_given : Cores → ℕ → Session → Given → Cores
 has_given cores m session given = record {
   now = cores.now;
@@ -159,7 +159,7 @@ has_given cores m session given = record {
   marks = record (mark_in cores m) { second = session.second } ∷ cores.marks;
 }
 
--- what a call gives, and the answer of the keep that waits
+-- the result of a call, and after the write that waits
 abbrev pub call_given : Cast → Cores → ℕ → CoreCall → View → Given
 call_given cast cores m call view =
     given_by
@@ -174,7 +174,7 @@ answer_given cast cores m ok view =
     (may_answered view.waiting ok (cores.place m).may)
     (releases_answered (mark_in cores m) view.waiting ok cores.releases)
 
--- where the member is up
+-- if the member is up
 abbrev pub after_call : Cast → Cores → ℕ → CoreCall → Option View → Cores
 after_call cast cores m call None = cores
 after_call cast cores m call (Some view) =
@@ -203,7 +203,7 @@ entered c cast cores (StartsWith m session kept) = has_given cores m session (re
   releases = cores.releases;
 })
 
--- each entry may come where it stands
+-- each entry may come in the state before it
 abbrev pub AreEntered : Cluster → Cast → Cores → List CoreEntry → Type 0
 AreEntered c cast cores [] = Unit {0}
 AreEntered c cast cores (entry ∷ entries) =

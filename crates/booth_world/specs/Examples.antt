@@ -1,4 +1,4 @@
--- Small runs of version 1 in which a ticket is held: the laws speak of something.
+-- Small runs of version 1 in which a ticket is held: they show that the laws are not empty.
 use Rattle.std.specs.Prelude.{ℕ, zero, suc, ◌+◌, ◌++◌, nat_lt, true, false, List, [], ◌∷◌, Some, None}
 use Rattle.booth_base.specs.declared.address.MemberId.{MemberId}
 use Rattle.booth_base.specs.declared.name.Name.{Name}
@@ -10,9 +10,9 @@ use Rattle.booth_world.specs.Facts.{Round, Release}
 use Rattle.booth_world.specs.States.{KeptRecord, none_kept, Cluster, begins_bare}
 use Rattle.booth_world.specs.Steps.{WorldStep, Elects, Renews, Promises, Answers, Gains, TriesKeep, HasKept, Releases, Clears, Learns, Crashes, Starts, ReadsClock, MemberDoes, Passes}
 
--- ---- three members, whose clocks differ by all that the drift allows over so short a time
+-- ---- three members, whose clocks differ by as much as the drift allows over so short a time
 
--- one clock springs ahead, one stands still for a moment, and one is true
+-- one clock jumps ahead, one stands still for a moment, and one is exact
 abbrev pub ahead : List ℕ
 ahead = 0 ∷ 1 ∷ 2 ∷ 3 ∷ 5 ∷ 6 ∷ 7 ∷ 8 ∷ []
 
@@ -50,7 +50,7 @@ won_by round = record {
   pledge = None;
 }
 
--- all start, in version 1, and have kept nothing
+-- all start, in version 1, and have written nothing
 abbrev pub start : List WorldStep
 start =
     MemberDoes 0 (Starts none_kept false) ∷ MemberDoes 1 (Starts none_kept false)
@@ -60,20 +60,20 @@ abbrev pub all_read_at : ℕ → List WorldStep
 all_read_at time =
     Passes time ∷ MemberDoes 0 ReadsClock ∷ MemberDoes 1 ReadsClock ∷ MemberDoes 2 ReadsClock ∷ []
 
--- a member promises to a round until a reading, and answers it
+-- a member promises a round until a reading, and answers it
 abbrev pub answers : ℕ → Round → ℕ → List WorldStep
 answers m round until =
     MemberDoes m (Promises round.site round.term)
     ∷ MemberDoes m (Answers round (record { to = round.site; term = round.term; until = until }))
     ∷ []
 
--- a site takes a new term, and opens its first round
+-- a site starts a new term, and opens its first round
 abbrev pub election : ℕ → ℕ → List WorldStep
 election s term =
     MemberDoes s (Learns term) ∷ MemberDoes s (TriesKeep (unleased term))
     ∷ MemberDoes s (HasKept (unleased term)) ∷ MemberDoes s Elects ∷ []
 
--- with its own answer and that of the last member a site gains a lease, and keeps it
+-- with its own answer and that of the last member a site gains a lease, and writes it
 abbrev pub gain : Round → List WorldStep
 gain round =
     MemberDoes round.site (Gains round (round.site ∷ 2 ∷ []))
@@ -114,7 +114,7 @@ abbrev pub granted_elsewhere : List WorldStep
 granted_elsewhere =
     election 1 2 ++ answers 1 third_round 12 ++ answers 2 third_round 12 ++ gain third_round
 
--- ---- a holder crashes, and starts again with what it kept
+-- ---- a holder crashes, and starts again from its record
 
 abbrev pub crashed_and_started : List WorldStep
 crashed_and_started =

@@ -1,4 +1,4 @@
--- What leases are told apart by, whatever clocks do: nothing is asked of any clock here, not even that it never falls.
+-- What tells leases apart, whatever clocks do: there is no premise on any clock here, not even that it never falls.
 use Rattle.std.specs.Prelude.{◌≡◌, ◌≢◌, ◌⊎◌, ◌++◌, ℕ, ◌<◌, ◌≤◌, false, Some, List}
 use Rattle.booth_conf.specs.declared.tickets.TicketConf.{TicketConf}
 use Rattle.booth_rec.specs.declared.record.Lease.{Lease}
@@ -12,14 +12,14 @@ use Rattle.booth_world.specs.Steps.{WorldStep, IsRun, AreSecond, world_of}
 use Rattle.booth_world.specs.Shadows.{IsComing}
 use Rattle.booth_world.specs.Worlds.{IsLater}
 
--- A member may have kept a record with this lease, and did not begin with it.
+-- A member may have written a record with this lease, and did not begin with it.
 pub record HasGained (c : Cluster) (w : WorldState) (s : ℕ) (lease : Lease) : Type 0 where
   pub kept : KeptRecord
   pub may : Has (w.member s).may kept
   pub has : kept.lease ≡ Some lease
   pub fresh : (c.begins s).kept.lease ≢ Some lease
 
--- Where each start is of version 2, two leases of one term that were gained are of one member.
+-- If each start is of version 2, two gained leases of one term are of one member.
 abbrev pub TermsAreOfOneMember : Type 0
 TermsAreOfOneMember =
     (c : Cluster) (early late : List WorldStep) → IsRun c (opening c) (early ++ late) → AreSecond (early ++ late)
@@ -27,11 +27,11 @@ TermsAreOfOneMember =
     → HasGained c (world_of c early) s first → HasGained c (world_of c (early ++ late)) t second
     → first.term ≡ second.term → s ≡ t
 
--- each record that the member may have kept is of a term below this one
+-- each record that the member may have written is of a term below this one
 abbrev pub IsBelow : WorldState → ℕ → ℕ → Type 0
 IsBelow w s term = (k : KeptRecord) → Has (w.member s).may k → k.term < term
 
--- A lease whose term its member had not kept yet when another lease was gained has the greater term.
+-- A lease whose term its member had not written yet when another lease was gained has the greater term.
 abbrev pub LaterAskersHaveLaterTerms : Type 0
 LaterAskersHaveLaterTerms =
     (c : Cluster) (early late : List WorldStep) → IsRun c (opening c) (early ++ late) → AreSecond (early ++ late)
@@ -40,8 +40,8 @@ LaterAskersHaveLaterTerms =
     → IsBelow (world_of c early) t second.term
     → first.term < second.term
 
--- The same of the facts: a lease by a round that was opened after another lease was gained has no smaller term, and in
--- the same term it is the same site's.
+-- The same for the facts: a lease by a round that was opened after another lease was gained has no smaller term, and
+-- in the same term it is of the same site.
 abbrev pub LaterRoundsHaveLaterTerms : Type 0
 LaterRoundsHaveLaterTerms =
     (c : Cluster) (early late : List WorldStep) → IsRun c (opening c) (early ++ late) → AreSecond (early ++ late)
@@ -49,12 +49,12 @@ LaterRoundsHaveLaterTerms =
     → (Has (world_of c early).facts.rounds h.round → ⊥)
     → (g.round.term ≤ h.round.term) × (g.round.term ≡ h.round.term → g.round.site ≡ h.round.site)
 
--- no record that the member may have kept has this lease
+-- no record that the member may have written has this lease
 abbrev pub HasNot : WorldState → ℕ → Lease → Type 0
 HasNot w s lease = (k : KeptRecord) → Has (w.member s).may k → k.lease ≢ Some lease
 
--- What a member gains after it went down has a greater term than each lease that it gained before: so within a term its
--- leases are of one life of it.
+-- A lease that a member gains after it went down has a greater term than each lease that it gained before: within a
+-- term its leases are of one life of its daemon.
 abbrev pub LivesHaveTheirTerms : Type 0
 LivesHaveTheirTerms =
     (c : Cluster) (early late : List WorldStep) → IsRun c (opening c) (early ++ late) → AreSecond (early ++ late)
@@ -63,9 +63,9 @@ LivesHaveTheirTerms =
     → HasNot (world_of c early) s second
     → first.term < second.term
 
--- ---- over worlds of entries
+-- ---- for worlds of entries
 
--- A member may have kept this lease of the ticket at this moment, and did not begin with it.
+-- A member may have written this lease of the ticket at this moment, and did not begin with it.
 pub record HasGainedAt (w : World) (ticket : TicketConf) (m : ℕ) (moment : Moment w) (lease : Lease) : Type 0 where
   pub below : m < members_of w
   pub kept : Record
@@ -73,7 +73,7 @@ pub record HasGainedAt (w : World) (ticket : TicketConf) (m : ℕ) (moment : Mom
   pub has : kept.lease ≡ Some lease
   pub fresh : (begins_with w m ticket.name).lease ≢ Some lease
 
--- two leases of one term that were gained are of one member
+-- two gained leases of one term are of one member
 abbrev pub TermsAreOfOneIn : World → Type 0
 TermsAreOfOneIn w =
     (ticket : TicketConf) → IsAutomatic w ticket
@@ -82,7 +82,7 @@ TermsAreOfOneIn w =
     → HasGainedAt w ticket s early first → HasGainedAt w ticket t late second
     → first.term ≡ second.term → s ≡ t
 
--- two that hold, each by its own clock at its own moment, and by leases of one term, are one
+-- two holders, each by its own clock at its own moment, whose leases have one term, are one member
 abbrev pub HoldersOfOneTermIn : World → Type 0
 HoldersOfOneTermIn w =
     (ticket : TicketConf) → IsAutomatic w ticket
@@ -92,14 +92,14 @@ HoldersOfOneTermIn w =
     → HoldsBy w ticket s early kept → HoldsBy w ticket t late other
     → first.term ≡ second.term → s ≡ t
 
--- Each record that the member may have kept of the ticket at this moment, or is to keep next in its turn, is of a term
--- below this one.
+-- Each record for the ticket that the member may have written at this moment, or writes next in its turn, is of a
+-- term below this one.
 abbrev pub IsBelowAt : (w : World) → TicketConf → ℕ → Moment w → ℕ → Type 0
 IsBelowAt w ticket m moment term =
     (kept : Record) → Kept (may_at w ticket m moment) kept ⊎ IsComing ticket.name (entries_of m moment.before) kept
     → kept.term < term
 
--- a lease whose term its member had not kept yet when another lease was gained has the greater term
+-- a lease whose term its member had not written yet when another lease was gained has the greater term
 abbrev pub AskersHaveLaterTermsIn : World → Type 0
 AskersHaveLaterTermsIn w =
     (ticket : TicketConf) → IsAutomatic w ticket

@@ -1,5 +1,4 @@
--- What a call of the lease rules leads to: the view, the records that may be kept, and the facts
--- that it adds.
+-- The result of a call of the lease rules: the view, the records that may have been written, and the new facts.
 use Rattle.std.specs.Prelude.{◌≡◌, ◌⊎◌, ℕ, List, [], ◌∷◌, Bool, true, false, Option, Some, None}
 use Rattle.booth_base.specs.declared.address.MemberId.{MemberId}
 use Rattle.booth_rec.specs.declared.record.Record.{Record}
@@ -16,15 +15,14 @@ use Rattle.booth_world.specs.MemberRuns.{IsMemberRun, member_after_all, facts_af
 use Rattle.booth_world.specs.Agreement.{records_in, Agrees}
 use Rattle.booth_world.specs.Messages.{IsSaid}
 
--- ---- the records that may be kept
+-- ---- the records that may have been written
 
--- after a call, the record that its deed keeps is one more
+-- after a call, the record that its action writes is one more
 abbrev pub may_after : Option Record → List Record → List Record
 may_after None may = may
 may_after (Some tried) may = tried ∷ may
 
--- after the answer of a keep, a record that was kept is the only one, and one that was not is still
--- one of them
+-- after a write, a record that was written is the only one, and one that was not is still one of them
 abbrev pub may_answered : Option Waiting → Bool → List Record → List Record
 may_answered None ok may = may
 may_answered (Some waits) true may = waits.tried ∷ []
@@ -32,8 +30,8 @@ may_answered (Some waits) false may = may
 
 -- ---- the facts of a call
 
--- What a call's facts bear: its member, the member's last reading and the true time of it, and true time now; and the
--- version of the member's session, which its starts are of.
+-- The marks of a call's facts: its member, the member's last reading and the true time of it, and the true time now;
+-- and the version of the member's session, which is that of its starts.
 pub record Mark : Type 0 where
   pub member : ℕ
   pub second : Bool
@@ -55,21 +53,20 @@ IsMarkedAnswer mark answer =
 abbrev pub IsMarkedGain : Mark → Gain → Type 0
 IsMarkedGain mark gain = (gain.round.site ≡ mark.member) × (gain.at ≡ mark.now)
 
--- each fact that is new bears the mark, and the releases are these exactly
+-- each new fact has the mark, and the releases are exactly these
 pub record AddsOnly (mark : Mark) (releases : List Release) (f f' : Facts) : Type 0 where
   pub rounds : (r : Round) → Has f'.rounds r → Has f.rounds r ⊎ IsMarkedRound mark r
   pub answers : (a : Answer) → Has f'.answers a → Has f.answers a ⊎ IsMarkedAnswer mark a
   pub leases : (g : Gain) → Has f'.leases g → Has f.leases g ⊎ IsMarkedGain mark g
   pub releases_now : f'.releases ≡ releases
 
--- a kept record gives its term back where a release, or a round that ends, waited for it
+-- a written record releases its term if a release, or the end of a round, waited for the write
 abbrev pub released_by : Rule → Release → List Release → List Release
 released_by (rules.Release reason) new releases = new ∷ releases
 released_by rules.EndRound new releases = new ∷ releases
 released_by rule new releases = releases
 
--- after the answer of a keep, one release more where a release waited and was kept: of the record's
--- term
+-- after a write, one more release if a release waited and was written: that of the record's term
 abbrev pub releases_answered : Mark → Option Waiting → Bool → List Release → List Release
 releases_answered mark (Some waits) true releases =
     released_by waits.rule
@@ -77,17 +74,16 @@ releases_answered mark (Some waits) true releases =
     releases
 releases_answered mark waiting ok releases = releases
 
--- ---- what a call leads to
+-- ---- the result of a call
 
--- What a call gives: the view and what is said, and then the records that may be kept and the
--- releases.
+-- The result of a call: the view and the messages, and then the records that may have been written and the releases.
 pub record Given : Type 0 where
   pub view : View
   pub say : Say
   pub may : List Record
   pub releases : List Release
 
--- by a rule's outcome, from the records that might be kept, and the releases
+-- by a rule's outcome, from the records that may have been written before, and the releases
 abbrev pub given_by : Outcome → List Record → List Release → Given
 given_by outcome may releases = record {
   view = outcome.view;
@@ -96,8 +92,8 @@ given_by outcome may releases = record {
   releases = releases;
 }
 
--- The member has come to a state that agrees with the view, what is said is a fact, the records
--- that may be kept are those given, and it has read no clock.
+-- The member has reached a state that agrees with the view, its messages are facts, the records that may have been
+-- written are the given ones, and it has not read its clock.
 pub record IsReached (c : Cluster) (id_of : ℕ → MemberId) (mark : Mark) (given : Given) (f : Facts)
     (x : MemberState) : Type 0 where
   pub agrees : Agrees c id_of f mark.member given.view x
@@ -107,7 +103,7 @@ pub record IsReached (c : Cluster) (id_of : ℕ → MemberId) (mark : Mark) (giv
   pub same_reading : x.reading ≡ mark.reading
   pub same_at : x.at ≡ mark.at
 
--- these steps of the member may be done, lead there, and add no other facts
+-- these steps of the member are allowed, lead to that state, and add no other facts
 pub record LeadsTo (c : Cluster) (id_of : ℕ → MemberId) (mark : Mark) (f : Facts) (x : MemberState)
     (given : Given) : Type 0 where
   pub steps : List MemberStep

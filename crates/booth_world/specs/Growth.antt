@@ -1,4 +1,4 @@
--- Shadows grow: that of a later moment goes on from that of an earlier one.
+-- Shadows grow: the shadow of a later moment continues that of an earlier one.
 use Rattle.std.specs.Prelude.{◌≡◌, ◌⊎◌, ◌++◌, List, [], ◌∷◌}
 use Rattle.booth_conf.specs.declared.tickets.TicketConf.{TicketConf}
 use Rattle.booth_node.specs.Held.{Moment, IsAutomatic}
@@ -10,8 +10,8 @@ use Rattle.booth_world.specs.Shadows.{GivesTermBack, HasShadow}
 use Rattle.booth_world.specs.Steps.{WorldStep, AreSecond, world_of}
 use Rattle.booth_world.specs.Worlds.{IsLater}
 
--- Shadows of two moments. The steps of the later go on from those of the earlier; each release that is new in them is
--- that of an entry between the two; and where all sessions of the world are of version 2, so is each start among them.
+-- Shadows of two moments. The steps of the later continue those of the earlier; each new release in them is that of
+-- an entry between the two; and if all sessions of the world are of version 2, so is each start among the steps.
 pub record HasLongerShadow (w : World) (ticket : TicketConf) (early late : Moment w) (between : List WorldEntry)
     : Type 0 where
   pub first : HasShadow w ticket early

@@ -1,4 +1,4 @@
--- The three laws, over entries of the hosts of one ticket.
+-- The three laws (one holder, holders apart, terms never fall), for a list of entries of the hosts of one ticket.
 use Rattle.std.specs.Prelude.{◌≡◌, ◌≢◌, ◌⊎◌, ℕ, ◌<◌, ◌≤◌, List, [], ◌∷◌, Bool, true, None, Some, IsSomeAnd}
 use Rattle.booth_base.specs.Tree.{Ends, Does}
 use Rattle.booth_rec.specs.declared.record.Lease.{Lease}
@@ -15,7 +15,7 @@ use Rattle.booth_world.specs.Hosts.{HostEntry, DoesAsk, Boots, Hosts, opening_ho
 
 -- ---- releases, by the entries
 
--- what comes first is a send of the message that says that this term was given back
+-- the first act is a send of the message that this term was released
 pub record Revokes (term : ℕ) (tree : TurnTree) : Type 0 where
   pub message : MemberMessage
   pub go : Bool → TurnTree
@@ -23,12 +23,12 @@ pub record Revokes (term : ℕ) (tree : TurnTree) : Type 0 where
   pub revokes : message.head.cmd ≡ Revk
   pub same_term : message.part.term ≡ term
 
--- after the keep that comes next, where it is done, others are told that the term was given back, where there are any
+-- after the next write, if it is done, the other members are informed that the term was released, if there are any
 abbrev pub RevokesAfter : ℕ → ℕ → TurnTree → Type 0
 RevokesAfter members term (Ends view) = ⊥
 RevokesAfter members term (Does ask go) = 1 < members → Revokes term (go true)
 
--- a keep of a record without a lease was done, and gave its term back
+-- a record without a lease was written, and this released its term
 abbrev pub IsHostReleaseAt : Cluster → Hosts → HostEntry → Release → Type 0
 IsHostReleaseAt c hosts (DoesAsk m (Keeps kept) true) release =
     (release ≡ record { site = m; term = kept.term; at = hosts.now }) × (kept.lease ≡ None)
@@ -43,11 +43,11 @@ IsHostReleaseIn c cast hosts (entry ∷ entries) release =
 
 -- ---- holders
 
--- the records that a member's keeps may have left, with the one that may be done unseen
+-- the records that a member's writes may have left, with the one that may be done without a result yet
 abbrev pub host_may : Hosts → ℕ → List Record
 host_may hosts m = pending (hosts.place m).tree (hosts.place m).may
 
--- a member holds by such a record, while that is in force at what its clock reads now
+-- a member holds by such a record, while the record is in force at what the member's clock reads now
 abbrev pub HostHoldsBy : Cluster → Hosts → ℕ → Record → Type 0
 HostHoldsBy c hosts s k =
     (s < c.members) × Has (host_may hosts s) k × IsInForce k (reads c s hosts.now)
@@ -57,7 +57,7 @@ HostHolds c hosts s = (k : Record) × HostHoldsBy c hosts s k
 
 -- ---- the laws
 
--- Entries from before anything has happened, in two parts.
+-- Entries from the very beginning, in two parts.
 pub record HostCourse (c : Cluster) (cast : Cast) (early late : List HostEntry) : Type 0 where
   pub clocks : HasClocks c
   pub is_cast : IsCast c cast
@@ -70,15 +70,15 @@ early_hosts c cast early = hosts_after c cast (opening_hosts c cast) early
 abbrev pub late_hosts : Cluster → Cast → List HostEntry → List HostEntry → Hosts
 late_hosts c cast early late = hosts_after c cast (early_hosts c cast early) late
 
--- at no moment is the ticket held at two sites
+-- no two sites ever hold the ticket at the same moment
 abbrev pub HostsHoldOne : Type 0
 HostsHoldOne =
     (c : Cluster) (cast : Cast) (entries : List HostEntry) → HostCourse c cast entries [] → IsTimed c
     → (s t : ℕ) → HostHolds c (early_hosts c cast entries) s
     → HostHolds c (early_hosts c cast entries) t → s ≡ t
 
--- Where one holds by a record and another holds later, acquire-after lies between each time at which that record was
--- in force and the later one, or a keep between the two gave the record's lease back.
+-- If one site holds by a record and another holds later, acquire-after lies between each time at which that record
+-- was in force and the later one, or a write between the two released the record's lease.
 abbrev pub HostsAreApart : Type 0
 HostsAreApart =
     (c : Cluster) (cast : Cast) (early late : List HostEntry) → HostCourse c cast early late → IsTimed c
@@ -88,7 +88,7 @@ HostsAreApart =
     ⊎ ((release : Release) × IsHostReleaseIn c cast (early_hosts c cast early) late release
     × GivesBackLease s k.lease release)
 
--- where each record that a member's keeps may have left has at least a term, so has each one later
+-- if each record that a member's writes may have left has at least a term, so has each one later
 abbrev pub HostTermsNeverFall : Type 0
 HostTermsNeverFall =
     (c : Cluster) (cast : Cast) (early late : List HostEntry) → HostCourse c cast early late
@@ -107,7 +107,7 @@ abbrev pub AreSecondBoots : List HostEntry → Type 0
 AreSecondBoots [] = Unit {0}
 AreSecondBoots (entry ∷ entries) = IsSecondBoot entry × AreSecondBoots entries
 
--- Where each start is of version 2, and one member holds by a lease and another holds later by a lease, the later lease
+-- If each start is of version 2, and one member holds by a lease and another holds later by a lease, the later lease
 -- has the later term.
 abbrev pub LaterHostHasLaterTerm : Type 0
 LaterHostHasLaterTerm =

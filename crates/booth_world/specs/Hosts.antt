@@ -1,5 +1,5 @@
--- Entries of the hosts of one ticket, at all members: turns that may be cut anywhere, and where
--- they leave each. The records that may be kept are counted from the answers of keeps alone.
+-- Entries of the hosts of one ticket, at all members: turns that a crash may interrupt anywhere, and the state of
+-- each member after them. The records that may have been written follow from the results of writes alone.
 use Rattle.std.specs.Prelude.{◌≡◌, ℕ, ◌<◌, ◌≤◌, List, [], ◌∷◌, Bool, true, false, Option, Some, None, IsSomeAnd}
 use Rattle.std.specs.Option.{ForSome}
 use Rattle.booth_base.specs.Tree.{Ends, Does}
@@ -15,8 +15,8 @@ use Rattle.booth_world.specs.Turns.{TicketAsk, Keeps, Sends, TurnTree, Plan, tur
 
 -- ---- entries
 
--- What happens: true time passes; or, at one member, a turn begins at a reading, at whose head a message may have come;
--- the next ask of its turn is answered; it stops, wherever it is; or it starts, at a reading, with a record, in a
+-- An event: true time passes; or, at one member, a turn begins at a reading, perhaps with a message; the next request
+-- of its turn gets its answer; the member stops, at any point; or it starts, at a reading, with a record, in a
 -- session of its own.
 pub data HostEntry : Type 0 where
   LetsPass : (time : ℕ) → HostEntry
@@ -25,9 +25,9 @@ pub data HostEntry : Type 0 where
   Halts : (m : ℕ) → HostEntry
   Boots : (m time : ℕ) (session : Session) (kept : Record) → HostEntry
 
--- ---- where entries leave the members
+-- ---- the state of the members after entries
 
--- A member: what is still to be done while it is up; its last session; its last reading; and the records that its keeps
+-- A member: the rest of its turn while it is up; its last session; its last reading; and the records that its writes
 -- may have left.
 pub record HostPlace : Type 0 where
   pub tree : Option TurnTree
@@ -40,7 +40,7 @@ pub record Hosts : Type 0 where
   pub place : ℕ → HostPlace
   pub sent : List MemberMessage
 
--- nobody has started: each has what it begins with
+-- no member has started: each has what it begins with
 abbrev pub opening_hosts : Cluster → Cast → Hosts
 opening_hosts c cast = record {
   now = 0;
@@ -53,7 +53,7 @@ opening_hosts c cast = record {
   sent = [];
 }
 
--- a keep that comes next may be done already, its answer unseen
+-- the next write may be done already, without a result
 abbrev pub pending_in : TurnTree → List Record → List Record
 pending_in (Does (Keeps kept) go) may = kept ∷ may
 pending_in tree may = may
@@ -64,7 +64,7 @@ pending (Some tree) may = pending_in tree may
 
 -- ---- what may come next
 
--- the last turn is over, and the next may be this one
+-- the last turn has ended, and the next may be this one
 abbrev pub MayBegin : Setup → ℕ → Option MemberMessage → (View → Plan) → TurnTree → Type 0
 MayBegin s now came plan (Ends view) = MayTurn s now view came plan
 MayBegin s now came plan (Does ask go) = ⊥
@@ -73,12 +73,12 @@ abbrev pub IsNextAsk : TicketAsk → TurnTree → Type 0
 IsNextAsk ask (Ends view) = ⊥
 IsNextAsk ask (Does first go) = first ≡ ask
 
--- a message that comes was sent, with its sender's id
+-- a message that arrives was sent, with its sender's id
 abbrev pub MayCome : Cast → Hosts → MemberMessage → Type 0
 MayCome cast hosts message =
     (Has hosts.sent message) × (message.head.from ≡ cast.id_of message.sender)
 
--- A start reads a record that a keep left that was done, or one that failed or was cut since; and it is not of
+-- A start reads the record of a write that was done, or that failed or was interrupted since; and it is not of
 -- version 1 after one of version 2.
 abbrev pub MayHost : Cluster → Cast → Hosts → HostEntry → Type 0
 MayHost c cast hosts (LetsPass time) = (hosts.now ≤ time) × (time < c.span)
@@ -95,7 +95,7 @@ MayHost c cast hosts (Boots m time session kept) =
     × ((hosts.place m).tree ≡ None) × Has (hosts.place m).may kept
     × ((hosts.place m).session.second ≡ true → session.second ≡ true)
 
--- ---- what it changes
+-- ---- the state after an entry
 
 abbrev pub begun : Setup → ℕ → Option MemberMessage → (View → Plan) → Option TurnTree
     → Option TurnTree
@@ -147,7 +147,7 @@ hosted c cast hosts (Boots m time session kept) = record hosts {
   });
 }
 
--- each entry may come where it stands
+-- each entry may come in the state before it
 abbrev pub AreHosted : Cluster → Cast → Hosts → List HostEntry → Type 0
 AreHosted c cast hosts [] = Unit {0}
 AreHosted c cast hosts (entry ∷ entries) =

@@ -1,4 +1,4 @@
--- Laws that clients rely on: of keeps that failed, of tickets' kinds, and of who waits.
+-- Laws on which clients rely: about writes that failed, about the kinds of tickets, and about waiting clients.
 use Rattle.std.specs.Prelude.{◌≡◌, ◌⊎◌, ℕ, ◌<◌, Bool, true, false, List, [], Option, Some, None, is_some, slice_get}
 use Rattle.booth_base.specs.Tree.{Deeds, Ends, Does, Always}
 use Rattle.booth_conf.specs.declared.tickets.TicketConf.{TicketConf}
@@ -26,32 +26,32 @@ use Rattle.booth_node.specs.declared.node_config.NodeConfig.{NodeConfig}
 use Rattle.booth_node.specs.World.{World, IsOneTicket, members_of, stand_after, IsUntimedWorld}
 use Rattle.booth_node.specs.Held.{Moment}
 
--- ---- keeps that failed
+-- ---- writes that failed
 
 abbrev pub AreOver : {S : Type 0} → Deeds Ask S → Type 0
 AreOver (Ends left) = Unit {0}
 AreOver (Does ask go) = ⊥
 
--- nothing is asked after a keep that failed: no record is kept, nothing is said
+-- nothing follows a write that failed: no record is written, no message is sent
 abbrev pub EndsByFailure : {S : Type 0} → Deeds Ask S → Type 0
 EndsByFailure (Ends left) = Unit {0}
 EndsByFailure (Does (Keep tried) go) = AreOver (go false) × EndsByFailure (go true)
 EndsByFailure (Does (Say to head part) go) = (ok : Bool) → EndsByFailure (go ok)
 EndsByFailure (Does (Start job expires) go) = (ok : Bool) → EndsByFailure (go ok)
 
--- so it is of all that a step of the lease rules does
+-- this holds for all actions of a step of the lease rules
 abbrev pub FailedKeepsSayNothing : Type 0
 FailedKeepsSayNothing = (from : Option ℕ) (now : ℕ) (begun : Step) → EndsByFailure (carry_out from now begun)
 
 -- ---- kinds
 
--- by hand or by votes
+-- manual or automatic
 abbrev pub IsOfKind : Bool → Known → Type 0
 IsOfKind true (Manual known) = Unit {0}
 IsOfKind false (Automatic view) = Unit {0}
 IsOfKind manual known = ⊥
 
--- where the node's configuration has the ticket, it stands at its place, and is of its kind
+-- if the node's configuration has the ticket, the node has it at its place, and of its kind
 abbrev pub StandsInKind : TicketConf → NodeConfig → State → Type 0
 StandsInKind ticket node state =
     (place : ℕ) (own : TicketConf) → slice_get node.config.tickets place ≡ Some own → own.name ≡ ticket.name
@@ -69,20 +69,20 @@ TicketsKeepTheirKinds =
     (w : World) → IsUntimedWorld w → (ticket : TicketConf) → IsOneTicket w ticket
     → (m : ℕ) → m < members_of w → (moment : Moment w) → RestsInKind ticket (stand_after m moment.before)
 
--- ---- those that wait
+-- ---- waiting clients
 
--- whatever is asked
+-- any request
 abbrev pub AnyAsk : Ask → Type 0
 AnyAsk ask = Unit {0}
 
--- Whoever is told of an outcome waits no more: who waits on was told nothing.
+-- A client that is sent an outcome no longer waits: a client that still waits was sent nothing.
 abbrev pub ToldStopWaiting : Type 0
 ToldStopWaiting =
     (setup : Setup) (part : TicketPart) (told : Told) (waiters : List Waiter)
     → Always AnyAsk (λ left. (waiter : Waiter) → Has left waiter → result_for told waiter ≡ None)
     (tell_each setup part told waiters)
 
--- None of the clients that wait for a manual ticket waits for a record alone, and none waits while no handler runs.
+-- A client that waits for a manual ticket never waits for a record alone, and none waits while no handler runs.
 pub record WaitForJob (known : ManualKnown) (waiters : List Waiter) : Type 0 where
   pub uncommitted : (waiter : Waiter) → Has waiters waiter → waiter.commit ≡ false
   pub idle : known.job ≡ None → waiters ≡ []
@@ -90,8 +90,8 @@ pub record WaitForJob (known : ManualKnown) (waiters : List Waiter) : Type 0 whe
 abbrev pub LeavesJobs : Deeds Ask ManualLeft → Type 0
 LeavesJobs deeds = Always AnyAsk (λ left. WaitForJob left.ticket.known left.waiters) deeds
 
--- So it is when a manual ticket starts, and whatever befalls it leaves it so. And where somebody waits, a deadline of
--- the ticket is to come.
+-- This holds when a manual ticket starts, and every event leaves it true. And if a client waits, the ticket has a
+-- deadline.
 pub record ManualWaitersHaveJobs : Type 0 where
   pub starts : (rec : Record) (now : ℕ) → WaitForJob (manual_started rec now) []
   pub heard : (ticket : ManualState) (from : ℕ) (head : Head) (part : TicketPart) (waiters : List Waiter)

@@ -1,4 +1,4 @@
--- What comes at the last number: of a round, of a job, and of a counter. No program counts so far in a test.
+-- What happens at the last number of a round, of a job, and of a counter. No program counts so far in a test.
 use Rattle.std.specs.Prelude.{◌≡◌, ℕ, false, Some}
 use Rattle.booth_wire.specs.declared.message.Setup.{Setup}
 use Rattle.booth_raft.specs.declared.view.Round.{Round}
@@ -10,7 +10,7 @@ use Rattle.booth_node.specs.Counting.{more}
 use Rattle.booth_node.specs.Jobs.{number_after}
 
 pub record LastNumbers : Type 0 where
-  -- no renewal follows the round of the last number: the lease runs out, and that is looked at when it ends
+  -- no renewal follows the round with the last number: the lease runs out, and the member looks at it when it ends
   pub round : (setup : Setup) (view : View) (round : Round) (now : ℕ) → view.round ≡ Some round
       → round.number ≡ 4294967295 → needs_term setup view ≡ false
       → renew setup view now ≡ quiet (record view { due = Some (own_end view) })

@@ -1,18 +1,18 @@
--- The laws of a ticket's world, over every list of steps from the opening state.
+-- The laws of a ticket's world, for every list of steps from the opening state.
 use Rattle.std.specs.Prelude.{◌≡◌, ◌≢◌, ◌⊎◌, ◌++◌, ℕ, ◌<◌, Some, List}
 use Rattle.booth_rec.specs.declared.record.Lease.{Lease}
 use Rattle.booth_world.specs.States.{KeptRecord, opening, Cluster, HasClocks, IsTimed}
 use Rattle.booth_world.specs.Steps.{WorldStep, IsRun, AreSecond, world_of}
 use Rattle.booth_world.specs.Held.{IsHeldBy, Held, ReleasedBetween, IsApart, IsAtLeast}
 
--- at no moment is the ticket held at two sites
+-- no two sites ever hold the ticket at the same moment
 abbrev pub HasOneHolder : Type 0
 HasOneHolder =
     (c : Cluster) → HasClocks c → IsTimed c → (steps : List WorldStep) → IsRun c (opening c) steps
     → (s t : ℕ) → Held c (world_of c steps) s → Held c (world_of c steps) t → s ≡ t
 
--- Where a member holds early by a record and another holds late, acquire-after lies between each time at which that
--- record was in force and the late one, or the first gave the record's lease back between the two.
+-- If a member holds early by a record and another holds late, acquire-after lies between each time at which that
+-- record was in force and the late one, or the first released the record's lease between the two.
 abbrev pub HoldersAreApart : Type 0
 HoldersAreApart =
     (c : Cluster) → HasClocks c → IsTimed c
@@ -22,14 +22,14 @@ HoldersAreApart =
     → IsApart c s k (world_of c early) (world_of c (early ++ late))
     ⊎ ReleasedBetween (world_of c early) (world_of c (early ++ late)) s k
 
--- where each record that a member may have kept has at least a term, so has each one later
+-- if each record that a member may have written has at least a term, so has each one later
 abbrev pub KeptTermsNeverFall : Type 0
 KeptTermsNeverFall =
     (c : Cluster) (early late : List WorldStep) → IsRun c (opening c) (early ++ late)
     → (s term : ℕ)
     → IsAtLeast (world_of c early) s term → IsAtLeast (world_of c (early ++ late)) s term
 
--- Where each start is of version 2, and one member holds by a lease and another holds later by a lease, the later lease
+-- If each start is of version 2, and one member holds by a lease and another holds later by a lease, the later lease
 -- has the later term.
 abbrev pub LaterHolderHasLaterTerm : Type 0
 LaterHolderHasLaterTerm =

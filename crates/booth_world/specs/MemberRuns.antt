@@ -4,7 +4,7 @@ use Rattle.booth_world.specs.Facts.{Facts}
 use Rattle.booth_world.specs.States.{MemberState, Cluster}
 use Rattle.booth_world.specs.Steps.{MemberStep, WorldStep, MemberDoes, May, member_after, facts_after, IsStartOf}
 
--- each step may be done where it stands
+-- each step is allowed in the state before it
 abbrev pub IsMemberRun : Cluster → ℕ → ℕ → Facts → MemberState → List MemberStep → Type 0
 IsMemberRun c now m f x [] = Unit {0}
 IsMemberRun c now m f x (step ∷ steps) =
@@ -26,7 +26,7 @@ abbrev pub world_steps : ℕ → List MemberStep → List WorldStep
 world_steps m [] = []
 world_steps m (step ∷ steps) = MemberDoes m step ∷ world_steps m steps
 
--- each start among them is of version 2 exactly where `second` is true
+-- each start among them is of version 2 exactly if `second` is true
 abbrev pub AreStartsOf : Bool → List MemberStep → Type 0
 AreStartsOf second [] = Unit {0}
 AreStartsOf second (step ∷ steps) = IsStartOf second step × AreStartsOf second steps

@@ -1,4 +1,4 @@
--- In each world, whoever waits for a ticket has a deadline that is coming.
+-- In each world, a ticket for which a client waits has a deadline.
 use Rattle.std.specs.Prelude.{◌≡◌, ◌⊎◌, ℕ, ◌<◌, ◌≤◌, true, [], Some, IsSomeAnd, is_some, slice_get}
 use Rattle.booth_wire.specs.declared.message.Setup.{Setup}
 use Rattle.booth_ticket.specs.ManualHandling.{manual_deadline}
@@ -11,7 +11,7 @@ use Rattle.booth_node.specs.World.{World, members_of, stand_after, IsUntimedWorl
 use Rattle.booth_base.specs.Tree.{Ends}
 use Rattle.booth_world.specs.Waits.{latest}
 
--- a deadline of the ticket is to come; of an automatic one it is not later than this
+-- the ticket has a deadline; that of an automatic ticket is not later than this
 abbrev pub IsComing : Setup → ℕ → Known → Type 0
 IsComing setup now (Automatic view) = IsSomeAnd view.due (λ due. due ≤ latest setup view now)
 IsComing setup now (Manual known) = is_some (manual_deadline known) ≡ true

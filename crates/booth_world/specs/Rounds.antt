@@ -1,5 +1,5 @@
--- The kinds of step by which a round is opened, promised to and answered: for each its condition,
--- and what it changes. The clock is the stepping member's last reading.
+-- The kinds of step by which a round is opened, promised and answered: the condition of each, and its effect. The
+-- clock is the member's last reading.
 use Rattle.std.specs.Prelude.{◌≡◌, ◌≢◌, ◌⊎◌, ℕ, ◌+◌, ◌<◌, ◌≤◌, ◌&&◌, true, if◌then◌else◌, ◌==◌, nat_eq, Option, Some, None, ◌∷◌}
 use Rattle.std.specs.Option.{ForSome}
 use Rattle.booth_world.specs.Facts.{Has, Round, Answer, Release, Facts}
@@ -11,8 +11,8 @@ new_round m x number =
     record { site = m; term = x.term; number = number; opened = x.reading; at = x.at }
 
 -- ---- an election is opened
--- A site opens the first round of its term, where every record that it may have kept is of that term, it is bound to
--- no other in it, and it neither opened a round of the term nor released it. It is bound to itself.
+-- A site opens the first round of its term if every record that it may have written is of that term, it has voted for
+-- no other in it, and it neither opened a round of the term nor released it. It votes for itself.
 
 pub record MayElect (c : Cluster) (f : Facts) (m : ℕ) (x : MemberState) : Type 0 where
   pub up : x.up ≡ true
@@ -26,8 +26,7 @@ abbrev pub electing : ℕ → MemberState → MemberState
 electing m x = record x { bound = Some m; round = Some (new_round m x 0) }
 
 -- ---- a renewal is opened
--- A site whose round is open, of its own term and with itself as bound, opens the next round of the
--- term.
+-- A site opens the next round of its term if its round of that term is open and it has voted for itself.
 
 pub record MayRenew (m : ℕ) (x : MemberState) (before : Round) : Type 0 where
   pub up : x.up ≡ true
@@ -43,10 +42,10 @@ abbrev pub with_round : Facts → Round → Facts
 with_round f round = record f { rounds = round ∷ f.rounds }
 
 -- ---- a promise
--- A member promises to a site and a term where it may answer a round of them, whatever lease it may have: it does not
--- abstain, no promise to another is live, and the term is new to it, or is its own and it is bound to no other in it.
--- From then on it is of that term and bound to that site, and the promise lasts for a whole promise's time. A round of
--- its own stays open only where it promises to itself within its term.
+-- A member promises a site and a term if it may answer a round of them, whatever lease it may have: it does not
+-- abstain, no promise to another is live, and the term is new to it, or is its own and it has voted for no other in
+-- it. From then on it is in that term and has voted for that site, and the promise lasts for the time of a whole
+-- promise. A round of its own stays open only if it promises itself within its term.
 
 pub record MayPromise (c : Cluster) (x : MemberState) (site term : ℕ) : Type 0 where
   pub up : x.up ≡ true
@@ -71,12 +70,13 @@ promising c m x site term = record x {
 }
 
 -- ---- an answer
--- A member answers a round of the facts where it is of the round's term, bound to its site, and promised to it for a
--- whole promise from now on, and read its clock no earlier than the round's site did. In version 2 all this has to be
--- kept first: each record that the member may have kept is of version 2, and says the same. So whichever of them the
--- next start reads, it is bound and promised so. The answer is added to the facts.
+-- A member answers a round of the facts if it is in the round's term, has voted for its site, has promised it for the
+-- time of a whole promise from now on, and read its clock no earlier than the round's site did. In version 2 all this
+-- must be written first: each record that the member may have written is of version 2, and says the same. So
+-- whichever of them the next start reads, the vote and the promise are kept. The answer is added to the facts.
 
--- a record of version 2, of the round's term, bound to its site and promised to it for a whole promise from a reading
+-- a record of version 2, of the round's term, with a vote for its site and a promise for the time of a whole promise
+-- from a reading
 pub record KeepsAnswer (c : Cluster) (reading : ℕ) (round : Round) (k : KeptRecord) : Type 0 where
   pub pledge : Pledge
   pub second : k.pledge ≡ Some pledge

@@ -1,5 +1,5 @@
--- What stays of a member's agreement with its view while others step, while time passes, and while
--- it reads its clock; and runs one after another.
+-- What remains of a member's agreement with its view while others make steps, while time passes, and while it reads
+-- its clock; and runs one after another.
 use Rattle.std.specs.Prelude.{Bool, true, ◌≡◌, ◌≢◌, ◌++◌, ℕ, ◌<◌, List, [], ◌∷◌, None}
 use Rattle.booth_base.specs.declared.address.MemberId.{MemberId}
 use Rattle.booth_wire.specs.declared.command.Cmd.{Cmd}
@@ -20,9 +20,9 @@ abbrev pub IsOthers : ℕ → WorldStep → Type 0
 IsOthers m (MemberDoes k step) = k ≢ m
 IsOthers m (Passes time) = Unit {0}
 
--- Others leave a member as it is, and its view agrees on; what was said stays a fact, whoever steps; and the clock that
--- a member reads is nothing that its view shows. In version 2 it reads it only while no keep waits, since what is being
--- kept is promised from the last reading on.
+-- Steps of others leave a member unchanged, and its view still agrees; a message remains a fact, whoever makes a
+-- step; and a member's reading of its clock changes nothing in its view. In version 2 a member reads its clock only
+-- while no write waits, since what is being written is promised from the last reading on.
 pub record AgreementStays : Type 0 where
   pub unmoved : (c : Cluster) (w : WorldState) (m : ℕ) (step : WorldStep) → IsOthers m step
       → (happens c w step).member m ≡ w.member m
@@ -39,9 +39,9 @@ pub record AgreementStays : Type 0 where
 
 -- ---- a call, as steps of the world
 
--- Where a call of one member, or a start in a session of this version, leads from a world to another: its view agrees,
--- what it says is a fact, and it adds no other facts. True time is as before, and so are other members, whose views
--- agree on.
+-- A call of one member, or a start in a session of this version, leads from one world to another: its view agrees,
+-- its messages are facts, and it adds no other facts. True time is unchanged, and so are other members, whose views
+-- still agree.
 pub record IsNext (c : Cluster) (id_of : ℕ → MemberId) (w z : WorldState) (m : ℕ) (second : Bool) (given : Given)
     : Type 0 where
   pub reached : IsReached c id_of (record (mark_at w m) { second = second }) given z.facts (z.member m)
@@ -53,7 +53,7 @@ pub record IsNext (c : Cluster) (id_of : ℕ → MemberId) (w z : WorldState) (m
   pub said_on : (s : ℕ) (head : Head) (part : TicketPart) (cmd : Cmd)
       → IsFact id_of w.facts s head part cmd → IsFact id_of z.facts s head part cmd
 
--- each call leads on from world to world; and in version 2 its steps start nothing of version 1
+-- each call leads on from world to world; and in version 2 its steps include no start of version 1
 abbrev pub CallsLeadOn : Type 0
 CallsLeadOn =
     (c : Cluster) (id_of : ℕ → MemberId) (w : WorldState) (m : ℕ) (second : Bool) (given : Given) → m < c.members
@@ -79,8 +79,8 @@ abbrev pub AreOthers : ℕ → List WorldStep → Type 0
 AreOthers m [] = Unit {0}
 AreOthers m (step ∷ steps) = IsOthers m step × AreOthers m steps
 
--- While others step and time passes, a member stays as it is, and one that agrees still does; so does one that reads
--- its clock, in version 2 while no keep waits.
+-- While others make steps and time passes, a member is unchanged, and one that agrees still agrees; so does one that
+-- reads its clock, in version 2 while no write waits.
 pub record MembersStay : Type 0 where
   pub state : (c : Cluster) (w : WorldState) (m : ℕ) (more : List WorldStep) → AreOthers m more
       → (after_steps c w more).member m ≡ w.member m

@@ -13,24 +13,24 @@ pub record Promise : Type 0 where
   pub term : ℕ
   pub until : ℕ
 
--- whom a member is bound to, and to whom it promised, are members
+-- the members for which a member voted and to which it promised are members of the cluster
 pub record IsWithin (members : ℕ) (bound : Option ℕ) (promise : Option Promise) : Type 0 where
   pub bound_below : ForSome bound (λ s. s < members)
   pub promise_below : ForSome promise (λ p. p.to < members)
 
--- Sessions and records are of version 1 or 2. In version 2 a member keeps what it is pledged to before it says so, and
--- a start has it again. In version 1 it keeps a term and perhaps a lease, and after a start it answers nobody for a
--- whole promise. A cluster may have sessions of both.
+-- Sessions and records are of version 1 or 2. In version 2 a member writes its pledge to disk before it sends a
+-- message about it, and a start has the pledge again. In version 1 it writes a term and perhaps a lease, and after a
+-- start it answers no round for the time of a whole promise. A cluster may have sessions of both.
 
 -- What a member is pledged to: the only site whose rounds of its term it answers, its promise, and the reading until
--- which it answers nobody.
+-- which it answers no round.
 pub record Pledge : Type 0 where
   pub bound : Option ℕ
   pub promise : Option Promise
   pub abstain : ℕ
 
--- A record as the world sees it, which names members by place. One of version 2 has a pledge, and one of version 1 has
--- none: so what is said of each pledge is said of records of version 2 alone.
+-- A record as the world sees it, with members named by place. A record of version 2 has a pledge, and one of version
+-- 1 has none: so a statement about each pledge is about records of version 2 alone.
 pub record KeptRecord : Type 0 where
   pub term : ℕ
   pub lease : Option Lease
@@ -47,7 +47,7 @@ pub record TicketBeginning : Type 0 where
   pub second : Bool
   pub kept : KeptRecord
 
--- nothing was kept before
+-- nothing was written before
 abbrev pub begins_bare : TicketBeginning
 begins_bare = record { second = false; kept = none_kept }
 
@@ -71,9 +71,9 @@ reads c m time = slice_index (c.clock m) time
 abbrev pub promise_time : Cluster → ℕ
 promise_time c = promise_of c.times
 
--- What a member may begin with at this reading: a lease, if there is one, is over; a record of version 2 is of a
--- member that was of version 2, names members alone, and its promise is of a term at most its own and was made after
--- its abstention. The promise may be live.
+-- What a member may begin with at this reading: its lease, if it has one, has ended; a record of version 2 is of a
+-- member that was of version 2, names only members of the cluster, and its promise is of a term no later than its own
+-- and was made after its abstention. The promise may be live.
 pub record BeginsWell (members reading : ℕ) (beginning : TicketBeginning) : Type 0 where
   pub over : ForSome beginning.kept.lease (λ lease. lease.until ≤ reading)
   pub first : beginning.second ≡ false → beginning.kept.pledge ≡ None
@@ -82,14 +82,15 @@ pub record BeginsWell (members reading : ℕ) (beginning : TicketBeginning) : Ty
       (λ pledge. ForSome pledge.promise
       (λ promise. (promise.term ≤ beginning.kept.term) × (pledge.abstain ≤ reading)))
 
--- each member has a clock, which never falls, and all clocks have one length, of at least 1; and each begins well
+-- each member has a clock, which never falls, and all clocks have one length, of at least 1; and each member begins
+-- well
 pub record HasClocks (c : Cluster) : Type 0 where
   pub some : 0 < c.span
   pub long : (m : ℕ) → m < c.members → length (c.clock m) ≡ c.span
   pub rising : (m : ℕ) → m < c.members → IsRising (c.clock m)
   pub begins : (m : ℕ) → BeginsWell c.members (reads c m 0) (c.begins m)
 
--- and each drifts within the bounds
+-- and each clock drifts within the bounds
 pub record IsTimed (c : Cluster) : Type 0 where
   pub ticking : 0 < c.ticks
   pub clocks : (m : ℕ) → m < c.members → IsClock c.ticks (c.clock m)
@@ -97,8 +98,8 @@ pub record IsTimed (c : Cluster) : Type 0 where
 -- ---- the state
 
 -- A member: whether it is up; whether its session, or its last one while it is down, is of version 2 (`second`); its
--- last reading, and the true time of it; its term; what it is pledged to, as in `Pledge`; the records that it may have
--- kept; and the round that it has open.
+-- last reading, and the true time of it; its term; its pledge, as in `Pledge`; the records that it may have written;
+-- and its open round.
 pub record MemberState : Type 0 where
   pub up : Bool
   pub second : Bool
@@ -116,8 +117,8 @@ pub record WorldState : Type 0 where
   pub member : ℕ → MemberState
   pub facts : Facts
 
--- A member that has not started: it is down, and has what it begins with. Where it was of version 1, its first start
--- may be of either version.
+-- A member that has not started: it is down, and has what it begins with. If it was of version 1, its first start may
+-- be of either version.
 abbrev pub unstarted : Cluster → ℕ → MemberState
 unstarted c m = record {
   up = false;
@@ -132,10 +133,10 @@ unstarted c m = record {
   round = None;
 }
 
--- before anything has happened
+-- before any event
 abbrev pub opening : Cluster → WorldState
 opening c = record { now = 0; member = unstarted c; facts = no_facts }
 
--- the members with another state of one
+-- the members with the state of one replaced
 abbrev pub put : {A : Type 0} → (ℕ → A) → ℕ → A → ℕ → A
 put states m x k = if k == m then x else states k

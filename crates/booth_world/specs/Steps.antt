@@ -1,4 +1,4 @@
--- What may happen next to a ticket in a cluster, and lists of it.
+-- The possible next steps of a ticket in a cluster, and lists of steps.
 use Rattle.std.specs.Prelude.{◌≡◌, ℕ, ◌+◌, ◌<◌, Bool, true, List, [], ◌∷◌}
 use Rattle.booth_world.specs.Facts.{Round, Release, Facts}
 use Rattle.booth_world.specs.States.{KeptRecord, Promise, MemberState, WorldState, opening, put, Cluster}
@@ -27,7 +27,7 @@ pub data WorldStep : Type 0 where
   MemberDoes : (m : ℕ) (step : MemberStep) → WorldStep
   Passes : (time : ℕ) → WorldStep
 
--- the condition of each kind, of a member in this state
+-- the condition of each kind, for a member in this state
 abbrev pub May : Cluster → Facts → ℕ → MemberState → MemberStep → Type 0
 May c f m x Elects = MayElect c f m x
 May c f m x (Renews before) = MayRenew m x before
@@ -43,7 +43,7 @@ May c f m x Crashes = x.up ≡ true
 May c f m x (Starts kept second) = MayStart x kept second
 May c f m x ReadsClock = Unit {0}
 
--- the member after what it does
+-- the member after its step
 abbrev pub member_after : Cluster → ℕ → ℕ → MemberState → MemberStep → MemberState
 member_after c now m x Elects = electing m x
 member_after c now m x (Renews before) = renewing m x before
@@ -59,7 +59,7 @@ member_after c now m x Crashes = crashing x
 member_after c now m x (Starts kept second) = starting c x kept second
 member_after c now m x ReadsClock = reading_clock c now m x
 
--- the facts after what a member does
+-- the facts after a member's step
 abbrev pub facts_after : ℕ → ℕ → MemberState → MemberStep → Facts → Facts
 facts_after now m x Elects f = with_round f (new_round m x 0)
 facts_after now m x (Renews before) f = with_round f (new_round m x (before.number + 1))
@@ -82,7 +82,7 @@ happens c w (MemberDoes m step) = record {
 }
 happens c w (Passes time) = record w { now = time }
 
--- a list of steps, each of which may happen where it stands
+-- a list of steps, each of which is allowed in the state before it
 abbrev pub IsRun : Cluster → WorldState → List WorldStep → Type 0
 IsRun c w [] = Unit {0}
 IsRun c w (step ∷ steps) = MayStep c w step × IsRun c (happens c w step) steps
@@ -92,13 +92,13 @@ abbrev pub after_steps : Cluster → WorldState → List WorldStep → WorldStat
 after_steps c w [] = w
 after_steps c w (step ∷ steps) = after_steps c (happens c w step) steps
 
--- the world that a list of steps leads to, from before anything has happened
+-- the world after a list of steps from the very beginning
 abbrev pub world_of : Cluster → List WorldStep → WorldState
 world_of c steps = after_steps c (opening c) steps
 
 -- ---- the versions of starts
 
--- a start is of version 2 exactly where `second` is true; other steps start nothing
+-- a start is of version 2 exactly if `second` is true; other steps are no starts
 abbrev pub IsStartOf : Bool → MemberStep → Type 0
 IsStartOf second (Starts kept started) = started ≡ second
 IsStartOf second step = Unit {0}

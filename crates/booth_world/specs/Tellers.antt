@@ -1,4 +1,5 @@
--- What a member tells of itself as the holder of an automatic ticket, and what it may have kept then.
+-- A member's messages that name itself as the holder of an automatic ticket, and the records that it may have written
+-- by then.
 use Rattle.std.specs.Prelude.{◌≡◌, ◌≢◌, ◌⊎◌, ◌++◌, ℕ, ◌<◌, ◌≤◌, ◌+◌, ◌-◌, ◌*◌, ◌/◌, ◌%◌, min, List, [], ◌∷◌, decimal, slice_get, Ok, IsSomeAnd}
 use Rattle.booth_base.specs.declared.address.Address.{Address}
 use Rattle.booth_base.specs.declared.address.MemberId.{MemberId}
@@ -23,25 +24,25 @@ use Rattle.booth_world.specs.Clusters.{cluster_of}
 use Rattle.booth_world.specs.Held.{AreApart}
 use Rattle.booth_world.specs.Worlds.{IsLater, ReleasedIn}
 
--- ---- what is told
+-- ---- claims
 
--- What is told of a lease. A message is known by its head, which bears the time at which it was sent.
+-- A claim about a lease. A message is identified by its head, which has the time at which it was sent.
 pub data Claim : Type 0 where
-  -- a client is told that its grant was done
+  -- a client is informed that its grant was done
   IsGranted : (head : Head) → Claim
-  -- a message says that so many seconds are left
+  -- a message states that this many seconds are left
   HasLeft : (head : Head) (seconds : ℕ) → Claim
   -- a handler is told that the lease ends in this second of the member's clock
   EndsIn : (second : ℕ) → Claim
-  -- a list says that it ends in the second of which these are the digits
+  -- a list states that the lease ends in the second with these digits
   IsListed : (digits : List ℕ) → Claim
 
--- a message that is sent at this reading of its member's clock bears it, in whole seconds and millionths of one
+-- a message that is sent at this reading of its member's clock carries the reading, in whole seconds and microseconds
 abbrev pub IsSentAt : Head → ℕ → Type 0
 IsSentAt head reading = (head.secs ≡ min (reading / 1000) 4294967295) × (head.usecs ≡ reading % 1000 * 1000)
 
--- A lease with this end bears the claim out. It ends after the message was sent. Seconds that are left are rounded up,
--- and the second in which a lease ends is rounded down.
+-- A lease with this end bears the claim out. It ends after the message was sent. Seconds that are left are rounded
+-- up, and the second in which a lease ends is rounded down.
 abbrev pub BearsOut : Claim → ℕ → Type 0
 BearsOut (IsGranted head) until = (reading : ℕ) × IsSentAt head reading × (reading < until)
 BearsOut (HasLeft head seconds) until =
@@ -49,10 +50,10 @@ BearsOut (HasLeft head seconds) until =
 BearsOut (EndsIn second) until = until / 1000 ≡ second
 BearsOut (IsListed digits) until = decimal (until / 1000) ≡ digits
 
--- ---- who tells it
+-- ---- the sender of a claim
 
--- The message is about the ticket. It tells that a grant was done; or it names this member as the ticket's leader, with
--- seconds left. Members and clients are told so alike, by whatever command.
+-- The message is about the ticket. It states that a grant was done; or it names this member as the ticket's leader,
+-- with seconds left. This holds for messages to members and to clients alike, with any command.
 abbrev pub PartTells : List ℕ → MemberId → Head → TicketPart → Claim → Type 0
 PartTells name me head part (IsGranted same) =
     (part.ticket ≡ name) × (head ≡ same) × (head.cmd ≡ RGnt) × (head.result ≡ SUCCESS)
@@ -64,7 +65,7 @@ abbrev pub MessageTells : List ℕ → MemberId → PlainMessage → Claim → T
 MessageTells name me message claim =
     (part : TicketPart) × (message.content ≡ Ticket part) × PartTells name me message.head part claim
 
--- a handler is started for a lease that its member has, and told its end; 0 says that there is none
+-- a handler is started for a lease that its member has, and is given the lease's end; 0 says that there is no lease
 abbrev pub JobTells : List ℕ → Job → Claim → Type 0
 JobTells name job (EndsIn second) = (job.ticket ≡ name) × (job.expires ≡ second) × (0 < second)
 JobTells name job claim = ⊥
@@ -74,11 +75,11 @@ abbrev pub HasNone : ℕ → List ℕ → Type 0
 HasNone b [] = Unit {0}
 HasNone b (x ∷ xs) = (x ≢ b) × HasNone b xs
 
--- nothing stands before a line, or a line end
+-- nothing comes before a line, or a line end
 abbrev pub EndsLine : List ℕ → Type 0
 EndsLine before = (before ≡ []) ⊎ ((earlier : List ℕ) × (before ≡ earlier ++ 10 ∷ []))
 
--- nothing stands behind a line, or a line end
+-- nothing comes after a line, or a line end
 abbrev pub BeginsLine : List ℕ → Type 0
 BeginsLine after = (after ≡ []) ⊎ ((later : List ℕ) × (after ≡ 10 ∷ later))
 
@@ -98,20 +99,20 @@ ListTells name address message (IsListed digits) =
     × HasLine text (name ++ 32 ∷ (printed address ++ 32 ∷ digits))
 ListTells name address message claim = ⊥
 
--- the entry starts this job; one that failed, or was cut, is one too
+-- the entry starts this job; a start that failed or was interrupted counts
 abbrev pub IsStart : SessionEntry → Job → Type 0
 IsStart (Makes (calls.Start number ticket handler local expires answer)) job =
     record { number = number; ticket = ticket; handler = handler; local = local; expires = expires } ≡ job
 IsStart (IsCut (CutStart started)) job = started ≡ job
 IsStart what job = ⊥
 
--- the entry sends a message that tells so, or a list that does
+-- the entry sends a message with this claim, or a list with it
 abbrev pub SendTells : List ℕ → MemberId → Address → SessionEntry → Claim → Type 0
 SendTells name me address what claim =
     (bytes : List ℕ) × (message : PlainMessage) × IsSend what bytes × (decoded bytes ≡ Ok message)
     × (MessageTells name me message claim ⊎ ListTells name address message claim)
 
--- the entry starts a job that is told so
+-- the entry starts a job with this claim
 abbrev pub StartTells : List ℕ → SessionEntry → Claim → Type 0
 StartTells name what claim = (job : Job) × IsStart what job × JobTells name job claim
 
@@ -119,7 +120,7 @@ StartTells name what claim = (job : Job) × IsStart what job × JobTells name jo
 abbrev pub address_at : World → ℕ → Address
 address_at w m = address_in (slice_get w.members m)
 
--- by this entry its member tells of itself as the ticket's holder
+-- by this entry its member names itself as the ticket's holder
 abbrev pub Tells : World → TicketConf → WorldEntry → Claim → Type 0
 Tells w ticket entry claim =
     SendTells ticket.name (id_at w entry.member) (address_at w entry.member) entry.what claim
@@ -131,12 +132,12 @@ Tells w ticket entry claim =
 abbrev pub IsNext : {w : World} → Moment w → WorldEntry → Type 0
 IsNext moment entry = (after : List WorldEntry) × (moment.after ≡ entry ∷ after)
 
--- the claim is not over at what the member's clock reads: each end that bears it out is above that
+-- the claim has not ended at what the member's clock reads: each end that bears it out is above that
 abbrev pub IsLive : (w : World) → ℕ → Moment w → Claim → Type 0
 IsLive w m moment claim = (until : ℕ) → BearsOut claim until → clock_at w m moment.time < until
 
--- A claim is not over at readings below what it says itself: below the second in which a lease is told to end; for a
--- message, up to the reading that it bears, with the seconds that it says are left, but for one.
+-- A claim has not ended at readings below what it states itself: below the second in which a lease is said to end;
+-- for a message, up to the reading that it carries, plus the seconds that it states, minus one.
 pub record ClaimsLast : Type 0 where
   pub ends_in : (w : World) (m : ℕ) (moment : Moment w) (second : ℕ) → clock_at w m moment.time < 1000 * second
       → IsLive w m moment (EndsIn second)
@@ -146,7 +147,7 @@ pub record ClaimsLast : Type 0 where
   pub granted : (w : World) (m : ℕ) (moment : Moment w) (head : Head) → head.secs < 4294967295
       → clock_at w m moment.time ≤ 1000 * head.secs + head.usecs / 1000 → IsLive w m moment (IsGranted head)
 
--- just before a member tells of itself as the holder, it may have kept a record whose lease bears that out
+-- just before a member names itself as the holder, it may have written a record whose lease bears the claim out
 abbrev pub TellersHaveKeptIn : World → Type 0
 TellersHaveKeptIn w =
     (ticket : TicketConf) → IsAutomatic w ticket
@@ -157,7 +158,8 @@ TellersHaveKeptIn w =
 abbrev pub WhoTellsHasKept : Type 0
 WhoTellsHasKept = (w : World) → IsUntimedWorld w → TellersHaveKeptIn w
 
--- A client is told that its grant was done where a record with such a lease is kept: no other may be.
+-- When a client is told that its grant was done, a record with such a lease was written, and it is the only one that
+-- may have been.
 abbrev pub GrantsAreKept : Type 0
 GrantsAreKept =
     (w : World) → IsUntimedWorld w → (ticket : TicketConf) → IsAutomatic w ticket
@@ -166,7 +168,7 @@ GrantsAreKept =
     → (kept : Record) × (may_at w ticket entry.member moment ≡ kept ∷ [])
     × IsSomeAnd kept.lease (λ lease. BearsOut (IsGranted head) lease.until)
 
--- so it holds the ticket there, while the claim is not over, and no other does
+-- so the member holds the ticket at that moment, while the claim has not ended, and no other member does
 abbrev pub TellersHoldIn : World → Type 0
 TellersHoldIn w =
     (ticket : TicketConf) → IsAutomatic w ticket
@@ -178,9 +180,9 @@ TellersHoldIn w =
 abbrev pub WhoTellsHolds : Type 0
 WhoTellsHolds = (w : World) → IsWorld w → TellersHoldIn w
 
--- Where one member tells of itself as the holder, and another later, and neither claim is over as it is told, then
--- acquire-after lies between, or the first gave back in between the lease by which it held, and which bears it out. So
--- they never tell it at one moment, but where it was given back then.
+-- If one member names itself as the holder, and another does later, and neither claim has ended at that moment, then
+-- acquire-after lies between, or the first released in between the lease by which it held, and which bears its claim
+-- out. So they never do so at one moment, unless the lease was released then.
 abbrev pub TellersAreApartIn : World → Type 0
 TellersAreApartIn w =
     (ticket : TicketConf) → IsAutomatic w ticket

@@ -1,27 +1,29 @@
--- The term that a node would tell of itself as a ticket's holder, between two turns.
-use Rattle.std.specs.Prelude.{◌≡◌, ℕ, ◌<◌, ◌≤◌, if◌then◌else◌, List, slice_get, Option, Some, None}
+-- The term with which a member names itself as a ticket's holder, and the term with which it would do so between two
+-- turns.
+use Rattle.std.specs.Prelude.{◌≡◌, ℕ, ◌<◌, ◌≤◌, List, slice_get, Ok, Some}
+use Rattle.booth_base.specs.declared.address.MemberId.{MemberId}
 use Rattle.booth_conf.specs.declared.tickets.TicketConf.{TicketConf}
 use Rattle.booth_rec.specs.declared.record.Lease.{Lease}
-use Rattle.booth_wire.specs.declared.message.Setup.{Setup}
+use Rattle.booth_wire.specs.declared.command.Cmd.TheVariants.{RTkt}
+use Rattle.booth_wire.specs.declared.message.Head.{Head}
+use Rattle.booth_wire.specs.declared.message.TicketPart.{TicketPart}
+use Rattle.booth_wire.specs.PlainMessage.{PlainMessage, Ticket}
+use Rattle.booth_wire.specs.Reading.{decoded}
 use Rattle.booth_raft.specs.declared.view.View.{View}
-use Rattle.booth_ticket.specs.Requests.{is_holder}
+use Rattle.booth_ticket.specs.Requests.{told_lease}
 use Rattle.booth_ticket.specs.Ticket.{Automatic}
 use Rattle.booth_node.specs.declared.node_config.NodeConfig.{NodeConfig}
 use Rattle.booth_node.specs.Opening.{setup_of}
 use Rattle.booth_node.specs.State.{State}
-use Rattle.booth_node.specs.World.{WorldEntry, World, members_of, stand_after, IsSecondWorld, IsUntimedWorld}
+use Rattle.booth_node.specs.World.{WorldEntry, World, members_of, id_at, stand_after, IsSend, IsSecondWorld, IsUntimedWorld}
 use Rattle.booth_node.specs.Held.{Moment, IsAutomatic}
 use Rattle.booth_world.specs.Shadows.{RestsIn}
-use Rattle.booth_world.specs.Fencing.{TermsAreOfOneIn, HoldersOfOneTermIn, AskersHaveLaterTermsIn}
+use Rattle.booth_world.specs.Tellers.{IsNext}
+use Rattle.booth_world.specs.Fencing.{HasGainedAt, IsBelowAt, TermsAreOfOneIn, HoldersOfOneTermIn, AskersHaveLaterTermsIn}
 use Rattle.booth_world.specs.Worlds.{IsLater}
 
--- The lease that is told at a reading: that of the record, where its site leads and it is not over. Its term is the
--- lease's: the member's own may be a later one, which it asks for and has not gained.
-abbrev pub told_lease : Setup → View → ℕ → Option Lease
-told_lease setup view now = if is_holder setup view now then view.kept.lease else None
-
--- The member rests between two turns, or has the answer of a next, with this view of the ticket, and at a reading that
--- is no earlier than its last one it would tell this lease.
+-- The member rests between two turns, or has the answer of a `next`, with this view of the ticket, and at a reading
+-- that is no earlier than its last one it would report this lease.
 pub record WouldTell (w : World) (ticket : TicketConf) (m : ℕ) (moment : Moment w) (lease : Lease) : Type 0 where
   pub below : m < members_of w
   pub node : NodeConfig
@@ -37,7 +39,7 @@ pub record WouldTell (w : World) (ticket : TicketConf) (m : ℕ) (moment : Momen
   pub later : resting.last_reading ≤ reading
   pub tells : told_lease (setup_of node place own) view reading ≡ Some lease
 
--- where two would tell leases of one term, each at its own moment and by its own clock, they are one
+-- if two members would report leases of one term, each at its own moment and by its own clock, they are one member
 abbrev pub ToldTermsAreOfOneIn : World → Type 0
 ToldTermsAreOfOneIn w =
     (ticket : TicketConf) → IsAutomatic w ticket
@@ -46,15 +48,69 @@ ToldTermsAreOfOneIn w =
     → WouldTell w ticket s early first → WouldTell w ticket t late second
     → first.term ≡ second.term → s ≡ t
 
+-- ---- the term in an answer
+
+-- An answer about the ticket with this name reports a term: it names this member as the holder, with seconds left.
+pub record PartTellsTerm (name : List ℕ) (me : MemberId) (head : Head) (part : TicketPart) (told : ℕ) : Type 0 where
+  pub answers : head.cmd ≡ RTkt
+  pub named : part.ticket ≡ name
+  pub leads : part.leader ≡ me
+  pub left : 0 < part.valid_for
+  pub term : part.term ≡ told
+
+abbrev pub MessageTellsTerm : List ℕ → MemberId → PlainMessage → ℕ → Type 0
+MessageTellsTerm name me message term =
+    (part : TicketPart) × (message.content ≡ Ticket part) × PartTellsTerm name me message.head part term
+
+-- by this entry its member sends such an answer about itself; a send that failed or was interrupted counts
+abbrev pub TellsTerm : World → TicketConf → WorldEntry → ℕ → Type 0
+TellsTerm w ticket entry term =
+    (bytes : List ℕ) × (message : PlainMessage) × IsSend entry.what bytes × (decoded bytes ≡ Ok message)
+    × MessageTellsTerm ticket.name (id_at w entry.member) message term
+
+-- just before a member reports a term, it may have written a lease of that term, which it gained
+abbrev pub ToldTermsAreGainedIn : World → Type 0
+ToldTermsAreGainedIn w =
+    (ticket : TicketConf) → IsAutomatic w ticket
+    → (moment : Moment w) (entry : WorldEntry) → IsNext moment entry → (term : ℕ) → TellsTerm w ticket entry term
+    → (lease : Lease) × (lease.term ≡ term) × HasGainedAt w ticket entry.member moment lease
+
+-- This requires neither version 2, nor that the lease is still in force: a member that is paused before its send
+-- reports a term late.
+abbrev pub ToldTermsAreGained : Type 0
+ToldTermsAreGained = (w : World) → IsUntimedWorld w → ToldTermsAreGainedIn w
+
+-- two entries that report one term are of one member
+abbrev pub TellersOfOneTermIn : World → Type 0
+TellersOfOneTermIn w =
+    (ticket : TicketConf) → IsAutomatic w ticket
+    → (early late : Moment w) (between : List WorldEntry) → IsLater w early late between
+    → (first second : WorldEntry) → IsNext early first → IsNext late second
+    → (term : ℕ) → TellsTerm w ticket first term → TellsTerm w ticket second term → first.member ≡ second.member
+
+-- if a member reports a term that it had not written yet when another reported one, its term is the greater
+abbrev pub LaterTellersHaveLaterTermsIn : World → Type 0
+LaterTellersHaveLaterTermsIn w =
+    (ticket : TicketConf) → IsAutomatic w ticket
+    → (early late : Moment w) (between : List WorldEntry) → IsLater w early late between
+    → (first second : WorldEntry) → IsNext early first → IsNext late second
+    → (term later : ℕ) → TellsTerm w ticket first term → TellsTerm w ticket second later
+    → IsBelowAt w ticket second.member early later
+    → term < later
+
 -- ---- worlds of version 2
 
--- The terms of leases are fencing tokens: what a storage may rely on that compares them.
+-- The terms of leases are fencing tokens: this is what a storage that compares them may rely on.
 pub record HasFencingTerms (w : World) : Type 0 where
   pub terms : TermsAreOfOneIn w
   pub holders : HoldersOfOneTermIn w
   pub askers : AskersHaveLaterTermsIn w
   pub told : ToldTermsAreOfOneIn w
+  pub gained : ToldTermsAreGainedIn w
+  pub tellers : TellersOfOneTermIn w
+  pub later_tellers : LaterTellersHaveLaterTermsIn w
 
--- So it is in each world all of whose sessions are of version 2, however its clocks drift, stand still and step forward.
+-- This holds in each world whose sessions are all of version 2, however its clocks drift, stand still and step
+-- forward.
 abbrev pub WorldsHaveFencingTerms : Type 0
 WorldsHaveFencingTerms = (w : World) → IsUntimedWorld w → IsSecondWorld w → HasFencingTerms w

@@ -1,4 +1,4 @@
--- The laws, over worlds of entries: of each ticket of each world.
+-- The three laws (one holder, holders apart, terms never fall), for each ticket of each world of entries.
 use Rattle.std.specs.Prelude.{◌≡◌, ◌≢◌, ◌⊎◌, ◌++◌, ℕ, ◌<◌, ◌≤◌, List, [], ◌∷◌, map, Ok, Some, None}
 use Rattle.std.specs.Option.{ForSome}
 use Rattle.booth_conf.specs.declared.tickets.TicketConf.{TicketConf}
@@ -20,21 +20,21 @@ use Rattle.booth_world.specs.Revocations.{GoesOnToRevoke, AtSome}
 
 -- ---- two moments
 
--- the second moment is not before the first, and these entries lie between
+-- the second moment is not before the first, and these are the entries between
 pub record IsLater (w : World) (early late : Moment w) (between : List WorldEntry) : Type 0 where
   pub entries : late.before ≡ early.before ++ between
   pub not_before : early.time ≤ late.time
 
--- A keep of the ticket by this member that answered Ok, and left it so, gave its lease back: its record has none, and a
--- term at least that of the lease, and the member goes on to tell each other one that this term was given back. A new
--- term that is asked for may be kept without a lease too, but what follows then is that votes are asked for.
+-- A write for the ticket by this member that succeeded, with this state after it, released its lease: its record has
+-- none, and a term no smaller than that of the lease, and the member goes on to tell each other member that this term
+-- was released. The record of a new term may have no lease too, but then the member goes on to request votes.
 abbrev pub GivesBack : World → List ℕ → ℕ → Record → Stand → SessionEntry → Type 0
 GivesBack w name m kept after (Makes (calls.Keep ticket rec (Ok done))) =
     (ticket ≡ name) × (rec.lease ≡ None) × ForSome kept.lease (λ given. given.term ≤ rec.term)
     × GoesOnToRevoke w name rec.term m after
 GivesBack w name m kept after what = ⊥
 
--- an entry of the member gave the lease back, one of these, which follow on the others
+-- an entry of the member among these, which follow the others, released the lease
 abbrev pub ReleasedIn : World → TicketConf → ℕ → Record → List WorldEntry → List WorldEntry → Type 0
 ReleasedIn w ticket s kept before between =
     AtSome before between
@@ -43,7 +43,7 @@ ReleasedIn w ticket s kept before between =
 
 -- ---- the laws
 
--- at no moment of the world is an automatic ticket held at two members
+-- no two members ever hold an automatic ticket at the same moment of the world
 abbrev pub HoldsOneIn : World → Type 0
 HoldsOneIn w =
     (ticket : TicketConf) → IsAutomatic w ticket
@@ -52,8 +52,8 @@ HoldsOneIn w =
 abbrev pub WorldsHoldOne : Type 0
 WorldsHoldOne = (w : World) → IsWorld w → HoldsOneIn w
 
--- Where one holds it by a record, and another later, acquire-after lies between each time at which that record was in
--- force and the later one, or a keep between the two gave the record's lease back.
+-- If one member holds it by a record, and another later, acquire-after lies between each time at which that record
+-- was in force and the later one, or a write between the two released the record's lease.
 abbrev pub WorldsAreApart : Type 0
 WorldsAreApart =
     (w : World) → IsWorld w → (ticket : TicketConf) → IsAutomatic w ticket
@@ -62,7 +62,7 @@ WorldsAreApart =
     → HoldsBy w ticket s early kept → Holds w ticket t late
     → IsApartFrom (cluster_of w ticket) s kept early.time late.time ⊎ ReleasedIn w ticket s kept early.before between
 
--- where each record that a member may have kept of a ticket has at least a term, so has each one later
+-- if each record that a member may have written for a ticket has at least a term, so has each one later
 abbrev pub TermsNeverFallIn : World → Type 0
 TermsNeverFallIn w =
     (ticket : TicketConf) → IsOneTicket w ticket
@@ -74,7 +74,7 @@ TermsNeverFallIn w =
 abbrev pub WorldTermsNeverFall : Type 0
 WorldTermsNeverFall = (w : World) → IsUntimedWorld w → TermsNeverFallIn w
 
--- Where one member holds it by a lease, and another holds it later by a lease, the later lease has the later term.
+-- If one member holds it by a lease, and another holds it later by a lease, the later lease has the later term.
 abbrev pub LaterTermsIn : World → Type 0
 LaterTermsIn w =
     (ticket : TicketConf) → IsAutomatic w ticket
@@ -83,13 +83,13 @@ LaterTermsIn w =
     → kept.lease ≡ Some first → other.lease ≡ Some second
     → HoldsBy w ticket s early kept → HoldsBy w ticket t late other → first.term < second.term
 
--- So it is in each world all of whose sessions are of version 2.
+-- This holds in each world whose sessions are all of version 2.
 abbrev pub LaterHoldersHaveLaterTerms : Type 0
 LaterHoldersHaveLaterTerms = (w : World) → IsWorld w → IsSecondWorld w → LaterTermsIn w
 
--- ---- node logs
+-- ---- logs of nodes
 
--- calls that were all answered
+-- calls that all have answers
 abbrev pub made : List Entry → List SessionEntry
 made calls = map (λ call. Makes call) calls
 
@@ -100,7 +100,7 @@ LogsAreSessions =
     → AreSessions (Doing node (Ends old)) (made entries)
     × (after_entries (Doing node (Ends old)) (made entries) ≡ Doing node (Ends new))
 
--- so are those of many turns, the last of which stopped
+-- the same holds if the last of the turns stopped
 abbrev pub StoppedLogsAreSessions : Type 0
 StoppedLogsAreSessions =
     (node : NodeConfig) (old new : State) (entries : List Entry) → IsStoppedLog node old new entries

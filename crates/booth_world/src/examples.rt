@@ -1,4 +1,4 @@
-//! Small runs, each the contract of a function that does nothing: the laws speak of something.
+//! Small runs, each the contract of a function that does nothing: they show that the laws are not empty.
 ghost use Rattle.std.specs.Prelude.{◌++◌, []};
 ghost use Rattle.booth_base.specs.declared.name.Name.{Name};
 ghost use Rattle.booth_world.specs.Calls.{IsMember};
@@ -22,33 +22,33 @@ pub fn ticket_moves()
     ensures elsewhere { Held three (world_of three (granted ++ renewed ++ released ++ granted_elsewhere)) 1 }
 {}
 
-/// A holder and a member that answered it crash and start again, and the ticket is held on.
+/// A holder and a member that answered it crash and start again, and the ticket is still held.
 pub fn holder_restarts()
     ensures run { IsRun three (opening three) (granted ++ crashed_and_started) }
     ensures held { Held three (world_of three (granted ++ crashed_and_started)) 0 }
 {}
 
-/// A member that has started is one of whose calls the law speaks.
+/// A member that has started is one about whose calls the law speaks.
 pub fn started_view_agrees()
     ensures { (ticket : Name) → IsMember three (world_of three start) (first_caller ticket) }
 {}
 
-/// By the lease rules a member that is alone in its cluster holds. A keep that would give the
-/// ticket back fails, the next is cut, and it starts from the record of the keep that failed.
+/// By the lease rules a member that is alone in its cluster holds. The write of a release fails, the next is
+/// interrupted, and it starts from the record of the write that failed.
 pub fn lone_core_holds()
     ensures entered { (ticket : Name) → CoreCourse lone (lone_cast ticket) lone_grant lone_restart }
     ensures held { (ticket : Name) → CoreHolds lone (early_cores lone (lone_cast ticket) lone_grant) 0 }
 {}
 
-/// At its host it greets, asks and keeps twice in one turn, stops before the turn ends, starts
-/// again, and holds on.
+/// At its host it greets, acquires the ticket and writes twice in one turn, stops before the turn ends, starts again,
+/// and still holds.
 pub fn lone_host_holds()
     ensures hosted { (ticket : Name) → HostCourse lone (lone_cast ticket) lone_turn [] }
     ensures held { (ticket : Name) → HostHolds lone (early_hosts lone (lone_cast ticket) lone_turn) 0 }
 {}
 
-/// Where a clock steps forward two sites hold at one moment, each start in version 2, and their leases have the terms 1
-/// and 2.
+/// If a clock steps forward, two sites hold at one moment, with each start in version 2, and their leases have the
+/// terms 1 and 2.
 pub fn stepped_clock_gives_a_lease()
     ensures clocks { HasClocks wild }
     ensures run { IsRun wild (opening wild) (first_part ++ second_part) }

@@ -1,4 +1,4 @@
-use Rattle.booth_world.proofs.FencedTellers.{worlds_have_fencing_terms}
+use Rattle.booth_world.proofs.TermWorlds.{told_terms_are_gained, worlds_have_fencing_terms}
 use Rattle.booth_world.proofs.FencedLives.{lives_have_terms}
 use Rattle.booth_world.proofs.FencedLaws.{terms_of_one, later_askers, later_rounds}
 use Rattle.booth_world.proofs.laws.fencing.Goals as goal
@@ -17,3 +17,6 @@ returns-clause-lives c = lives_have_terms
 
 pub returns-clause-worlds : goal.returns-clause-worlds
 returns-clause-worlds c = worlds_have_fencing_terms
+
+pub returns-clause-told : goal.returns-clause-told
+returns-clause-told c = told_terms_are_gained
