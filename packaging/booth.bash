@@ -214,6 +214,7 @@ _booth_next_of_move() {
   for ((i = 2; i < cword; i++)); do
     case ${words[i]} in
       -c | -s) ((i++)) ;;
+      -t) ((i++, plain++)) ;;
       -*) ;;
       move) [[ ${words[1]} == client && $i -eq 2 ]] || ((plain++)) ;;
       *) ((plain++)) ;;
@@ -229,7 +230,7 @@ _booth_offer() {
   case $program in
     boothd) commands=$'daemon\nstatus\nsim\naudit' ;;
     geostore) commands=$'set\nget\ndelete\nlist' ;;
-    *) commands=$'list\npeers\ngrant\nrevoke\nmove' ;;
+    *) commands=$'list\nshow\npeers\nstatus\ngrant\nrevoke\nmove' ;;
   esac
   # `booth` passes a leading `client` over
   [[ $program == booth && $command == client ]] && command=${words[2]}
@@ -239,9 +240,10 @@ _booth_offer() {
     boothd:sim) options=$'-c\n-e\n-r\n--help\n--version' ;;
     boothd:audit) options=$'-c\n--help\n--version' ;;
     geostore:*) options=$'-c\n-s\n-t\n--tcp\n--udp\n--help\n--version' ;;
-    booth:grant) options=$'-c\n-s\n-w\n-C\n-F\n--tcp\n--udp\n--help\n--version' ;;
-    booth:revoke) options=$'-c\n-s\n-w\n--tcp\n--udp\n--help\n--version' ;;
-    booth:move) options=$'-c\n-s\n-w\n-f\n--force\n--tcp\n--udp\n--help\n--version' ;;
+    booth:show) options=$'-c\n-s\n-t\n-j\n--json\n--tcp\n--udp\n--help\n--version' ;;
+    booth:grant) options=$'-c\n-s\n-t\n-w\n-C\n-F\n--tcp\n--udp\n--help\n--version' ;;
+    booth:revoke) options=$'-c\n-s\n-t\n-w\n--tcp\n--udp\n--help\n--version' ;;
+    booth:move) options=$'-c\n-s\n-t\n-w\n-f\n--force\n--tcp\n--udp\n--help\n--version' ;;
     *) options=$'-c\n-s\n--tcp\n--udp\n--help\n--version' ;;
   esac
   if ((cword == 1)); then
@@ -262,7 +264,7 @@ _booth_offer() {
   elif [[ $program:$command == booth:move ]]; then
     # (first a ticket, and then a site; one that stands before the cursor is a ticket)
     _booth_reply "$(_booth_values "$(_booth_next_of_move)")" "$word"
-  elif [[ $program:$command == booth:grant || $program:$command == booth:revoke ]]; then
+  elif [[ $program:$command == booth:show || $program:$command == booth:grant || $program:$command == booth:revoke ]]; then
     _booth_reply "$(_booth_values ticket)" "$word"
   elif ((cword == 2)) && [[ $program == booth && $before == client ]]; then
     _booth_reply "$commands" "$word"

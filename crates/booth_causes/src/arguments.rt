@@ -6,23 +6,23 @@ use booth_base::{Address, AttrValue, Name, PathText};
 use booth_cli::{MOST_EVENTS, MOST_TURNS, Program, Word};
 use booth_following::PROGRAM_BYTES;
 
-/// What a name may be.
+/// What names are allowed.
 const NAMES: &str = "a name has 1 to 63 printing characters of ASCII, without blanks";
 
-/// What the value of an attribute may be.
+/// What values of attributes are allowed.
 const VALUES: &str = "a value has up to 127 printing characters of ASCII, blanks too";
 
-/// What an address may be.
+/// What addresses are allowed.
 const ADDRESSES: &str =
     "an IPv4 or IPv6 address is needed, as 192.0.2.10 or 2001:db8::10; names are not resolved";
 
-/// What a path may be.
+/// What paths are allowed.
 const PATHS: &str = "a path has 1 to 255 bytes";
 
-/// What a program may be.
+/// What programs are allowed.
 const PROGRAMS: &str = "a program with its arguments has up to 228 bytes, and not blanks alone";
 
-/// What a configuration may be.
+/// What configurations are allowed.
 const CONFIGURATIONS: &str =
     "a path with a slash, or a name in /etc/booth, of at most 255 bytes with its folder and .conf";
 
@@ -31,14 +31,14 @@ const _: () = prove!(PROGRAM_BYTES == 228);
 /// The most seconds of a margin or of a kill.
 const MOST_SECONDS: u64 = 4_294_967_295;
 
-/// An argument as it was given, and what the usage calls it.
+/// An argument as it was given, and its name in the usage.
 #[derive(Clone, Copy)]
 struct Argument<'a> {
     name: &'a str,
     text: &'a str,
 }
 
-/// An option with a number, and the numbers that it may have.
+/// An option with a number, and the allowed numbers.
 #[derive(Clone, Copy)]
 struct Range {
     letter: char,
@@ -86,7 +86,7 @@ const KILL: Range = Range {
     ..MARGIN
 };
 
-// The value of an option.
+// Returns the value of an option.
 fn option_of<'a>(words: &'a [String], letter: char, name: &'a str) -> Option<Argument<'a>> {
     match option(words, letter) {
         Some(text) => Some(Argument { name, text }),
@@ -94,7 +94,7 @@ fn option_of<'a>(words: &'a [String], letter: char, name: &'a str) -> Option<Arg
     }
 }
 
-// The argument at a place.
+// Returns the argument at a place.
 fn plain_of<'a>(words: &'a [String], place: usize, name: &'a str) -> Option<Argument<'a>> {
     match plain(words, place) {
         Some(text) => Some(Argument { name, text }),
@@ -102,7 +102,7 @@ fn plain_of<'a>(words: &'a [String], place: usize, name: &'a str) -> Option<Argu
     }
 }
 
-// What is said of an argument that is refused.
+// Returns the cause for an argument that is refused.
 fn refuse(argument: &Argument<'_>, allowed: &str) -> Cause {
     let mut cause = Cause::new();
     cause.put(argument.name);
@@ -113,7 +113,7 @@ fn refuse(argument: &Argument<'_>, allowed: &str) -> Cause {
     cause
 }
 
-// Of a name that is refused.
+// Returns the cause for a name that is refused.
 fn bad_name(argument: Option<Argument<'_>>) -> Option<Cause> {
     let argument = argument?;
     match Name::read(argument.text.as_bytes()) {
@@ -122,7 +122,7 @@ fn bad_name(argument: Option<Argument<'_>>) -> Option<Cause> {
     }
 }
 
-// Of the ticket, which is an option of `geostore`.
+// Returns the cause for the ticket, which is an option of `geostore`.
 fn bad_ticket(program: Program, words: &[String]) -> Option<Cause> {
     match program {
         Program::Geostore => bad_name(option_of(words, 't', "-t")),
@@ -140,7 +140,7 @@ fn bad_value(argument: Option<Argument<'_>>) -> Option<Cause> {
     }
 }
 
-// Of an argument that has to be an address.
+// Returns the cause for an argument that must be an address.
 fn no_address(argument: Option<Argument<'_>>) -> Option<Cause> {
     let argument = argument?;
     match Address::read(argument.text.as_bytes()) {
@@ -149,12 +149,23 @@ fn no_address(argument: Option<Argument<'_>>) -> Option<Cause> {
     }
 }
 
-/// Says why this text, which is called so, is no address; nothing if it is one.
+/// Returns why this text, with this name, is not an address; nothing if it is one.
 pub fn bad_address(name: &str, text: &str) -> Option<Cause> {
     no_address(Some(Argument { name, text }))
 }
 
-// Of the site that a ticket is moved to, and then of the one that is asked.
+/// Returns that the option -t and an argument name different tickets.
+pub fn two_tickets(option: &str, other: &str) -> Cause {
+    let mut cause = Cause::new();
+    cause.put("-t ");
+    cause.put_quoted(option.as_bytes());
+    cause.put(" and ");
+    cause.put_quoted(other.as_bytes());
+    cause.put(" are two tickets: name one");
+    cause
+}
+
+// Returns the cause for the site that a ticket is moved to, or else for the site that is asked.
 fn bad_site(program: Program, words: &[String]) -> Option<Cause> {
     let is_booth = matches!(program, Program::Booth);
     if is_booth {
@@ -165,7 +176,7 @@ fn bad_site(program: Program, words: &[String]) -> Option<Cause> {
     no_address(option_of(words, 's', "-s"))
 }
 
-// Whether a text is a number of a range, as it is written without a sign and without leading zeros.
+// Returns whether a text is a number in a range, written without a sign and without leading zeros.
 fn is_within(text: &str, range: &Range) -> bool {
     if text.starts_with('+') || text.starts_with('0') && text != "0" {
         return false;
@@ -184,7 +195,7 @@ fn bad_number_of(words: &[String], range: &Range) -> Option<Cause> {
     Some(refuse(&argument, range.allowed))
 }
 
-// Of the first number that is refused.
+// Returns the cause for the first number that is refused.
 fn bad_number(words: &[String]) -> Option<Cause> {
     for range in [TURNS, EVENTS, NUMBER, MARGIN, KILL] {
         if let Some(cause) = bad_number_of(words, &range) {
@@ -202,7 +213,7 @@ fn bad_path_of(argument: Option<Argument<'_>>) -> Option<Cause> {
     Some(refuse(&argument, PATHS))
 }
 
-// Of the lock, of the directory of records, and then of the first journals.
+// Returns the cause for the lock, the directory of records, or the first journal that is refused.
 fn bad_path(words: &[String]) -> Option<Cause> {
     if let Some(cause) = bad_path_of(option_of(words, 'l', "-l")) {
         return Some(cause);
@@ -218,14 +229,14 @@ fn bad_path(words: &[String]) -> Option<Cause> {
     None
 }
 
-// Of what is refused whatever it is.
+// Returns the cause for an argument that is refused whatever it is.
 fn refused(argument: Option<Argument<'_>>, allowed: &str) -> Option<Cause> {
     let argument = argument?;
     Some(refuse(&argument, allowed))
 }
 
-/// Says why an argument of this kind is refused. The arguments begin with the command, or with the program's name. It
-/// says nothing if no such argument is found that its reader refuses.
+/// Returns why an argument of this kind is refused. The arguments begin with the command, or with the program's name.
+/// Returns nothing if no such argument is found that its reader refuses.
 pub fn bad_argument(program: Program, words: &[String], word: Word) -> Option<Cause> {
     let words = words.get(1..).unwrap_or(&[]);
     match word {

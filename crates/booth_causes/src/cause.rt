@@ -1,4 +1,4 @@
-//! The text of a cause, whose memory is its own.
+//! The text of a cause, in memory of its own.
 ghost use Rattle.std.specs.Prelude.{◌≡◌, ◌≤◌, ◌<◌, ◌+◌, ◌++◌, [], length};
 
 use arrayvec::ArrayString;
@@ -11,7 +11,7 @@ use std::str;
 /// The most bytes of a text: a line of standard error has 1,024, with the program's name.
 const TEXT_BYTES: usize = 900;
 
-/// The most bytes that are shown of what was given.
+/// The most bytes of an argument or a file that are shown.
 const SHOWN_BYTES: usize = 100;
 
 /// The text of a cause, in one line. Contracts see its bytes.
@@ -29,7 +29,7 @@ impl Model for Cause {
 }
 
 impl Cause {
-    /// Nothing.
+    /// Returns an empty text.
     pub(crate) fn new() -> Cause
         ensures { result ≡ [] }
     {
@@ -38,7 +38,7 @@ impl Cause {
         }
     }
 
-    /// Appends a piece, or nothing if there is no room for all of it.
+    /// Appends a text, or nothing if there is no room for all of it.
     pub(crate) fn put(&mut self, piece: &str)
         ensures room { length self.old + length piece.now ≤ TEXT_BYTES → self.new ≡ self.old ++ piece.now }
         ensures full { TEXT_BYTES < length self.old + length piece.now → self.new ≡ self.old }
@@ -74,7 +74,7 @@ impl Cause {
         self.put(str::from_utf8(name.bytes()).unwrap_or(""));
     }
 
-    // Appends a byte of what was given: printing characters of ASCII as they are, and others in hexadecimal.
+    // Appends a byte of an argument or a file: a printing character of ASCII unchanged, and any other in hexadecimal.
     fn put_byte(&mut self, byte: u8) {
         if (0x20..=0x7E).contains(&byte) {
             let _ = self.text.try_push(char::from(byte));
@@ -83,7 +83,7 @@ impl Cause {
         }
     }
 
-    /// Appends what was given, in quotes: its first 100 bytes, and how many it has if it has more.
+    /// Appends the bytes of an argument or a file in quotes: the first 100, and how many there are if there are more.
     pub(crate) fn put_quoted(&mut self, given: &[u8]) {
         self.put("'");
         for byte in given.iter().take(SHOWN_BYTES) {
@@ -98,7 +98,7 @@ impl Cause {
         self.put(" bytes)");
     }
 
-    /// The bytes.
+    /// Returns the bytes.
     pub fn bytes(&self) -> &[u8]
         ensures { result.now ≡ self.now }
     {

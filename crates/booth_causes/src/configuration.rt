@@ -1,4 +1,4 @@
-//! Why a text is no configuration: the line or the values that are wrong, and what is allowed.
+//! Why a text is not a configuration: the line or the values that are wrong, and what is allowed.
 
 use crate::cause::Cause;
 use crate::lines::{is, key_in, line_at, value_in};
@@ -7,7 +7,7 @@ use crate::values::allowed;
 use booth_conf::{ConfFault, ConfKey, KeyNo, TEXT_BYTES};
 use std::str;
 
-/// The number behind that of the last key.
+/// The number after that of the last key.
 const KEYS_END: u8 = 24;
 
 const LINES: &str = "a line is KEY = VALUE, KEY = \"VALUE\" or a comment behind #";
@@ -27,13 +27,13 @@ fn too_large(text: &[u8]) -> Cause {
     cause
 }
 
-// Appends what this line is.
+// Appends the content of this line.
 fn put_line(cause: &mut Cause, line: &[u8]) {
     cause.put("; the line is ");
     cause.put_quoted(line);
 }
 
-// What holds of each line, and this line.
+// Returns the rule for each line, and this line.
 fn of_line(text: &[u8], number: u32, rule: &str) -> Option<Cause> {
     let line = line_at(text, number)?;
     let mut cause = Cause::new();
@@ -42,14 +42,14 @@ fn of_line(text: &[u8], number: u32, rule: &str) -> Option<Cause> {
     Some(cause)
 }
 
-// Whether a name is one that a key may be meant by: it begins with the key, or the key with it.
+// Returns whether a name may be meant as a key: it begins with the key, or the key with it.
 fn is_near(name: &[u8], key: &str) -> bool {
     let key = key.as_bytes();
     let count = name.len().min(key.len());
     count > 0 && name[..count].eq_ignore_ascii_case(&key[..count])
 }
 
-// The longest key that may be meant by a name.
+// Returns the longest key that may be meant by a name.
 fn meant(name: &[u8]) -> Option<&'static str> {
     let mut found: Option<&'static str> = None;
     for number in 1..KEYS_END {
@@ -97,7 +97,7 @@ fn bad_value(text: &[u8], number: u32, key: KeyNo) -> Option<Cause> {
     Some(cause)
 }
 
-// The address of the member at this place, as its line has it.
+// Returns the address of the member at this place, as its line has it.
 fn member_at(text: &[u8], place: usize) -> Option<&[u8]> {
     let mut left = place;
     for line in text.split(|byte| *byte == b'\n') {
@@ -130,7 +130,8 @@ fn ids_clash(text: &[u8], first: usize, second: usize) -> Cause {
     cause
 }
 
-/// Says of a fault of this text what was found and what is allowed. It says nothing of a fault whose text says all.
+/// Returns what was found and what is allowed, for a fault of this text. Returns nothing for a fault whose text says
+/// all.
 pub fn bad_configuration(text: &[u8], fault: ConfFault) -> Option<Cause> {
     match fault {
         ConfFault::TooLarge => Some(too_large(text)),

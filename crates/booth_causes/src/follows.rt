@@ -1,4 +1,4 @@
-//! Why a ticket is not followed: what was asked for, and what is allowed.
+//! Why a ticket is not followed: the values in the arguments, and what is allowed.
 
 use crate::cause::Cause;
 use crate::members::{put_tickets, sites_of};
@@ -10,7 +10,7 @@ use booth_following::FollowFault;
 /// How long a list and a renewal may take, in milliseconds.
 const SLACK: u64 = 2_000;
 
-/// The ticket of this name.
+/// Returns the ticket with this name.
 pub(crate) fn ticket_in<'a>(config: &'a Config, name: &Name) -> Option<&'a TicketConf> {
     match config.ticket(name) {
         Some(place) => config.tickets().get(place),
@@ -24,7 +24,7 @@ fn tickets_of(path: &str, config: &Config) -> Cause {
     cause
 }
 
-/// The times of a follower in milliseconds: those that are given, or the defaults.
+/// The times of a follower in milliseconds: those in the arguments, or the defaults.
 #[derive(Clone, Copy)]
 struct ChosenTimes {
     margin: u64,
@@ -68,8 +68,8 @@ fn bad_kill(asked: &FollowWords, ticket: &TicketConf) -> Cause {
     cause
 }
 
-/// Says why a ticket of this configuration is not followed as it was asked for, whose fault is this. It says nothing of
-/// a manual one, whose text says all.
+/// Returns why a ticket of this configuration is not followed with these arguments, for this fault. Returns nothing
+/// for a manual ticket, whose text says all.
 pub fn not_followed(asked: &FollowWords, config: &Config, fault: FollowFault) -> Option<Cause> {
     let path = asked.conf.as_str();
     let ticket = ticket_in(config, &asked.ticket);

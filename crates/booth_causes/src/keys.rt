@@ -15,7 +15,7 @@ fn is_blank(byte: u8) -> bool {
     matches!(byte, 0x09..=0x0D | 0x20)
 }
 
-// How many bytes a file has without the blanks around a key that is plain text.
+// Returns how many bytes a file has without the blanks around a key in plain text.
 fn count_of(bytes: &[u8]) -> usize {
     if !is_plain(bytes) {
         return bytes.len();
@@ -41,7 +41,7 @@ fn refuse(path: &str, bytes: &[u8], fault: KeyFault) -> Cause {
     cause
 }
 
-/// Says why the bytes of the file at this path are no key; nothing if they are one.
+/// Returns why the bytes of the file at this path are not a key; nothing if they are one.
 pub fn bad_key(path: &str, bytes: &[u8]) -> Option<Cause>
     ensures { MatchOption result (IsOk (key_read bytes.now)) (λ _. IsErr (key_read bytes.now)) }
 {

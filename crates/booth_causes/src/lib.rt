@@ -13,10 +13,10 @@ mod times;
 mod values;
 mod words;
 
-pub use arguments::{bad_address, bad_argument};
+pub use arguments::{bad_address, bad_argument, two_tickets};
 pub use cause::Cause;
 pub use configuration::bad_configuration;
 pub use follows::not_followed;
 pub use keys::bad_key;
 pub use members::{members_of, sites_of};
-pub use refusals::{Answer, Refused, Request, refusal};
+pub use refusals::{Answer, Refused, Request, older_daemon, refusal};

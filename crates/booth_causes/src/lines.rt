@@ -1,6 +1,6 @@
-//! The lines of a configuration's text: their keys and values, as far as these need no reader.
+//! The lines of a configuration's text: their keys and values, as far as no reader is needed.
 
-/// The line of this number, which counts from 1, without blanks around it.
+/// Returns the line with this number, counted from 1, without blanks around it.
 pub(crate) fn line_at(text: &[u8], number: u32) -> Option<&[u8]> {
     let mut left = number;
     for line in text.split(|byte| *byte == b'\n') {
@@ -16,7 +16,7 @@ fn up_to(bytes: &[u8], end: usize) -> &[u8] {
     bytes.get(..end).unwrap_or(bytes)
 }
 
-/// What stands before the first `=` of a line, without blanks around it.
+/// Returns the bytes before the first `=` of a line, without blanks around them.
 pub(crate) fn key_in(line: &[u8]) -> &[u8] {
     match line.iter().position(|byte| *byte == b'=') {
         Some(place) => up_to(line, place).trim_ascii(),
@@ -24,7 +24,7 @@ pub(crate) fn key_in(line: &[u8]) -> &[u8] {
     }
 }
 
-// What stands behind the first `=` of a line, without blanks around it.
+// Returns the bytes after the first `=` of a line, without blanks around them.
 fn behind_key(line: &[u8]) -> &[u8] {
     match line.iter().position(|byte| *byte == b'=') {
         Some(place) => line
@@ -49,7 +49,7 @@ fn before_blank(value: &[u8]) -> &[u8] {
     }
 }
 
-/// The value of a line without its quotes, or up to the first blank if it has none.
+/// Returns the value of a line without its quotes, or up to the first blank if it has none.
 pub(crate) fn value_in(line: &[u8]) -> &[u8] {
     match behind_key(line) {
         [b'"', value @ ..] => before_quote(value, b'"'),
@@ -58,7 +58,7 @@ pub(crate) fn value_in(line: &[u8]) -> &[u8] {
     }
 }
 
-/// Whether these bytes are this text.
+/// Returns whether these bytes are this text.
 pub(crate) fn is(bytes: &[u8], text: &str) -> bool {
     bytes == text.as_bytes()
 }

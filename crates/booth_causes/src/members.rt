@@ -1,12 +1,12 @@
-//! The members, the sites and the tickets of a configuration, as a line has them.
+//! The members, the sites and the tickets of a configuration, for a line.
 
 use crate::cause::Cause;
 use booth_conf::{Config, Member};
 
-/// The most tickets that a line names.
+/// The most tickets in a line.
 const NAMED: usize = 8;
 
-// What stands behind one of a list, of which so many are left.
+// Returns the text after an element of a list, if this many elements are left.
 fn separator(left: usize) -> &'static str {
     match left {
         0 => "",
@@ -31,7 +31,7 @@ fn put_addresses(cause: &mut Cause, members: &[Member], is_site: bool) {
     }
 }
 
-/// Lists the members of the configuration at this path.
+/// Returns the members of the configuration at this path.
 pub fn members_of(path: &str, config: &Config) -> Cause {
     let mut cause = Cause::new();
     cause.put("members of ");
@@ -41,7 +41,7 @@ pub fn members_of(path: &str, config: &Config) -> Cause {
     cause
 }
 
-/// Lists the sites of the configuration at this path.
+/// Returns the sites of the configuration at this path.
 pub fn sites_of(path: &str, config: &Config) -> Cause {
     let mut cause = Cause::new();
     cause.put("sites of ");

@@ -1,4 +1,4 @@
-//! Why a member refused a request, as far as its answer and this machine's configuration say.
+//! Why a member refused a request, as far as its answer and this machine's configuration show.
 
 use crate::cause::Cause;
 use crate::follows::ticket_in;
@@ -8,24 +8,26 @@ use booth_conf::{Config, GrantKind, Prereq, TicketConf};
 use booth_wire::results;
 use std::str;
 
-/// What was asked for.
+/// The kind of a request.
 #[derive(Clone, Copy)]
 pub enum Request {
-    /// That a site acquires the ticket; at once, although another site is known to have it.
+    /// A grant of the ticket to a site; `immediate`: although another site is known to have it.
     Grant { immediate: bool },
-    /// That the ticket is given back.
+    /// A revocation of the ticket.
     Revoke,
-    /// Something of the ticket's attributes.
+    /// A request about the ticket's attributes.
     Attribute,
+    /// The holder, the term and the time left of the ticket.
+    Show,
 }
 
-/// What a member answered.
+/// The answer of a member.
 #[derive(Clone, Copy)]
 pub struct Answer {
     pub member: Address,
-    /// The holder that it names.
+    /// The holder in it.
     pub holder: Option<Address>,
-    /// How many seconds the holder's lease runs still.
+    /// How many seconds of the holder's lease are left.
     pub seconds: u32,
 }
 
@@ -37,12 +39,12 @@ pub struct Refused<'a> {
     pub path: &'a str,
     pub request: Request,
     pub ticket: &'a Name,
-    /// The attribute that was asked for.
+    /// The attribute in the request.
     pub attribute: Option<&'a Name>,
     pub answer: Answer,
 }
 
-// The name by which systemd knows the daemon of the configuration at this path.
+// Returns the name of the daemon's unit for the configuration at this path.
 fn unit_of(path: &str) -> Option<&str> {
     let name = path.strip_prefix("/etc/booth/")?;
     if name.contains('/') {
@@ -51,7 +53,7 @@ fn unit_of(path: &str) -> Option<&str> {
     name.strip_suffix(".conf")
 }
 
-// Where the daemon says why.
+// Appends where the daemon's log is.
 fn put_log(cause: &mut Cause, path: &str) {
     match unit_of(path) {
         Some(name) => {
@@ -74,7 +76,7 @@ fn is_manual(refused: &Refused<'_>) -> bool {
     }
 }
 
-// The start of a cause with the member that answered.
+// Returns the start of a cause with the member that answered.
 fn of_member(refused: &Refused<'_>, text: &str) -> Cause {
     let mut cause = Cause::new();
     cause.put_address(&refused.answer.member);
@@ -82,13 +84,14 @@ fn of_member(refused: &Refused<'_>, text: &str) -> Cause {
     cause
 }
 
-// A time in whole seconds, rounded up.
+// Appends a time in whole seconds, rounded up.
 fn put_whole_seconds(cause: &mut Cause, time: u64) {
     cause.put_number(time.saturating_add(999) / 1000);
     cause.put(" s");
 }
 
-// How long a member without a record agrees to nothing, in milliseconds: RECORDS.md, "The silence after a first start".
+// Returns how long a member without a record takes part in no grant, in milliseconds (RECORDS.md,
+// "The silence after a first start").
 fn silence(times: &Times) -> u64 {
     let guard = (times.expire.saturating_mul(2) / 999).saturating_add(2);
     times
@@ -132,7 +135,7 @@ fn failed(refused: &Refused<'_>) -> Cause {
     match (refused.request, ticket_of(refused)) {
         (Request::Revoke, _) => failed_revoke(refused),
         (Request::Grant { .. }, Some(ticket)) if !ticket.manual => no_majority(refused, ticket),
-        (Request::Grant { .. } | Request::Attribute, _) => {
+        (Request::Grant { .. } | Request::Attribute | Request::Show, _) => {
             let mut cause = of_member(refused, " could not do it: ");
             put_log(&mut cause, refused.path);
             cause
@@ -140,7 +143,7 @@ fn failed(refused: &Refused<'_>) -> Cause {
     }
 }
 
-// Whether the member that answered is an arbitrator by this configuration.
+// Returns whether the member that answered is an arbitrator by this configuration.
 fn is_arbitrator(refused: &Refused<'_>) -> bool {
     for member in refused.config.members() {
         if member.address == refused.answer.member {
@@ -153,7 +156,7 @@ fn is_arbitrator(refused: &Refused<'_>) -> bool {
 fn is_forced(refused: &Refused<'_>) -> bool {
     match refused.request {
         Request::Grant { immediate } => immediate,
-        Request::Revoke | Request::Attribute => false,
+        Request::Revoke | Request::Attribute | Request::Show => false,
     }
 }
 
@@ -180,7 +183,7 @@ fn no_ticket(refused: &Refused<'_>) -> Cause {
 }
 
 fn invalid(refused: &Refused<'_>) -> Cause {
-    if is_arbitrator(refused) && !matches!(refused.request, Request::Revoke) {
+    if is_arbitrator(refused) && !matches!(refused.request, Request::Revoke | Request::Show) {
         return of_member(
             refused,
             " is an arbitrator, which holds no ticket and has no attributes: name a site with -s",
@@ -273,6 +276,7 @@ fn busy(refused: &Refused<'_>) -> Cause {
         Request::Revoke => " acquires it, or its lease has just ended: try again later",
         Request::Attribute =>
             " has 64 attributes of the ticket already, or 512 of all tickets: delete one",
+        Request::Show => " has no time for it: try again later",
     };
     of_member(refused, text)
 }
@@ -288,8 +292,19 @@ fn owned_elsewhere(refused: &Refused<'_>) -> Option<Cause> {
     Some(cause)
 }
 
-/// Says why a request was refused with this result, as far as it is known. It says nothing of a result whose text says
-/// all.
+/// Returns why the member at this address may not have answered a request for one ticket.
+pub fn older_daemon(member: &Address) -> Cause {
+    let mut cause = Cause::new();
+    cause.put("if booth list -s ");
+    cause.put_address(member);
+    cause.put(
+        " is answered, the daemon there is of an older version, which does not answer booth show",
+    );
+    cause
+}
+
+/// Returns why a request was refused with this result, as far as it is known. Returns nothing for a result whose text
+/// says all.
 pub fn refusal(refused: &Refused<'_>, code: u32) -> Option<Cause> {
     match code {
         results::FAIL => Some(failed(refused)),

@@ -1,5 +1,5 @@
-//! The times of a ticket in a text that says no configuration: those of its own lines, or of the defaults, or of the
-//! table in booth.conf(5).
+//! The times of a ticket in a text that is not a configuration: those in its own lines, in the defaults, or in the
+//! table of booth.conf(5).
 
 use crate::cause::Cause;
 use crate::lines::{is, key_in, value_in};
@@ -12,7 +12,7 @@ const TIMEOUT: u64 = 5;
 
 const RETRIES: u64 = 10;
 
-/// What lines say of a ticket's times, in seconds.
+/// The times of a ticket in lines, in seconds.
 #[derive(Clone, Copy)]
 struct Said {
     expire: Option<u64>,
@@ -28,11 +28,11 @@ const NOTHING: Said = Said {
     renewal: None,
 };
 
-/// The section of a text in which a line stands.
+/// The section of a text that has a line.
 #[derive(Clone, Copy)]
 enum Section {
     Defaults,
-    /// The ticket that is looked for.
+    /// The wanted ticket.
     Own,
     Other,
 }
@@ -59,7 +59,7 @@ impl Said {
         }
     }
 
-    // With those of the defaults for what is not said.
+    // Returns these times, and those of the defaults for what is missing.
     fn or(self, defaults: Said) -> Said {
         Said {
             expire: self.expire.or(defaults.expire),
@@ -69,12 +69,12 @@ impl Said {
         }
     }
 
-    // In milliseconds.
+    // Returns the time in milliseconds.
     fn expire_ms(&self) -> u64 {
         self.expire.unwrap_or(EXPIRE).saturating_mul(1000)
     }
 
-    // In milliseconds: half of `expire` if it is not said.
+    // Returns the time in milliseconds: half of `expire` if it is missing.
     fn renewal_ms(&self) -> u64 {
         match self.renewal {
             Some(seconds) => seconds.saturating_mul(1000),
@@ -83,7 +83,7 @@ impl Said {
     }
 }
 
-// The section behind a `ticket` line, of which so many are passed over before the one that is looked for.
+// Returns the section after a `ticket` line, if this many are passed before the wanted one.
 fn section_of(line: &[u8], left: usize) -> Section {
     if is(value_in(line), "__default__") {
         Section::Defaults
@@ -94,7 +94,7 @@ fn section_of(line: &[u8], left: usize) -> Section {
     }
 }
 
-// What a text says of the times of the ticket at this place, which counts from 0 without the defaults.
+// Returns the times of the ticket at this place, which is counted from 0 without the defaults.
 fn said_of(text: &[u8], place: usize) -> Said {
     let mut own = NOTHING;
     let mut defaults = NOTHING;
@@ -119,7 +119,7 @@ fn said_of(text: &[u8], place: usize) -> Said {
     own.or(defaults)
 }
 
-/// Says of the ticket at this place that it is renewed too late.
+/// Returns that the ticket at this place is renewed too late.
 pub(crate) fn late_renewal(text: &[u8], place: usize) -> Cause {
     let said = said_of(text, place);
     let mut cause = Cause::new();
@@ -130,7 +130,7 @@ pub(crate) fn late_renewal(text: &[u8], place: usize) -> Cause {
     cause
 }
 
-/// Says of the ticket at this place that its tries take too long.
+/// Returns that the tries of the ticket at this place take too long.
 pub(crate) fn late_tries(text: &[u8], place: usize) -> Cause {
     let said = said_of(text, place);
     let retries = said.retries.unwrap_or(RETRIES);

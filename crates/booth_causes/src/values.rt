@@ -1,4 +1,4 @@
-//! What the value of each key of a configuration may be, as booth.conf(5) has it.
+//! What values are allowed for each key of a configuration, as in booth.conf(5).
 
 use booth_conf::ConfKey;
 
@@ -11,7 +11,7 @@ const PATH: &str = "a path of 1 to 255 bytes";
 
 const TEXT: &str = "a text of at most 255 bytes";
 
-/// What the value of this key may be.
+/// Returns what values are allowed for this key.
 pub(crate) fn allowed(key: ConfKey) -> &'static str {
     match key {
         ConfKey::Port => "a whole number from 1 to 65535",

@@ -1,6 +1,6 @@
 //! The arguments of a command line: the values of options by their letters, and the others by their places.
 
-// Whether an option of this letter has a value.
+// Returns whether an option with this letter has a value.
 fn has_value(letter: u8) -> bool {
     matches!(
         letter,
@@ -12,7 +12,7 @@ fn is_option(word: &str) -> bool {
     word.starts_with('-') && word != "-"
 }
 
-// Whether this is the letter of an option alone, whose value is the next argument.
+// Returns whether this is the letter of an option alone, whose value is the next argument.
 fn awaits_value(word: &str) -> bool {
     match word.as_bytes() {
         [b'-', letter] => has_value(*letter),
@@ -20,13 +20,13 @@ fn awaits_value(word: &str) -> bool {
     }
 }
 
-// What stands behind the letter of an option in this argument, if it begins with that option.
+// Returns what follows the letter of an option in this argument, if it begins with that option.
 fn behind_letter(word: &str, letter: char) -> Option<&str> {
     let behind = word.strip_prefix('-')?;
     behind.strip_prefix(letter)
 }
 
-/// Returns the value of the first option of this letter, among arguments without the command.
+/// Returns the value of the first option with this letter, among arguments without the command.
 pub(crate) fn option(words: &[String], letter: char) -> Option<&str> {
     let mut is_next = false;
     for word in words {

@@ -50,6 +50,7 @@ has_service t read needed is = record {
 
 pub has_words : (verb : Verb) (t : Texts) (read : Read) → HasNeeded verb t → IsRead t read → HasWords verb read
 has_words verbs.Daemon t read needed is = has_address t.site read.site is.site needed
+has_words verbs.Show t read needed is = has_name t.ticket read.ticket is.ticket needed
 has_words verbs.Grant t read needed is = has_name t.ticket read.ticket is.ticket needed
 has_words verbs.Revoke t read needed is = has_name t.ticket read.ticket is.ticket needed
 has_words verbs.Move t read needed is = (has_name t.ticket read.ticket is.ticket needed.0, has_address t.target read.target is.target needed.1)
@@ -63,6 +64,7 @@ has_words verbs.Simulate t read needed is = tt
 has_words verbs.Audit t read needed is = tt
 has_words verbs.List t read needed is = tt
 has_words verbs.Peers t read needed is = tt
+has_words verbs.DaemonStatus t read needed is = tt
 
 -- ---- whose command it is
 
@@ -72,7 +74,9 @@ owner verbs.Status = Boothd
 owner verbs.Simulate = Boothd
 owner verbs.Audit = Boothd
 owner verbs.List = Booth
+owner verbs.Show = Booth
 owner verbs.Peers = Booth
+owner verbs.DaemonStatus = Booth
 owner verbs.Grant = Booth
 owner verbs.Revoke = Booth
 owner verbs.Move = Booth
@@ -93,14 +97,17 @@ daemons false false true d verb h = same_owner verbs.Simulate verb h
 daemons false false false true verb h = same_owner verbs.Audit verb h
 daemons false false false false verb h = absurd cc
 
-clients : (a b c d e : Bool) (verb : Verb) →
-    cond a (Some verbs.List) (cond b (Some verbs.Peers) (cond c (Some verbs.Grant) (cond d (Some verbs.Revoke) (cond e (Some verbs.Move) None)))) ≡ Some verb → Booth ≡ owner verb
-clients true b c d e verb h = same_owner verbs.List verb h
-clients false true c d e verb h = same_owner verbs.Peers verb h
-clients false false true d e verb h = same_owner verbs.Grant verb h
-clients false false false true e verb h = same_owner verbs.Revoke verb h
-clients false false false false true verb h = same_owner verbs.Move verb h
-clients false false false false false verb h = absurd cc
+clients : (a b c d e f g : Bool) (verb : Verb) →
+    cond a (Some verbs.List) (cond b (Some verbs.Show) (cond c (Some verbs.Peers) (cond d (Some verbs.DaemonStatus)
+    (cond e (Some verbs.Grant) (cond f (Some verbs.Revoke) (cond g (Some verbs.Move) None)))))) ≡ Some verb → Booth ≡ owner verb
+clients true b c d e f g verb h = same_owner verbs.List verb h
+clients false true c d e f g verb h = same_owner verbs.Show verb h
+clients false false true d e f g verb h = same_owner verbs.Peers verb h
+clients false false false true e f g verb h = same_owner verbs.DaemonStatus verb h
+clients false false false false true f g verb h = same_owner verbs.Grant verb h
+clients false false false false false true g verb h = same_owner verbs.Revoke verb h
+clients false false false false false false true verb h = same_owner verbs.Move verb h
+clients false false false false false false false verb h = absurd cc
 
 attributes : (a b c d : Bool) (verb : Verb) →
     cond a (Some verbs.SetAttribute) (cond b (Some verbs.GetAttribute) (cond c (Some verbs.DeleteAttribute) (cond d (Some verbs.ListAttributes) None)))
@@ -115,7 +122,7 @@ attributes false false false false verb h = absurd cc
 owned : (program : Program) (words : List (List ℕ)) (verb : Verb) → verb_in program words ≡ Some verb → program ≡ owner verb
 owned program [] verb named = absurd cc
 owned Boothd (word ∷ words) verb named = daemons _ _ _ _ verb named
-owned Booth (word ∷ words) verb named = clients _ _ _ _ _ verb named
+owned Booth (word ∷ words) verb named = clients _ _ _ _ _ _ _ verb named
 owned Geostore (word ∷ words) verb named = attributes _ _ _ _ verb named
 owned BoothFollow (word ∷ words) verb named = same_owner verbs.Follow verb named
 
@@ -126,7 +133,9 @@ owns_client verbs.Status read asked is = is.order
 owns_client verbs.Simulate read asked is = is.order
 owns_client verbs.Audit read asked is = is.order
 owns_client verbs.List read asked is = tt
+owns_client verbs.Show read asked is = tt
 owns_client verbs.Peers read asked is = tt
+owns_client verbs.DaemonStatus read asked is = tt
 owns_client verbs.Grant read asked is = tt
 owns_client verbs.Revoke read asked is = tt
 owns_client verbs.Move read asked is = tt
@@ -148,7 +157,9 @@ asked_by program words verbs.Status read (Client asked) taken is = client_asked 
 asked_by program words verbs.Simulate read (Client asked) taken is = client_asked program words verbs.Simulate read asked taken is
 asked_by program words verbs.Audit read (Client asked) taken is = client_asked program words verbs.Audit read asked taken is
 asked_by program words verbs.List read (Client asked) taken is = client_asked program words verbs.List read asked taken is
+asked_by program words verbs.Show read (Client asked) taken is = client_asked program words verbs.Show read asked taken is
 asked_by program words verbs.Peers read (Client asked) taken is = client_asked program words verbs.Peers read asked taken is
+asked_by program words verbs.DaemonStatus read (Client asked) taken is = client_asked program words verbs.DaemonStatus read asked taken is
 asked_by program words verbs.Grant read (Client asked) taken is = client_asked program words verbs.Grant read asked taken is
 asked_by program words verbs.Revoke read (Client asked) taken is = client_asked program words verbs.Revoke read asked taken is
 asked_by program words verbs.Move read (Client asked) taken is = client_asked program words verbs.Move read asked taken is
@@ -220,7 +231,9 @@ is_client verbs.Status read asked is = is
 is_client verbs.Simulate read asked is = is
 is_client verbs.Audit read asked is = is
 is_client verbs.List read asked is = is
+is_client verbs.Show read asked is = is
 is_client verbs.Peers read asked is = is
+is_client verbs.DaemonStatus read asked is = is
 is_client verbs.Grant read asked is = is
 is_client verbs.Revoke read asked is = is
 is_client verbs.Move read asked is = is

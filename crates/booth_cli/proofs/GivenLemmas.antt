@@ -26,7 +26,9 @@ simple verbs.Status = refl
 simple verbs.Simulate = refl
 simple verbs.Audit = refl
 simple verbs.List = refl
+simple verbs.Show = refl
 simple verbs.Peers = refl
+simple verbs.DaemonStatus = refl
 simple verbs.Grant = refl
 simple verbs.Revoke = refl
 simple verbs.Move = refl
@@ -42,7 +44,9 @@ simple_and_free verbs.Status = refl
 simple_and_free verbs.Simulate = refl
 simple_and_free verbs.Audit = refl
 simple_and_free verbs.List = refl
+simple_and_free verbs.Show = refl
 simple_and_free verbs.Peers = refl
+simple_and_free verbs.DaemonStatus = refl
 simple_and_free verbs.Grant = refl
 simple_and_free verbs.Revoke = refl
 simple_and_free verbs.Move = refl
@@ -78,8 +82,9 @@ pub texts_are : (m : ArgMatches) (rows : List Row) (g : Given) → rows_of (foun
     option_map (λ (t : Bor (List ℕ)). t.now) g.margin ≡ first_value (found_of m) (codes "margin") →
     option_map (λ (t : Bor (List ℕ)). t.now) g.kill ≡ first_value (found_of m) (codes "kill") →
     g.wait ≡ is_set (first_value (found_of m) (codes "wait")) → g.commit ≡ is_set (first_value (found_of m) (codes "commit")) →
-    g.immediate ≡ is_set (first_value (found_of m) (codes "immediate")) → g.force ≡ is_set (first_value (found_of m) (codes "force")) → g.matches ≡ m → texts_of g ≡ texts_in rows
-texts_are m rows g same ticket name value site turns events number lock records conf target program margin kill wait commit immediate force matches =
+    g.immediate ≡ is_set (first_value (found_of m) (codes "immediate")) → g.force ≡ is_set (first_value (found_of m) (codes "force")) →
+    g.json ≡ is_set (first_value (found_of m) (codes "json")) → g.matches ≡ m → texts_of g ≡ texts_in rows
+texts_are m rows g same ticket name value site turns events number lock records conf target program margin kill wait commit immediate force json matches =
     rw (
       ticket,
       name,
@@ -99,6 +104,7 @@ texts_are m rows g same ticket name value site turns events number lock records 
       commit,
       immediate,
       force,
+      json,
       matches,
       values_are m rows (codes "journal") same,
       value_is m rows (codes "ticket") same,
@@ -119,6 +125,7 @@ texts_are m rows g same ticket name value site turns events number lock records 
       value_is m rows (codes "commit") same,
       value_is m rows (codes "immediate") same,
       value_is m rows (codes "force") same,
+      value_is m rows (codes "json") same,
     ) refl
 
 module _ (cmd : Command) (m : ArgMatches) (parsed : IsParsedFrom cmd m) where
@@ -135,6 +142,18 @@ module _ (cmd : Command) (m : ArgMatches) (parsed : IsParsedFrom cmd m) where
   daemon_site : app_of cmd ≡ app_for verbs.Daemon → is_some (first_value (found_of m) (codes "site")) ≡ true
   unfolding is_only_at
   daemon_site is = value_of (app_for verbs.Daemon) 1 (codes "site") is refl refl refl (record {
+    there = omega arith;
+    named = λ e. refl;
+    required = λ e. refl;
+    set = λ e. refl;
+    least = λ e. omega arith;
+    only = refl;
+    own = refl;
+  })
+
+  show_ticket : app_of cmd ≡ app_for verbs.Show → is_some (first_value (found_of m) (codes "ticket")) ≡ true
+  unfolding is_only_at
+  show_ticket is = value_of (app_for verbs.Show) 2 (codes "ticket") is refl refl refl (record {
     there = omega arith;
     named = λ e. refl;
     required = λ e. refl;
@@ -333,6 +352,7 @@ module _ (cmd : Command) (m : ArgMatches) (parsed : IsParsedFrom cmd m) where
       option_map (λ (t : Bor (List ℕ)). t.now) g.target ≡ first_value (found_of m) (codes "target") →
       option_map (λ (t : Bor (List ℕ)). t.now) g.program ≡ first_value (found_of m) (codes "program") → HasNeeded verb (texts_of g)
   has_needed verbs.Daemon g is ticket name value site target program = ap is_some site ∙ daemon_site is
+  has_needed verbs.Show g is ticket name value site target program = ap is_some ticket ∙ show_ticket is
   has_needed verbs.Grant g is ticket name value site target program = ap is_some ticket ∙ grant_ticket is
   has_needed verbs.Revoke g is ticket name value site target program = ap is_some ticket ∙ revoke_ticket is
   has_needed verbs.Move g is ticket name value site target program = (ap is_some ticket ∙ move_ticket is, ap is_some target ∙ move_target is)
@@ -348,5 +368,6 @@ module _ (cmd : Command) (m : ArgMatches) (parsed : IsParsedFrom cmd m) where
   has_needed verbs.Audit g is ticket name value site target program = tt
   has_needed verbs.List g is ticket name value site target program = tt
   has_needed verbs.Peers g is ticket name value site target program = tt
+  has_needed verbs.DaemonStatus g is ticket name value site target program = tt
   has_needed verbs.Follow g is ticket name value site target program =
       record { ticket = ap is_some ticket ∙ follow_ticket is; site = ap is_some site ∙ follow_site is; program = ap is_some program ∙ follow_program is }

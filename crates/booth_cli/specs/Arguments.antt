@@ -1,4 +1,4 @@
--- Arguments as the code lists them, and the rules of `clap` that they stand for.
+-- Arguments as the code lists them, and the rules of `clap` for them.
 use Rattle.std.specs.Prelude.{ℕ, true, List, Some}
 use Rattle.clap.specs.Words.{Rule, new_rule}
 use Rattle.clap.specs.declared.builder.action.ArgAction.TheVariants.{Set}
@@ -16,7 +16,7 @@ valued id = record (new_rule id) { action = Some Set; value_names = 1 }
 abbrev pub words : List ℕ → Rule
 words id = record (word id) { range = Some (record { start_inclusive = 1; end_inclusive = MOST_JOURNALS }) }
 
--- the rule of an argument of this name and form
+-- the rule of an argument with this name and form
 abbrev pub rule_in : List ℕ → Form → Rule
 rule_in id Word = word id
 rule_in id Words = words id

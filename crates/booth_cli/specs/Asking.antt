@@ -1,4 +1,4 @@
--- What the words ask for, or why they ask for nothing.
+-- The request of a command line, or why it has none.
 use Rattle.std.specs.Prelude.{◌≡◌, ℕ, Bool, true, false, T, List, [], Option, Some, None, is_some, Result, Ok, Err, if◌then◌else◌}
 use Rattle.clap.specs.Words.{IsAmong, fault_of, kind_of, takes}
 use Rattle.clap.specs.declared.error.kind.ErrorKind.{ErrorKind}
@@ -19,19 +19,21 @@ use Rattle.booth_cli.specs.declared.program.Program.{Program}
 use Rattle.booth_cli.specs.declared.program.Program.TheVariants.{Boothd, Booth, Geostore, BoothFollow}
 use Rattle.booth_talk.specs.declared.order.Order.{Order}
 use Rattle.booth_talk.specs.declared.order.Order.TheVariants as orders
+use Rattle.booth_talk.specs.declared.order.Style.{Style}
+use Rattle.booth_talk.specs.declared.order.Style.TheVariants.{Line, Json}
 use Rattle.booth_cli.specs.declared.asking.Refusal.{Refusal}
 use Rattle.booth_cli.specs.declared.asking.Refusal.TheVariants.{NoCommand, Untaken, Bad}
 use Rattle.booth_cli.specs.Commands.{app_for, verb_in}
 use Rattle.booth_cli.specs.Given.{found_in}
 use Rattle.booth_cli.specs.Reading.{IsFirstRefused, IsRead}
 
--- words that a program's command takes, each of which its reader accepts, and what they say
+-- arguments that a program's command accepts, each accepted by its reader, and their meaning
 pub record AreTaken (program : Program) (words : List (List ℕ)) (verb : Verb) (read : Read) : Type 0 where
   pub named : verb_in program words ≡ Some verb
   pub taken : fault_of (app_for verb) words ≡ []
   pub says : IsRead (found_in verb words) read
 
--- what was read says this of a daemon
+-- the meaning for a daemon
 pub record IsDaemonOf (read : Read) (asked : DaemonWords) : Type 0 where
   pub site : read.site ≡ Some asked.site
   pub turns : asked.turns ≡ read.turns
@@ -39,40 +41,40 @@ pub record IsDaemonOf (read : Read) (asked : DaemonWords) : Type 0 where
   pub records : asked.records ≡ read.records
   pub conf : asked.conf ≡ read.conf
 
--- the words ask for this daemon
+-- the arguments are those of this daemon
 pub record AsksDaemon (words : List (List ℕ)) (asked : DaemonWords) : Type 0 where
   pub all : Read
   pub asks : AreTaken Boothd words verbs.Daemon all
   pub same : IsDaemonOf all asked
 
--- the path of a configuration that words name
+-- the path of the configuration in the arguments
 abbrev pub named_conf : Bool → List ℕ → Option (List ℕ)
 named_conf names conf = if names then Some conf else None
 
--- what was read says this of a simulation
+-- the meaning for a simulation
 pub record IsSimulationOf (read : Read) (asked : SimulationWords) : Type 0 where
   pub conf : asked.conf ≡ named_conf read.names_conf read.conf
   pub events : asked.events ≡ read.events
   pub number : asked.number ≡ read.number
 
--- the words ask for this simulation
+-- the arguments are those of this simulation
 pub record AsksSimulation (words : List (List ℕ)) (asked : SimulationWords) : Type 0 where
   pub all : Read
   pub asks : AreTaken Boothd words verbs.Simulate all
   pub same : IsSimulationOf all asked
 
--- what was read says this of an audit
+-- the meaning for an audit
 pub record IsAuditOf (read : Read) (asked : AuditWords) : Type 0 where
   pub conf : asked.conf ≡ read.conf
   pub journals : asked.journals.items ≡ read.journals.items
 
--- the words ask for this audit
+-- the arguments are those of this audit
 pub record AsksAudit (words : List (List ℕ)) (asked : AuditWords) : Type 0 where
   pub all : Read
   pub asks : AreTaken Boothd words verbs.Audit all
   pub same : IsAuditOf all asked
 
--- the words ask whether the daemon of this lock runs
+-- the arguments ask whether the daemon with this lock runs
 pub record AsksStatus (words : List (List ℕ)) (lock : List ℕ) : Type 0 where
   pub all : Read
   pub asks : AreTaken Boothd words verbs.Status all
@@ -83,10 +85,16 @@ pub record Names (read : Read) (ticket name : List ℕ) : Type 0 where
   pub of_ticket : read.ticket ≡ Some ticket
   pub named : read.name ≡ Some name
 
+-- the form of the output for one ticket
+abbrev pub style_of : Bool → Style
+style_of json = if json then Json else Line
+
 -- the order of a client's command
 abbrev pub HasOrder : Verb → Read → Order → Type 0
 HasOrder verbs.List read orders.List = Unit {0}
+HasOrder verbs.Show read (orders.Show ticket style) = (read.ticket ≡ Some ticket) × (style ≡ style_of read.json)
 HasOrder verbs.Peers read orders.Peers = Unit {0}
+HasOrder verbs.DaemonStatus read orders.Status = Unit {0}
 HasOrder verbs.Grant read (orders.Grant ticket options) = (read.ticket ≡ Some ticket) × (options ≡ read.options)
 HasOrder verbs.Revoke read (orders.Revoke ticket options) = (read.ticket ≡ Some ticket) × (options ≡ read.options)
 HasOrder verbs.SetAttribute read (orders.SetAttribute ticket name value) =
@@ -96,13 +104,13 @@ HasOrder verbs.DeleteAttribute read (orders.DeleteAttribute ticket name) = Names
 HasOrder verbs.ListAttributes read (orders.ListAttributes ticket) = read.ticket ≡ Some ticket
 HasOrder verb read order = ⊥
 
--- what was read says this of a client
+-- the meaning for a client
 pub record IsClientOf (verb : Verb) (read : Read) (asked : ClientWords) : Type 0 where
   pub order : HasOrder verb read asked.order
   pub site : asked.site ≡ read.site
   pub conf : asked.conf ≡ read.conf
 
--- the program asks a daemon
+-- the program sends requests to a daemon
 abbrev pub is_client : Program → Bool
 is_client Booth = true
 is_client Geostore = true
@@ -111,14 +119,14 @@ is_client program = false
 abbrev pub IsClient : Program → Type 0
 IsClient program = T (is_client program)
 
--- the words ask for this client
+-- the arguments are those of this client
 pub record AsksClient (program : Program) (words : List (List ℕ)) (asked : ClientWords) : Type 0 where
   pub verb : Verb
   pub all : Read
   pub asks : AreTaken program words verb all
   pub same : IsClientOf verb all asked
 
--- what was read says this of a move
+-- the meaning for a move
 pub record IsMoveOf (read : Read) (asked : MoveWords) : Type 0 where
   pub of_ticket : read.ticket ≡ Some asked.ticket
   pub target : read.target ≡ Some asked.target
@@ -127,13 +135,13 @@ pub record IsMoveOf (read : Read) (asked : MoveWords) : Type 0 where
   pub site : asked.site ≡ read.site
   pub conf : asked.conf ≡ read.conf
 
--- the words ask for this move
+-- the arguments are those of this move
 pub record AsksMove (words : List (List ℕ)) (asked : MoveWords) : Type 0 where
   pub all : Read
   pub asks : AreTaken Booth words verbs.Move all
   pub same : IsMoveOf all asked
 
--- what was read says this of a service that follows its ticket
+-- the meaning for a service that follows its ticket
 pub record IsFollowOf (read : Read) (asked : FollowWords) : Type 0 where
   pub of_ticket : read.ticket ≡ Some asked.ticket
   pub site : read.site ≡ Some asked.site
@@ -143,30 +151,30 @@ pub record IsFollowOf (read : Read) (asked : FollowWords) : Type 0 where
   pub records : asked.records ≡ read.records
   pub conf : asked.conf ≡ read.conf
 
--- the words ask for this service
+-- the arguments are those of this service
 pub record AsksFollow (words : List (List ℕ)) (asked : FollowWords) : Type 0 where
   pub all : Read
   pub asks : AreTaken BoothFollow words verbs.Follow all
   pub same : IsFollowOf all asked
 
--- the first word is a command of the program; of `booth-follow` each is
+-- the first argument is a command of the program; `booth-follow` accepts any
 pub record NamesCommand (program : Program) (words : List (List ℕ)) : Type 0 where
   pub verb : Verb
   pub named : verb_in program words ≡ Some verb
 
--- the command does not take the words, and this kind of fault is one of theirs
+-- the command does not accept the arguments, and this kind of fault is one of theirs
 pub record IsUntaken (program : Program) (words : List (List ℕ)) (kind : ErrorKind) : Type 0 where
   pub verb : Verb
   pub named : verb_in program words ≡ Some verb
   pub among : IsAmong kind (fault_of (app_for verb) words)
   pub untaken : takes (app_for verb) words ≡ true → ⊥
 
--- the same, or want of memory, which may come at any words of a command
+-- the same, or out of memory, which is possible with any arguments of a command
 abbrev pub IsUntakenFor : Program → List (List ℕ) → ErrorKind → Type 0
 IsUntakenFor program words kinds.OutOfMemory = NamesCommand program words
 IsUntakenFor program words kind = IsUntaken program words kind
 
--- a command takes the words, and this is the first that its reader refuses
+-- a command accepts the arguments, and this is the first that its reader refuses
 pub record HasBadWord (program : Program) (words : List (List ℕ)) (word : Word) : Type 0 where
   pub verb : Verb
   pub named : verb_in program words ≡ Some verb
@@ -186,9 +194,10 @@ pub record ServiceRead (read : Read) : Type 0 where
   pub site : is_some read.site ≡ true
   pub program : is_some read.program ≡ true
 
--- the words that a command has to have were read
+-- the arguments that a command needs were read
 abbrev pub HasWords : Verb → Read → Type 0
 HasWords verbs.Daemon read = is_some read.site ≡ true
+HasWords verbs.Show read = is_some read.ticket ≡ true
 HasWords verbs.Grant read = is_some read.ticket ≡ true
 HasWords verbs.Revoke read = is_some read.ticket ≡ true
 HasWords verbs.Move read = (is_some read.ticket ≡ true) × (is_some read.target ≡ true)
@@ -199,11 +208,11 @@ HasWords verbs.ListAttributes read = is_some read.ticket ≡ true
 HasWords verbs.Follow read = ServiceRead read
 HasWords verb read = Unit {0}
 
--- what a client's words say, with its order
+-- the meaning of a client's arguments, with its order
 abbrev pub client_of : Order → Read → ClientWords
 client_of order read = record { order = order; site = read.site; conf = read.conf }
 
--- what a command asks for whose words were read
+-- the request of a command after its arguments were read
 abbrev pub IsAskedBy : Verb → Read → Asked → Type 0
 IsAskedBy verbs.Daemon read (Daemon asked) = IsDaemonOf read asked
 IsAskedBy verbs.Status read (Status lock) = lock ≡ read.lock
@@ -214,7 +223,7 @@ IsAskedBy verbs.Move read (Move asked) = IsMoveOf read asked
 IsAskedBy verbs.Follow read (Follow asked) = IsFollowOf read asked
 IsAskedBy verb read asked = ⊥
 
--- what the reader of words answers
+-- the result of reading the arguments
 abbrev pub Asks : Program → List (List ℕ) → Result Asked Refusal → Type 0
 Asks program words (Ok (Daemon asked)) = (program ≡ Boothd) × AsksDaemon words asked
 Asks program words (Ok (Status lock)) = (program ≡ Boothd) × AsksStatus words lock

@@ -1,4 +1,4 @@
--- The commands of the programs as `clap` knows them: which options each takes.
+-- The commands of the programs as `clap` has them: the options of each.
 use Rattle.std.specs.Prelude.{ℕ, true, List, [], ◌∷◌, Option, Some, None, codes, if◌then◌else◌}
 use Rattle.std.specs.Str.{bytes_eq}
 use Rattle.clap.specs.Words.{App, Rule, new_app, new_rule, with_rule}
@@ -9,40 +9,44 @@ use Rattle.booth_cli.specs.declared.command.Verb.TheVariants as verbs
 use Rattle.booth_cli.specs.declared.program.Program.{Program}
 use Rattle.booth_cli.specs.declared.program.Program.TheVariants.{Boothd, Booth, Geostore, BoothFollow}
 
--- an option of this letter, with one value
+-- an option with this letter and one value
 abbrev pub option : List ℕ → ℕ → Rule
 option id letter = record (new_rule id) { short = Some letter; action = Some Set; value_names = 1 }
 
--- an option that has to be there
+-- an option that is required
 abbrev pub needed : Rule → Rule
 needed rule = record rule { required = true }
 
--- an option of this letter, without a value
+-- an option with this letter, without a value
 abbrev pub flag : List ℕ → ℕ → Rule
 flag id letter = record (new_rule id) { short = Some letter; action = Some SetTrue }
 
--- the flag that has a move go on beside a follower
+-- the flag by which a move goes on although a follower runs here
 abbrev pub force : Rule
 force = record (flag (codes "force") 102) { long = Some (codes "force") }
 
--- a word by its place, which has to be there
+-- the flag for output as a JSON object
+abbrev pub json : Rule
+json = record (flag (codes "json") 106) { long = Some (codes "json") }
+
+-- an argument by its place, which is required
 abbrev pub word : List ℕ → Rule
 word id = needed (record (new_rule id) { action = Some Set; value_names = 1 })
 
--- the journals of an audit: words by their places, 1 at least
+-- the journals of an audit: arguments by their places, at least 1
 abbrev pub journals : Rule
 journals = record (word (codes "journal")) {
   range = Some (record { start_inclusive = 1; end_inclusive = MOST_JOURNALS });
 }
 
--- the ticket as an option, which has to be there
+-- the ticket as an option, which is required
 abbrev pub ticket_option : Rule
 ticket_option = needed (option (codes "ticket") 116)
 
 abbrev pub conf : Rule
 conf = option (codes "conf") 99
 
--- the daemon that a client asks
+-- the daemon that receives a client's request
 abbrev pub asked_site : Rule
 asked_site = option (codes "site") 115
 
@@ -59,7 +63,9 @@ name_for verbs.Status = codes "status"
 name_for verbs.Simulate = codes "sim"
 name_for verbs.Audit = codes "audit"
 name_for verbs.List = codes "list"
+name_for verbs.Show = codes "show"
 name_for verbs.Peers = codes "peers"
+name_for verbs.DaemonStatus = codes "status"
 name_for verbs.Grant = codes "grant"
 name_for verbs.Revoke = codes "revoke"
 name_for verbs.Move = codes "move"
@@ -69,7 +75,7 @@ name_for verbs.DeleteAttribute = codes "delete"
 name_for verbs.ListAttributes = codes "list"
 name_for verbs.Follow = codes "booth-follow"
 
--- the options and words of a command, in their order
+-- the options and arguments of a command, in their order
 abbrev pub rules_for : Verb → List Rule
 rules_for verbs.Daemon =
     conf ∷ own_site ∷ option (codes "lock") 108 ∷ option (codes "records") 100 ∷ option (codes "turns") 110 ∷ []
@@ -77,7 +83,9 @@ rules_for verbs.Status = option (codes "lock") 108 ∷ []
 rules_for verbs.Simulate = conf ∷ option (codes "events") 101 ∷ option (codes "number") 114 ∷ []
 rules_for verbs.Audit = conf ∷ journals ∷ []
 rules_for verbs.List = conf ∷ asked_site ∷ []
+rules_for verbs.Show = conf ∷ asked_site ∷ word (codes "ticket") ∷ json ∷ []
 rules_for verbs.Peers = conf ∷ asked_site ∷ []
+rules_for verbs.DaemonStatus = conf ∷ asked_site ∷ []
 rules_for verbs.Grant =
     conf ∷ asked_site ∷ word (codes "ticket") ∷ wait ∷ flag (codes "commit") 67 ∷ flag (codes "immediate") 70 ∷ []
 rules_for verbs.Revoke = conf ∷ asked_site ∷ word (codes "ticket") ∷ wait ∷ []
@@ -106,7 +114,7 @@ app_for verb =
 abbrev pub version : List ℕ
 version = codes "0.2.0"
 
--- the name of a program, with which each of its lines begins
+-- the name of a program, at the start of each of its lines
 abbrev pub name_of : Program → List ℕ
 name_of Boothd = codes "boothd"
 name_of Booth = codes "booth"
@@ -123,7 +131,9 @@ daemon_verb word =
 abbrev pub client_verb : List ℕ → Option Verb
 client_verb word =
     if bytes_eq word (codes "list") then Some verbs.List else
+    if bytes_eq word (codes "show") then Some verbs.Show else
     if bytes_eq word (codes "peers") then Some verbs.Peers else
+    if bytes_eq word (codes "status") then Some verbs.DaemonStatus else
     if bytes_eq word (codes "grant") then Some verbs.Grant else
     if bytes_eq word (codes "revoke") then Some verbs.Revoke else
     if bytes_eq word (codes "move") then Some verbs.Move else None
@@ -141,7 +151,8 @@ verb_named Booth word = client_verb word
 verb_named Geostore word = attribute_verb word
 verb_named BoothFollow word = Some verbs.Follow
 
--- The program's command that the first word names. `booth-follow` has one alone, so its own name stands for it.
+-- The program's command with the name in the first argument. `booth-follow` has only one, so its own name stands for
+-- it.
 abbrev pub verb_in : Program → List (List ℕ) → Option Verb
 verb_in program [] = None
 verb_in program (word ∷ words) = verb_named program word

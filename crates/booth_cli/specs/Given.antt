@@ -1,4 +1,4 @@
--- What `clap` gives of the words: the text of each option and word, and the flags.
+-- The result of `clap` for the arguments: the text of each option and argument, and the flags.
 use Rattle.std.specs.Prelude.{◌≡◌, ℕ, Bool, true, false, List, [], Option, option_map, codes, is_some, unwrap_or}
 use Rattle.std.specs.Option.{option_map_or}
 use Rattle.std.specs.Str.{bytes_eq}
@@ -8,7 +8,7 @@ use Rattle.booth_cli.specs.declared.command.Verb.TheVariants as verbs
 use Rattle.booth_cli.specs.declared.given.Given.{Given}
 use Rattle.booth_cli.specs.Commands.{app_for}
 
--- the texts of all options and words, and the flags; none where the command does not take one, or it was left out
+-- the texts of all options and arguments, and the flags; none if the command does not have one, or it was left out
 pub record Texts : Type 0 where
   pub ticket : Option (List ℕ)
   pub name : Option (List ℕ)
@@ -29,6 +29,7 @@ pub record Texts : Type 0 where
   pub commit : Bool
   pub immediate : Bool
   pub force : Bool
+  pub json : Bool
 
 -- the flag was given
 abbrev pub is_set : Option (List ℕ) → Bool
@@ -56,9 +57,10 @@ texts_in rows = record {
   commit = is_set (first_of (codes "commit") rows);
   immediate = is_set (first_of (codes "immediate") rows);
   force = is_set (first_of (codes "force") rows);
+  json = is_set (first_of (codes "json") rows);
 }
 
--- the texts in words that begin with this command
+-- the texts in arguments that begin with this command
 abbrev pub found_in : Verb → List (List ℕ) → Texts
 found_in verb words = texts_in (matches_of (app_for verb) words)
 
@@ -83,6 +85,7 @@ texts_of g = record {
   commit = g.commit;
   immediate = g.immediate;
   force = g.force;
+  json = g.json;
 }
 
 -- the ticket of an attribute, and its name
@@ -96,9 +99,10 @@ pub record HasService (t : Texts) : Type 0 where
   pub site : is_some t.site ≡ true
   pub program : is_some t.program ≡ true
 
--- the options that a command has to have are there
+-- the options that a command requires are there
 abbrev pub HasNeeded : Verb → Texts → Type 0
 HasNeeded verbs.Daemon t = is_some t.site ≡ true
+HasNeeded verbs.Show t = is_some t.ticket ≡ true
 HasNeeded verbs.Grant t = is_some t.ticket ≡ true
 HasNeeded verbs.Revoke t = is_some t.ticket ≡ true
 HasNeeded verbs.Move t = (is_some t.ticket ≡ true) × (is_some t.target ≡ true)

@@ -1,4 +1,4 @@
--- What the readers make of the options and words, and which is refused first.
+-- The meaning of options and arguments for their readers, and which is refused first.
 use Rattle.std.specs.Prelude.{◌≡◌, ◌<◌, ◌≤◌, ◌^◌, ◌==◌, ◌&&◌, ◌⊎◌, ◌++◌}
 use Rattle.std.specs.Prelude.{◌*◌, nat_le, nat_lt, decimal, ℕ, Bool, false, List, Option, Some, None, Result, Ok, Err}
 use Rattle.std.specs.Prelude.{◌-◌, codes, is_some, IsSomeAnd, length, unwrap_or, if◌then◌else◌}
@@ -32,7 +32,7 @@ use Rattle.booth_cli.specs.Given.{Texts}
 abbrev pub with_ending : List ℕ → List ℕ
 with_ending word = if ends_with eqb word (codes ".conf") then word else word ++ codes ".conf"
 
--- a word with a slash is a path, and another is a name in `/etc/booth`
+-- an argument with a slash is a path, and any other is a name in `/etc/booth`
 abbrev pub completed : List ℕ → List ℕ
 completed word =
     if list_any (λ b. b == 0x2F) word then word else codes "/etc/booth/" ++ with_ending word
@@ -77,7 +77,7 @@ pub record IsNumber (low high : ℕ) (text : List ℕ) (n : ℕ) : Type 0 where
 abbrev pub IsNoNumber : ℕ → ℕ → Option (List ℕ) → Type 0
 IsNoNumber low high word = IsSomeAnd word (λ text. (n : ℕ) → IsNumber low high text n → ⊥)
 
--- a program with its arguments, which is not blanks alone, and has room for a word behind it
+-- a program with its arguments, which does not consist of blanks, and has room for another argument
 abbrev pub is_program : List ℕ → Bool
 is_program text = list_any (λ b. nat_lt 0x20 b) text && nat_le (length text) PROGRAM_BYTES
 
@@ -90,7 +90,7 @@ IsNoTime text = IsNoNumber 1 MOST_SECONDS text
 
 -- ---- refusals
 
--- a count of turns or of events, or the number of a simulation
+-- a number of turns or of events, or the seed of a simulation
 abbrev pub RefusesCount : Texts → Type 0
 RefusesCount t = IsNoNumber 1 MOST_TURNS t.turns
     ⊎ (IsNoNumber 0 MOST_EVENTS t.events ⊎ IsNoNumber 0 (2 ^ 64 - 1) t.number)
@@ -103,7 +103,7 @@ RefusesTime t = IsNoTime t.margin ⊎ IsNoTime t.kill
 abbrev pub RefusesPath : Texts → Type 0
 RefusesPath t = IsNoPath t.lock ⊎ (IsNoPath t.records ⊎ AreNoPaths t.journals)
 
--- The reader of this kind of word refuses.
+-- The reader of this kind of argument refuses.
 abbrev pub Refuses : Texts → Word → Type 0
 Refuses t words.Ticket = IsNoName t.ticket
 Refuses t words.Name = IsNoName t.name
@@ -114,7 +114,7 @@ Refuses t words.Path = RefusesPath t
 Refuses t words.Program = IsNoProgram t.program
 Refuses t words.Configuration = PATH_BYTES < length (conf_path t.conf)
 
--- the order in which a refusal is told
+-- the order in which refusals are reported
 abbrev pub place_of : Word → ℕ
 place_of words.Ticket = 0
 place_of words.Name = 1
@@ -125,19 +125,19 @@ place_of words.Path = 5
 place_of words.Program = 6
 place_of words.Configuration = 7
 
--- this is the first word that is refused
+-- this is the first argument that is refused
 pub record IsFirstRefused (t : Texts) (word : Word) : Type 0 where
   pub refused : Refuses t word
   pub first : (other : Word) → place_of other < place_of word → Refuses t other → ⊥
 
--- ---- what is read
+-- ---- the result of reading
 
--- what was read of a word is what its text says, or there is neither
+-- the result for an argument is the meaning of its text, or there is neither
 abbrev pub IsReadAs : {A : Type 0} → (List ℕ → A → Type 0) → Option (List ℕ) → Option A → Type 0
 IsReadAs says None read = read ≡ None
 IsReadAs says (Some text) read = IsSomeAnd read (says text)
 
--- the name or the value in a word is its bytes
+-- the name or the value in an argument is its bytes
 abbrev pub HasName : Option (List ℕ) → Option (List ℕ) → Type 0
 HasName word read = IsReadAs (λ text name. name ≡ text) word read
 
@@ -151,16 +151,16 @@ HasAddress word read = IsReadAs Spells word read
 abbrev pub HasNumber : ℕ → ℕ → Option (List ℕ) → Option ℕ → Type 0
 HasNumber low high word read = IsReadAs (IsNumber low high) word read
 
--- the number in a word, or this one where there is no word
+-- the number in an argument, or this one if there is no argument
 abbrev pub HasNumberOr : ℕ → ℕ → ℕ → Option (List ℕ) → ℕ → Type 0
 HasNumberOr low high default None n = n ≡ default
 HasNumberOr low high default (Some text) n = IsNumber low high text n
 
--- the programs that a word says, with each word that a service is run with
+-- the programs for an argument, with each word with which a service is run
 abbrev pub HasProgram : Option (List ℕ) → Option Programs → Type 0
 HasProgram word read = IsReadAs (λ text programs. programs ≡ programs_of text) word read
 
--- these milliseconds are a word's seconds
+-- these milliseconds are an argument's seconds
 pub record AreSeconds (text : List ℕ) (millis : ℕ) : Type 0 where
   pub seconds : ℕ
   pub is : IsNumber 1 MOST_SECONDS text seconds
@@ -169,44 +169,44 @@ pub record AreSeconds (text : List ℕ) (millis : ℕ) : Type 0 where
 abbrev pub HasTime : Option (List ℕ) → Option ℕ → Type 0
 HasTime word read = IsReadAs AreSeconds word read
 
--- the counts that words spell, none of which is refused
+-- the counts in the arguments: none is refused
 pub record AreCounts (t : Texts) (n : Counts) : Type 0 where
   pub accepted : RefusesCount t → ⊥
   pub turns : HasNumber 1 MOST_TURNS t.turns n.turns
   pub events : HasNumberOr 0 MOST_EVENTS EVENTS t.events n.events
   pub number : HasNumberOr 0 (2 ^ 64 - 1) NUMBER t.number n.number
 
--- the times that words spell, neither of which is refused
+-- the times in the arguments: neither is refused
 pub record AreTimes (t : Texts) (n : Times) : Type 0 where
   pub accepted : RefusesTime t → ⊥
   pub margin : HasTime t.margin n.margin
   pub kill : HasTime t.kill n.kill
 
--- the numbers that words spell, none of which is refused
+-- the numbers in the arguments: none is refused
 pub record AreNumbers (t : Texts) (n : Numbers) : Type 0 where
   pub accepted : Refuses t words.Number → ⊥
   pub counts : AreCounts t n.counts
   pub times : AreTimes t n.times
 
--- the addresses that words spell, neither of which is refused
+-- the addresses in the arguments: neither is refused
 pub record AreAddresses (t : Texts) (a : Addresses) : Type 0 where
   pub accepted : Refuses t words.Site → ⊥
   pub target : HasAddress t.target a.target
   pub site : HasAddress t.site a.site
 
--- one of some paths is refused, or there was no memory for them
+-- one of some paths is refused, or memory for them was out
 abbrev pub IsPathsFault : Type 0 → PathsFault → Type 0
 IsPathsFault Refuses paths.Refused = Refuses
 IsPathsFault Refuses paths.NoMemory = Unit {0}
 
--- the paths in words, none of which is refused
+-- the paths in the arguments: none is refused
 pub record ArePaths (t : Texts) (p : Paths) : Type 0 where
   pub accepted : Refuses t words.Path → ⊥
   pub lock : p.lock ≡ unwrap_or t.lock default_lock
   pub records : p.records ≡ unwrap_or t.records default_records
   pub journals : p.journals.items ≡ t.journals
 
--- no word is refused, and this is what they say
+-- no argument is refused, and this is their meaning
 pub record IsRead (t : Texts) (r : Read) : Type 0 where
   pub accepted : (word : Word) → Refuses t word → ⊥
   pub ticket : HasName t.ticket r.ticket
@@ -214,6 +214,7 @@ pub record IsRead (t : Texts) (r : Read) : Type 0 where
   pub value : HasName t.value r.value
   pub options : r.options ≡ options_in t
   pub force : r.force ≡ t.force
+  pub json : r.json ≡ t.json
   pub target : HasAddress t.target r.target
   pub site : HasAddress t.site r.site
   pub turns : HasNumber 1 MOST_TURNS t.turns r.turns
@@ -228,7 +229,7 @@ pub record IsRead (t : Texts) (r : Read) : Type 0 where
   pub records : r.records ≡ unwrap_or t.records default_records
   pub conf : r.conf ≡ conf_path t.conf
 
--- the names and the value were read, or this word is the first that is refused
+-- the names and the value were read, or this argument is the first that is refused
 pub record AreNamed (t : Texts) (n : Named) : Type 0 where
   pub ticket : HasName t.ticket n.ticket
   pub name : HasName t.name n.name
@@ -241,7 +242,7 @@ abbrev pub Names : Texts → Result Named Word → Type 0
 Names t (Ok n) = AreNamed t n
 Names t (Err word) = IsFirstRefused t word
 
--- the first word that is refused, or want of memory, which may come at any words
+-- the first argument that is refused, or out of memory, which is possible with any arguments
 abbrev pub IsUnread : Texts → Unread → Type 0
 IsUnread t (Bad word) = IsFirstRefused t word
 IsUnread t NoMemory = Unit {0}

@@ -1,4 +1,4 @@
--- Words as they must be.
+-- Valid arguments.
 use Rattle.std.specs.Prelude.{◌≡◌, ℕ, true, List, Some}
 use Rattle.clap.specs.Words.{takes}
 use Rattle.booth_cli.specs.declared.command.Verb.{Verb}
@@ -8,7 +8,7 @@ use Rattle.booth_cli.specs.Commands.{app_for, verb_in}
 use Rattle.booth_cli.specs.Given.{found_in}
 use Rattle.booth_cli.specs.Reading.{Refuses}
 
--- the first word is this command of the program, which takes the others, and each reader accepts its word
+-- the first argument is this command of the program, which accepts the others, and each reader accepts its argument
 pub record AreValid (program : Program) (words : List (List ℕ)) (verb : Verb) : Type 0 where
   pub named : verb_in program words ≡ Some verb
   pub taken : takes (app_for verb) words ≡ true

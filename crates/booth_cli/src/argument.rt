@@ -1,4 +1,4 @@
-//! An argument of a command as `clap` knows it.
+//! An argument of a command as `clap` has it.
 ghost use Rattle.std.specs.Prelude.{◌≡◌, false, map, IfOk};
 ghost use Rattle.clap.specs.Words.{app_of, rule_of};
 ghost use Rattle.booth_cli.specs.Arguments.{rule_for, valued, words};
@@ -10,16 +10,16 @@ use std::alloc::{AllocError, Global};
 /// The most journals of one audit.
 const MOST_JOURNALS: usize = 16;
 
-/// How an argument is given.
+/// The form of an argument.
 #[derive(Clone, Copy)]
 pub(crate) enum Form {
-    /// By its place. It must be there.
+    /// By its place. It is required.
     Word,
     /// By its place, 1 to 16 times.
     Words,
     /// By a letter with a value.
     Valued(char),
-    /// By a letter with a value. It must be there.
+    /// By a letter with a value. It is required.
     Needed(char),
     /// By a letter alone.
     Flag(char),
@@ -27,18 +27,18 @@ pub(crate) enum Form {
     NamedFlag(char),
 }
 
-/// An argument of a command, and what help says of it.
+/// An argument of a command, with its help.
 #[derive(Clone, Copy)]
 pub(crate) struct Argument<'a> {
     /// Its name in the program.
     pub id: &'a str,
     pub form: Form,
-    /// What help calls its value.
+    /// The name of its value in the help.
     pub value: &'a str,
     pub help: &'a str,
 }
 
-// An argument with a value.
+// Returns an argument with a value.
 fn valued<'a>(alloc: Global, argument: &Argument<'a>) -> Arg<'a>
     ensures rule { rule_of result ≡ valued argument.now.id.now }
     ensures local { result.global ≡ false }
@@ -49,7 +49,7 @@ fn valued<'a>(alloc: Global, argument: &Argument<'a>) -> Arg<'a>
         .action(ArgAction::Set)
 }
 
-// An argument without a value.
+// Returns an argument without a value.
 fn flag<'a>(alloc: Global, argument: &Argument<'a>, letter: char) -> Arg<'a>
     ensures rule { rule_of result ≡ flag argument.now.id.now letter }
     ensures local { result.global ≡ false }
@@ -60,7 +60,7 @@ fn flag<'a>(alloc: Global, argument: &Argument<'a>, letter: char) -> Arg<'a>
         .action(ArgAction::SetTrue)
 }
 
-// An argument by its place, which must be there.
+// Returns an argument by its place, which is required.
 fn word<'a>(alloc: Global, argument: &Argument<'a>) -> Arg<'a>
     ensures rule { rule_of result ≡ word argument.now.id.now }
     ensures local { result.global ≡ false }
@@ -68,7 +68,7 @@ fn word<'a>(alloc: Global, argument: &Argument<'a>) -> Arg<'a>
     valued(alloc, argument).required(true)
 }
 
-// Arguments by their places, at least one.
+// Returns arguments by their places, at least one.
 fn words<'a>(alloc: Global, argument: &Argument<'a>) -> Arg<'a>
     ensures rule { rule_of result ≡ words argument.now.id.now }
     ensures local { result.global ≡ false }

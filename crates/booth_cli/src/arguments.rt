@@ -33,12 +33,12 @@ const OWN_SITE: Argument<'static> = Argument {
     ..MEMBER
 };
 
-/// The daemon that a client asks.
+/// The daemon that receives a client's request.
 const ASKED_SITE: Argument<'static> = Argument {
     id: "site",
     form: Form::Valued('s'),
     value: "ADDRESS",
-    help: "Address of the daemon to ask [default: the first site of the configuration]",
+    help: "Address of the daemon to ask [default: BOOTH_ADDRESS of the environment, or else the first site]",
 };
 
 const LOCK: Argument<'static> = Argument {
@@ -131,6 +131,13 @@ const FORCE: Argument<'static> = Argument {
     help: "Moves it although a follower of the ticket runs on this machine",
 };
 
+const JSON: Argument<'static> = Argument {
+    id: "json",
+    form: Form::NamedFlag('j'),
+    value: "",
+    help: "Prints a JSON object",
+};
+
 /// The ticket of an attribute.
 const TICKET_OPTION: Argument<'static> = Argument {
     id: "ticket",
@@ -174,7 +181,7 @@ const PROGRAM: Argument<'static> = Argument {
     help: "Program with its arguments, in one word; it is run with start, stop or kill behind them",
 };
 
-/// The arguments of a command, in the order of its help.
+/// Returns the arguments of a command, in the order of its help.
 pub(crate) fn arguments<'a>(verb: Verb) -> &'a [Argument<'a>]
     ensures { map rule_for result.now ≡ rules_for verb }
 {
@@ -184,7 +191,9 @@ pub(crate) fn arguments<'a>(verb: Verb) -> &'a [Argument<'a>]
         Verb::Simulate => &[SIMULATED, EVENTS, NUMBER],
         Verb::Audit => &[CONF, JOURNALS],
         Verb::List => &[CONF, ASKED_SITE],
+        Verb::Show => &[CONF, ASKED_SITE, TICKET, JSON],
         Verb::Peers => &[CONF, ASKED_SITE],
+        Verb::DaemonStatus => &[CONF, ASKED_SITE],
         Verb::Grant => &[CONF, ASKED_SITE, TICKET, WAIT, COMMIT, IMMEDIATE],
         Verb::Revoke => &[CONF, ASKED_SITE, TICKET, REVOKE_WAIT],
         Verb::Move => &[CONF, ASKED_SITE, TICKET, TARGET, WAIT, FORCE],

@@ -1,7 +1,7 @@
-//! What the words ask for, or why they ask for nothing.
+//! The request of a command line, or why it has none.
 ghost use Rattle.std.specs.Prelude.{◌≡◌, true, Some, is_some, map, string_bytes};
 ghost use Rattle.booth_cli.specs.Asking.{Asks, HasOrder, HasWords, IsAskedBy, IsAuditOf, IsDaemonOf, IsFollowOf};
-ghost use Rattle.booth_cli.specs.Asking.{IsMoveOf, IsSimulationOf, client_of};
+ghost use Rattle.booth_cli.specs.Asking.{IsMoveOf, IsSimulationOf, client_of, style_of};
 
 use crate::Word;
 use crate::command::{Verb, verb_in};
@@ -10,119 +10,119 @@ use crate::program::Program;
 use crate::reading::{Read, Unread, read_words};
 use booth_base::{Address, AttrValue, Name, PathText};
 use booth_following::Programs;
-use booth_talk::Order;
+use booth_talk::{Order, Style};
 use clap::Error;
 use std::alloc::{AllocError, Global};
 
-/// What the words of a daemon say.
+/// The arguments of a daemon.
 #[derive(Drop)]
 pub struct DaemonWords {
     /// The member that the daemon is.
     pub site: Address,
-    /// How many turns it makes, where they are counted.
+    /// How many turns it makes, or none if it runs until it is stopped.
     pub turns: Option<u64>,
     /// The file that it locks.
     pub lock: PathText,
-    /// The directory of its kept records.
+    /// The directory of its records.
     pub records: PathText,
     /// The file of its configuration.
     pub conf: PathText,
 }
 
-/// What the words of a simulation say.
+/// The arguments of a simulation.
 #[derive(Drop)]
 pub struct SimulationWords {
-    /// The file of the configuration, where one is named.
+    /// The file of the configuration, if the arguments name one.
     pub conf: Option<PathText>,
-    /// How many events there are.
+    /// How many events it has.
     pub events: u64,
-    /// The number that they are drawn by.
+    /// The seed of its draws.
     pub number: u64,
 }
 
-/// What the words of an audit say.
+/// The arguments of an audit.
 #[derive(Drop)]
 pub struct AuditWords {
     /// The file of the configuration.
     pub conf: PathText,
-    /// The files of the journals, in the order of the words.
+    /// The files of the journals, in the order of the arguments.
     pub journals: Vec<PathText>,
 }
 
-/// What the words of a client say.
+/// The arguments of a client.
 #[derive(Drop)]
 pub struct ClientWords {
-    /// What is asked for.
+    /// The request.
     pub order: Order,
-    /// The daemon that is asked, where it is named.
+    /// The daemon that receives the request, if the arguments name one.
     pub site: Option<Address>,
     /// The file of the configuration.
     pub conf: PathText,
 }
 
-/// What the words of a move say.
+/// The arguments of a move.
 #[derive(Drop)]
 pub struct MoveWords {
     pub ticket: Name,
-    /// The site that is to have the ticket.
+    /// The site that the ticket is moved to.
     pub target: Address,
-    /// Whether outcomes are waited for.
+    /// Whether the move waits for outcomes.
     pub wait: bool,
     /// Whether it is made although a follower of the ticket runs on this machine.
     pub force: bool,
-    /// The daemon that is asked for the ticket, where it is named.
+    /// The daemon that is asked for the ticket, if the arguments name one.
     pub site: Option<Address>,
     /// The file of the configuration.
     pub conf: PathText,
 }
 
-/// What the words of a service say that follows its ticket.
+/// The arguments of a service that follows its ticket.
 #[derive(Drop)]
 pub struct FollowWords {
     pub ticket: Name,
     /// This site, whose daemon is asked.
     pub site: Address,
     pub program: Programs,
-    /// How long before the end of the lease the service is stopped, in milliseconds, where it is said.
+    /// How long before the end of the lease the service is stopped, in milliseconds, if the arguments say so.
     pub margin: Option<u64>,
-    /// How long before that end it is killed, in milliseconds, where it is said.
+    /// How long before that end it is killed, in milliseconds, if the arguments say so.
     pub kill: Option<u64>,
-    /// The directory of the daemon's records, whose clock is the one that its list tells by.
+    /// The directory of the daemon's records, with the clock of the daemon's times.
     pub records: PathText,
     /// The file of the configuration.
     pub conf: PathText,
 }
 
-/// What the words ask for.
+/// The request of a command line.
 #[derive(Drop)]
 pub enum Asked {
     Daemon(DaemonWords),
-    /// Whether the daemon of this lock runs.
+    /// Ask whether the daemon with this lock runs.
     Status(PathText),
-    /// What becomes of a whole cluster in generated events.
+    /// Simulate a whole cluster with generated events.
     Simulation(SimulationWords),
-    /// What journals say of their members.
+    /// Audit journals.
     Audit(AuditWords),
-    /// Something that a daemon is asked.
+    /// Send a request to a daemon.
     Client(ClientWords),
-    /// That a ticket is moved to another site.
+    /// Move a ticket to another site.
     Move(MoveWords),
-    /// That a service follows its ticket.
+    /// Have a service follow its ticket.
     Follow(FollowWords),
 }
 
-/// Why the words ask for nothing.
+/// Why a command line has no request.
 #[derive(Drop)]
 pub enum Refusal {
-    /// There is no first word, or it is no command.
+    /// There is no first argument, or it is not a command.
     NoCommand,
-    /// The command does not take the others, or help was asked for, or there was no memory.
+    /// The command does not accept the others, or help was requested, or memory was out.
     Untaken(Error),
-    /// This is the first word that its reader refuses.
+    /// This is the first argument that its reader refuses.
     Bad(Word),
 }
 
-// The daemon that these options ask for, one of which is the member's address.
+// Returns the daemon for these options, one of which is the member's address.
 fn daemon_of(read: Read) -> DaemonWords
     requires { is_some read.site ≡ true }
     ensures { IsDaemonOf read result }
@@ -139,7 +139,7 @@ fn daemon_of(read: Read) -> DaemonWords
     }
 }
 
-// The simulation that these options ask for.
+// Returns the simulation for these options.
 fn simulation_of(read: Read) -> SimulationWords
     ensures { IsSimulationOf read result }
 {
@@ -150,7 +150,7 @@ fn simulation_of(read: Read) -> SimulationWords
     }
 }
 
-// The audit that these options and words ask for.
+// Returns the audit for these options and arguments.
 fn audit_of(read: Read) -> AuditWords
     ensures { IsAuditOf read result }
 {
@@ -160,7 +160,7 @@ fn audit_of(read: Read) -> AuditWords
     }
 }
 
-// What a client asks for, by what its words say.
+// Returns the client for these arguments.
 fn client_of(order: Order, read: Read) -> ClientWords
     ensures { result ≡ client_of order read }
 {
@@ -171,7 +171,7 @@ fn client_of(order: Order, read: Read) -> ClientWords
     }
 }
 
-// The ticket that a command names which has to name one.
+// Returns the ticket of a command that requires one.
 fn named_ticket(read: &Read) -> Name
     requires { is_some read.now.ticket ≡ true }
     ensures { Some result ≡ read.now.ticket }
@@ -182,7 +182,22 @@ fn named_ticket(read: &Read) -> Name
     }
 }
 
-// What a move asks for.
+// Returns the form of the output for one ticket.
+fn style_of(json: bool) -> Style
+    ensures { result ≡ style_of json }
+{
+    if json { Style::Json } else { Style::Line }
+}
+
+// Returns the request for one ticket.
+fn show(read: &Read) -> Order
+    requires { HasWords Verb.Show read.now }
+    ensures { HasOrder Verb.Show read.now result }
+{
+    Order::Show(named_ticket(read), style_of(read.json))
+}
+
+// Returns the move for these arguments.
 fn move_of(read: Read) -> MoveWords
     requires { HasWords Verb.Move read }
     ensures { IsMoveOf read result }
@@ -201,7 +216,7 @@ fn move_of(read: Read) -> MoveWords
     }
 }
 
-// The program that words say which have to say one.
+// Returns the program in arguments that require one.
 fn said_program(program: Option<Programs>) -> Programs
     requires { is_some program ≡ true }
     ensures { Some result ≡ program }
@@ -212,7 +227,7 @@ fn said_program(program: Option<Programs>) -> Programs
     }
 }
 
-// What follows its ticket.
+// Returns the service for these arguments.
 fn follow_of(read: Read) -> FollowWords
     requires { HasWords Verb.Follow read }
     ensures { IsFollowOf read result }
@@ -232,7 +247,7 @@ fn follow_of(read: Read) -> FollowWords
     }
 }
 
-// The attribute that a command names which has to name one.
+// Returns the attribute of a command that requires one.
 fn named_attribute(read: &Read) -> Name
     requires { is_some read.now.name ≡ true }
     ensures { Some result ≡ read.now.name }
@@ -243,7 +258,7 @@ fn named_attribute(read: &Read) -> Name
     }
 }
 
-// The value that a command says which has to say one.
+// Returns the value of a command that requires one.
 fn said_value(read: &Read) -> AttrValue
     requires { is_some read.now.value ≡ true }
     ensures { Some result ≡ read.now.value }
@@ -254,7 +269,7 @@ fn said_value(read: &Read) -> AttrValue
     }
 }
 
-// What a command about attributes asks for whose options say this.
+// Returns the request of a command about attributes.
 fn set_attribute(read: &Read) -> Order
     requires { HasWords Verb.SetAttribute read.now }
     ensures { HasOrder Verb.SetAttribute read.now result }
@@ -286,7 +301,7 @@ fn delete_attribute(read: &Read) -> Order
     }
 }
 
-// What a command asks for whose options say this.
+// Returns the request of a command with these options.
 fn asked_of(verb: Verb, read: Read) -> Asked
     requires { HasWords verb read }
     ensures { IsAskedBy verb read result }
@@ -297,7 +312,9 @@ fn asked_of(verb: Verb, read: Read) -> Asked
         Verb::Simulate => Asked::Simulation(simulation_of(read)),
         Verb::Audit => Asked::Audit(audit_of(read)),
         Verb::List => Asked::Client(client_of(Order::List, read)),
+        Verb::Show => Asked::Client(client_of(show(&read), read)),
         Verb::Peers => Asked::Client(client_of(Order::Peers, read)),
+        Verb::DaemonStatus => Asked::Client(client_of(Order::Status, read)),
         Verb::Grant => {
             let ticket = named_ticket(&read);
             Asked::Client(client_of(Order::Grant(ticket, read.options), read))
@@ -318,7 +335,11 @@ fn asked_of(verb: Verb, read: Read) -> Asked
     }
 }
 
-/// What these words ask this program for, or why they ask for nothing. Those of `booth-follow` begin with its own name.
+/// Returns the request of this program's arguments. Those of `booth-follow` begin with its own name.
+///
+/// # Errors
+///
+/// Why they have none.
 pub fn ask(alloc: Global, program: Program, words: &[String]) -> Result<Asked, Refusal>
     ensures { Asks program (map string_bytes words.now) result }
 {

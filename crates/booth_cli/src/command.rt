@@ -1,4 +1,4 @@
-//! The commands of the programs, and what `clap` is to know of each.
+//! The commands of the programs, and the description of each for `clap`.
 ghost use Rattle.std.specs.Prelude.{◌≡◌, ◌≤◌, length, IfOk, map, string_bytes};
 ghost use Rattle.clap.specs.Words.{app_of};
 ghost use Rattle.booth_cli.specs.Commands.{app_for, client_verb};
@@ -14,7 +14,7 @@ use std::alloc::{AllocError, Global};
 /// The version of the product.
 const VERSION: &str = "0.2.0";
 
-/// The version of the product.
+/// Returns the version of the product.
 pub fn version() -> &'static str
     ensures version { result.now ≡ version }
     ensures short { length result.now ≤ 20 }
@@ -27,7 +27,7 @@ pub fn version() -> &'static str
 pub enum Verb {
     /// Runs a daemon.
     Daemon,
-    /// Says whether a daemon runs.
+    /// Prints whether a daemon runs.
     Status,
     /// Runs a whole cluster through generated events.
     Simulate,
@@ -35,19 +35,23 @@ pub enum Verb {
     Audit,
     /// Lists tickets.
     List,
+    /// Shows the holder, the term and the time left of one ticket.
+    Show,
     /// Lists members.
     Peers,
+    /// Prints whether a daemon answers.
+    DaemonStatus,
     /// Has a site acquire a ticket.
     Grant,
-    /// Has a ticket given back.
+    /// Has a site release a ticket.
     Revoke,
-    /// Has a ticket given back where it is, and granted to another site.
+    /// Moves a ticket: its holder releases it, and another site is granted it.
     Move,
-    /// Gives an attribute a value.
+    /// Sets an attribute.
     SetAttribute,
     /// Shows the value of an attribute.
     GetAttribute,
-    /// Takes an attribute away.
+    /// Deletes an attribute.
     DeleteAttribute,
     /// Lists attributes.
     ListAttributes,
@@ -79,8 +83,14 @@ fn client_verb(word: &str) -> Option<Verb>
     if word == "list" {
         return Some(Verb::List);
     }
+    if word == "show" {
+        return Some(Verb::Show);
+    }
     if word == "peers" {
         return Some(Verb::Peers);
+    }
+    if word == "status" {
+        return Some(Verb::DaemonStatus);
     }
     if word == "grant" {
         return Some(Verb::Grant);
@@ -112,7 +122,8 @@ fn attribute_verb(word: &str) -> Option<Verb>
     None
 }
 
-/// The program's command that the first word names: of `booth-follow` the one that it has, by whatever name it was run.
+/// Returns the program's command with the name in the first argument; for `booth-follow` its one command, whatever
+/// name it was run by.
 pub(crate) fn verb_in(program: Program, words: &[String]) -> Option<Verb>
     ensures { result ≡ verb_in program (map string_bytes words.now) }
 {
@@ -127,7 +138,7 @@ pub(crate) fn verb_in(program: Program, words: &[String]) -> Option<Verb>
     }
 }
 
-/// What `clap` is to know of a command.
+/// Returns the description of a command for `clap`.
 pub(crate) fn command<'a>(alloc: Global, verb: Verb) -> Result<Command<'a>, AllocError>
     ensures { IfOk result (λ c. app_of c ≡ app_for verb) }
 {

@@ -1,17 +1,17 @@
-//! What help says of each command beside its arguments.
+//! The help of each command, without the help of its arguments.
 ghost use Rattle.std.specs.Prelude.{◌≡◌};
 ghost use Rattle.booth_cli.specs.Commands.{name_for};
 
 use crate::command::Verb;
 
-/// What help says of a command.
+/// The help of a command.
 #[derive(Clone, Copy)]
 pub(crate) struct CommandTexts<'a> {
     pub name: &'a str,
-    /// The program and the command, as usage has them.
+    /// The program and the command, for the usage line.
     pub usage: &'a str,
     pub about: &'a str,
-    /// What stands behind the options.
+    /// The text after the options.
     pub more: &'a str,
 }
 
@@ -51,6 +51,17 @@ const LIST: CommandTexts<'static> = CommandTexts {
         knows of no site that has it. Status 0 where the daemon answered within 5 seconds, else 1.",
 };
 
+const SHOW: CommandTexts<'static> = CommandTexts {
+    name: "show",
+    usage: "booth show",
+    about: "Shows how one ticket stands: its holder, the term of its lease, and the seconds that are left.",
+    more: "Prints one line. The term is left out unless the daemon's own site holds the ticket, and the seconds\n\
+        where nobody does, or for a manual ticket, whose lease has no end. Status 0 where the daemon answered\n\
+        within 5 seconds, and has the ticket, else 1.\n\n\
+        In place of the argument TICKET:\n  \
+        -t <TICKET>  Name of the ticket",
+};
+
 const PEERS: CommandTexts<'static> = CommandTexts {
     name: "peers",
     usage: "booth peers",
@@ -60,13 +71,23 @@ const PEERS: CommandTexts<'static> = CommandTexts {
         how many could not be. Status 0 where the daemon answered within 5 seconds, else 1.",
 };
 
+const DAEMON_STATUS: CommandTexts<'static> = CommandTexts {
+    name: "status",
+    usage: "booth status",
+    about: "Says whether the daemon runs.",
+    more: "Prints that the daemon is running, status 0, or that it is not, status 7, where it gives no answer\n\
+        within 5 seconds.",
+};
+
 const GRANT: CommandTexts<'static> = CommandTexts {
     name: "grant",
     usage: "booth grant",
     about: "Asks a site to acquire a ticket.",
     more: "Prints that the ticket is granted, or that it was asked for and the site acquires it now. Status 0\n\
         for both; 1 where the daemon refuses, and says why, or gives no answer within 5 seconds. With -w\n\
-        or -C, once the daemon has begun, it is waited for as long as it takes.",
+        or -C, once the daemon has begun, it is waited for as long as it takes.\n\n\
+        In place of the argument TICKET:\n  \
+        -t <TICKET>  Name of the ticket",
 };
 
 const REVOKE: CommandTexts<'static> = CommandTexts {
@@ -75,7 +96,9 @@ const REVOKE: CommandTexts<'static> = CommandTexts {
     about: "Asks for a ticket to be given back.",
     more: "A daemon that names another member as the owner is believed once, and that member is asked. Prints\n\
         that the ticket is revoked. Status 0 where it is; 1 where the daemon refuses, and says why, or\n\
-        gives no answer within 5 seconds.",
+        gives no answer within 5 seconds.\n\n\
+        In place of the argument TICKET:\n  \
+        -t <TICKET>  Name of the ticket",
 };
 
 const MOVE: CommandTexts<'static> = CommandTexts {
@@ -87,7 +110,9 @@ const MOVE: CommandTexts<'static> = CommandTexts {
         is busy is asked again, up to 10 times. Prints that the ticket is moved, or that its grant was asked\n\
         for. Status 0 for all three; 1 where one of the daemons refuses, and says why, or gives no answer\n\
         within 5 seconds, and where a follower of the ticket runs on this machine. Where the grant was refused\n\
-        no site has the ticket.",
+        no site has the ticket.\n\n\
+        In place of the argument TICKET:\n  \
+        -t <TICKET>  Name of the ticket",
 };
 
 const SET_ATTRIBUTE: CommandTexts<'static> = CommandTexts {
@@ -138,7 +163,9 @@ pub(crate) fn command_texts<'a>(verb: Verb) -> CommandTexts<'a>
         Verb::Simulate => SIMULATE,
         Verb::Audit => AUDIT,
         Verb::List => LIST,
+        Verb::Show => SHOW,
         Verb::Peers => PEERS,
+        Verb::DaemonStatus => DAEMON_STATUS,
         Verb::Grant => GRANT,
         Verb::Revoke => REVOKE,
         Verb::Move => MOVE,

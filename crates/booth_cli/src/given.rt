@@ -1,4 +1,4 @@
-//! The options after a command, as `clap` gives them: texts.
+//! The options after a command, as `clap` returns them: texts.
 ghost use Rattle.std.specs.Prelude.{◌≡◌, true, IfOk, IfErr, map, string_bytes};
 ghost use Rattle.clap.specs.Words.{FailsBy, fault_of, first_value, found_of, kind_of, takes};
 ghost use Rattle.booth_cli.specs.Commands.{app_for};
@@ -9,8 +9,8 @@ use clap::error::ErrorKind;
 use clap::{ArgMatches, Error};
 use std::alloc::Global;
 
-/// The texts of all options and words, and the flags. One that the command does not take, or that was left out, is
-/// none.
+/// The texts of all options and arguments, and the flags. One that the command does not have, or that was left out,
+/// is none.
 #[derive(Drop)]
 pub(crate) struct Given<'a> {
     pub ticket: Option<&'a str>,
@@ -31,11 +31,12 @@ pub(crate) struct Given<'a> {
     pub commit: bool,
     pub immediate: bool,
     pub force: bool,
-    /// The rest of what `clap` found: the journals.
+    pub json: bool,
+    /// The rest of the result of `clap`: the journals.
     pub matches: ArgMatches<'a>,
 }
 
-// Whether this flag was given.
+// Returns whether this flag was given.
 fn has_flag(matches: &ArgMatches<'_>, id: &str) -> bool
     ensures { result ≡ is_set (first_value (found_of matches.now) id.now) }
 {
@@ -45,7 +46,7 @@ fn has_flag(matches: &ArgMatches<'_>, id: &str) -> bool
     }
 }
 
-/// What `clap` makes of the words, of which the first is the command's name.
+/// Returns the result of `clap` for the arguments, the first of which is the command's name.
 pub(crate) fn given_words<'a>(
     alloc: Global,
     verb: Verb,
@@ -84,6 +85,7 @@ pub(crate) fn given_words<'a>(
         commit: has_flag(&matches, "commit"),
         immediate: has_flag(&matches, "immediate"),
         force: has_flag(&matches, "force"),
+        json: has_flag(&matches, "json"),
         matches,
     })
 }

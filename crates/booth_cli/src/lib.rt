@@ -1,4 +1,4 @@
-//! What the words of a command line ask for, or why they ask for nothing.
+//! The request of a command line, or why it has none.
 #![tactic(auto)]
 
 mod argument;

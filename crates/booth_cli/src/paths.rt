@@ -1,4 +1,4 @@
-//! The readers of the paths beside that of the configuration.
+//! The readers of all paths except the path of the configuration.
 ghost use Rattle.std.specs.Prelude.{◌≡◌, ◌≤◌, map, option_map, unwrap_or, false, true, length};
 ghost use Rattle.std.specs.Prelude.{MatchOption, MatchResult};
 ghost use Rattle.booth_following.specs.declared.programs.TheConstants.{PATH_BYTES};
@@ -11,13 +11,13 @@ use crate::reading::Refused;
 use booth_base::PathText;
 use std::alloc::Global;
 
-/// The file that is locked while a daemon runs, where none is named.
+/// The file that is locked while a daemon runs, if the arguments name none.
 const LOCK: &str = "/var/run/booth.lock";
 
-/// The directory of the kept records, where none is named.
+/// The directory of the records, if the arguments name none.
 const RECORDS: &str = "/var/lib/booth";
 
-// The path in a word: 1 to 255 bytes.
+// Returns the path in an argument: 1 to 255 bytes.
 fn path_of(word: &str) -> Option<PathText>
     ensures { MatchOption result (is_path word.now ≡ false)
         (λ path. (path ≡ word.now) × (is_path word.now ≡ true)) }
@@ -31,7 +31,7 @@ fn path_of(word: &str) -> Option<PathText>
     }
 }
 
-// The path in a word, or this one where there is no word.
+// Returns the path in an argument, or this one if there is no argument.
 fn path_in(word: Option<&str>, default: &str) -> Result<PathText, Refused>
     requires { length default.now ≤ PATH_BYTES }
     ensures { MatchResult result
@@ -51,16 +51,16 @@ fn path_in(word: Option<&str>, default: &str) -> Result<PathText, Refused>
     }
 }
 
-/// Why paths are not read.
+/// Why paths could not be read.
 #[derive(Drop)]
 pub(crate) enum PathsFault {
     /// One of them is refused.
     Refused,
-    /// There was no memory for them.
+    /// Memory for them is out.
     NoMemory,
 }
 
-// The paths in words, in their order.
+// Returns the paths in arguments, in their order.
 fn copy_paths(alloc: Global, words: &[&str]) -> Result<Vec<PathText>, PathsFault>
     ensures { MatchResult result
         (λ paths. (paths.items ≡ map (λ w. w.now) words.now) × (AreNoPaths (map (λ w. w.now) words.now) → ⊥))
@@ -78,7 +78,7 @@ fn copy_paths(alloc: Global, words: &[&str]) -> Result<Vec<PathText>, PathsFault
     Ok(paths)
 }
 
-// The journals that words name.
+// Returns the journals in the arguments.
 fn journals_in(alloc: Global, given: &Given) -> Result<Vec<PathText>, PathsFault>
     ensures { MatchResult result
         (λ paths. (paths.items ≡ (texts_of given.now).journals) × (AreNoPaths (texts_of given.now).journals → ⊥))
@@ -90,7 +90,7 @@ fn journals_in(alloc: Global, given: &Given) -> Result<Vec<PathText>, PathsFault
     }
 }
 
-/// The paths beside that of the configuration.
+/// All paths except the path of the configuration.
 #[derive(Drop)]
 pub(crate) struct Paths {
     pub lock: PathText,
@@ -98,7 +98,7 @@ pub(crate) struct Paths {
     pub journals: Vec<PathText>,
 }
 
-/// The paths in the words, or why they are not read.
+/// Returns the paths in the arguments, or why they could not be read.
 pub(crate) fn paths_in(alloc: Global, given: &Given) -> Result<Paths, PathsFault>
     ensures { MatchResult result (ArePaths (texts_of given.now))
         (IsPathsFault (Refuses (texts_of given.now) Word.Path)) }

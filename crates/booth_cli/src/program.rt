@@ -16,7 +16,7 @@ pub enum Program {
 }
 
 impl Program {
-    /// The name with which each of its lines begins.
+    /// Returns the name at the start of each of its lines.
     pub fn name(self) -> &'static str
         ensures name { result.now ≡ name_of self }
         ensures short { length result.now ≤ 12 }

@@ -1,4 +1,4 @@
-//! The readers of the options, in the order in which a refusal is told.
+//! The readers of the options, in the order in which refusals are reported.
 ghost use Rattle.std.specs.Prelude.{◌≡◌, ◌<◌, ◌^◌, ◌==◌, decimal, ℕ};
 ghost use Rattle.std.specs.Prelude.{is_some, option_map, MatchOption, MatchResult, codes, length};
 ghost use Rattle.std.specs.Prelude.{eqb, nat_lt};
@@ -23,19 +23,19 @@ use std::alloc::Global;
 /// The most turns of a daemon.
 pub const MOST_TURNS: u64 = 1 << 62;
 
-/// The most events of a simulation that words ask for.
+/// The most events that the arguments of a simulation may have.
 pub const MOST_EVENTS: u64 = 10_000_000;
 
 /// The most seconds of a margin or of a kill.
 const MOST_SECONDS: u64 = 4_294_967_295;
 
-/// How many events a simulation has, where it is not said.
+/// How many events a simulation has, if the arguments do not say it.
 const EVENTS: u64 = 100_000;
 
-/// The number that a simulation is drawn by, where it is not said.
+/// The seed of a simulation, if the arguments do not say it.
 const NUMBER: u64 = 1;
 
-/// What the options and words say.
+/// The meaning of options and arguments.
 #[derive(Drop)]
 pub(crate) struct Read {
     pub ticket: Option<Name>,
@@ -43,6 +43,8 @@ pub(crate) struct Read {
     pub value: Option<AttrValue>,
     pub options: Options,
     pub force: bool,
+    /// Whether the output is a JSON object.
+    pub json: bool,
     pub target: Option<Address>,
     pub site: Option<Address>,
     pub turns: Option<u64>,
@@ -56,25 +58,25 @@ pub(crate) struct Read {
     pub journals: Vec<PathText>,
     pub lock: PathText,
     pub records: PathText,
-    /// Whether a configuration is named.
+    /// Whether the arguments name a configuration.
     pub names_conf: bool,
     pub conf: PathText,
 }
 
-/// Why words are not read.
+/// Why arguments could not be read.
 #[derive(Drop)]
 pub(crate) enum Unread {
-    /// This is the first that its reader refuses.
+    /// This is the first argument that its reader refuses.
     Bad(Word),
-    /// There was no memory for what they say.
+    /// Memory for their meaning is out.
     NoMemory,
 }
 
-/// A word that its reader refuses.
+/// An argument that its reader refuses.
 #[derive(Drop)]
 pub(crate) struct Refused;
 
-// The name in a word.
+// Returns the name in an argument.
 fn name_in(word: Option<&str>) -> Result<Option<Name>, Refused>
     ensures { MatchResult result (λ name. HasName (option_map (λ t. t.now) word.entry) name
         × (IsNoName (option_map (λ t. t.now) word.entry) → ⊥))
@@ -89,7 +91,7 @@ fn name_in(word: Option<&str>) -> Result<Option<Name>, Refused>
     }
 }
 
-// The value in a word.
+// Returns the value in an argument.
 fn value_in(word: Option<&str>) -> Result<Option<AttrValue>, Refused>
     ensures { MatchResult result (λ value. HasName (option_map (λ t. t.now) word.entry) value
         × (IsNoValue (option_map (λ t. t.now) word.entry) → ⊥))
@@ -104,7 +106,7 @@ fn value_in(word: Option<&str>) -> Result<Option<AttrValue>, Refused>
     }
 }
 
-/// The ticket and the attribute that words name.
+/// The ticket and the attribute in the arguments.
 #[derive(Drop)]
 struct Named {
     ticket: Option<Name>,
@@ -145,14 +147,14 @@ fn address_in(word: Option<&str>) -> Result<Option<Address>, Refused>
     }
 }
 
-/// The addresses that words spell.
+/// The addresses in the arguments.
 #[derive(Drop)]
 struct Addresses {
     target: Option<Address>,
     site: Option<Address>,
 }
 
-// The address of the site that a ticket is moved to is read first.
+// The address of the site that a ticket is moved to comes first.
 fn addresses_in(given: &Given) -> Result<Addresses, Refused>
     ensures { MatchResult result (λ a. AreAddresses (texts_of given.now) a)
         (λ _. Refuses (texts_of given.now) Word.Site) }
@@ -166,7 +168,7 @@ fn addresses_in(given: &Given) -> Result<Addresses, Refused>
     }
 }
 
-// The number that a word spells, without a sign or a leading zero.
+// Returns the number in an argument, without a sign or a leading zero.
 fn number(word: &str) -> Option<u64>
     ensures { MatchOption result ((n : ℕ) → n < 2 ^ 64 → word.now ≡ decimal n → ⊥)
         (λ n. (word.now ≡ decimal n) × (n < 2 ^ 64)) }
@@ -204,7 +206,7 @@ fn number_in(word: Option<&str>, low: u64, high: u64) -> Result<Option<u64>, Ref
     }
 }
 
-// The number in a word, or this one where there is no word.
+// Returns the number in an argument, or this one if there is no argument.
 fn number_or(word: Option<&str>, low: u64, high: u64, default: u64) -> Result<u64, Refused>
     ensures { MatchResult result (λ n. HasNumberOr low high default (option_map (λ t. t.now) word.entry) n
         × (IsNoNumber low high (option_map (λ t. t.now) word.entry) → ⊥))
@@ -216,7 +218,7 @@ fn number_or(word: Option<&str>, low: u64, high: u64, default: u64) -> Result<u6
     }
 }
 
-// The milliseconds of a word's seconds.
+// Returns the milliseconds of an argument's seconds.
 fn time_in(word: Option<&str>) -> Result<Option<u64>, Refused>
     ensures { MatchResult result (λ n. HasTime (option_map (λ t. t.now) word.entry) n
         × (IsNoTime (option_map (λ t. t.now) word.entry) → ⊥))
@@ -229,7 +231,7 @@ fn time_in(word: Option<&str>) -> Result<Option<u64>, Refused>
     }
 }
 
-/// The counts that words spell.
+/// The counts in the arguments.
 #[derive(Drop)]
 struct Counts {
     turns: Option<u64>,
@@ -257,7 +259,7 @@ fn counts_in(given: &Given) -> Result<Counts, Refused>
     }
 }
 
-/// The times that words spell, in milliseconds.
+/// The times in the arguments, in milliseconds.
 #[derive(Drop)]
 struct Times {
     margin: Option<u64>,
@@ -277,7 +279,7 @@ fn times_in(given: &Given) -> Result<Times, Refused>
     }
 }
 
-/// The numbers that words spell.
+/// The numbers in the arguments.
 #[derive(Drop)]
 struct Numbers {
     counts: Counts,
@@ -297,14 +299,14 @@ fn numbers_in(given: &Given) -> Result<Numbers, Refused>
     }
 }
 
-// Whether a program is more than blanks.
+// Returns whether a program consists of more than blanks.
 fn has_word(program: &str) -> bool
     ensures { result ≡ list_any (λ b. nat_lt 0x20 b) program.now }
 {
     program.as_bytes().iter().any(|b| 0x20 < *b)
 }
 
-// The program in a word.
+// Returns the program in an argument.
 fn program_in(word: Option<&str>) -> Result<Option<Programs>, Refused>
     ensures { MatchResult result (λ programs. HasProgram (option_map (λ t. t.now) word.entry) programs
         × (IsNoProgram (option_map (λ t. t.now) word.entry) → ⊥))
@@ -334,7 +336,7 @@ fn has_ending(word: &str) -> bool
     word.ends_with(".conf")
 }
 
-// The path of a configuration that a word names.
+// Returns the path of a configuration that an argument names.
 fn completed(word: &str) -> Option<PathText>
     ensures { MatchOption result (PATH_BYTES < length (completed word.now)) (λ path. path ≡ completed word.now) }
 {
@@ -360,7 +362,7 @@ fn conf_in(word: Option<&str>) -> Option<PathText>
     completed(word.unwrap_or("booth"))
 }
 
-// Whether a word names a configuration.
+// Returns whether an argument names a configuration.
 fn names_conf(word: Option<&str>) -> bool
     ensures { result ≡ is_some (option_map (λ t. t.now) word.entry) }
 {
@@ -370,7 +372,7 @@ fn names_conf(word: Option<&str>) -> bool
     }
 }
 
-// The flags.
+// Returns the flags.
 fn options_in(given: &Given) -> Options
     ensures { result ≡ options_in (texts_of given.now) }
 {
@@ -381,7 +383,7 @@ fn options_in(given: &Given) -> Options
     }
 }
 
-/// What the options and words say, or the first that is refused.
+/// Returns the meaning of options and arguments, or the first that is refused.
 pub(crate) fn read_words(alloc: Global, given: &Given) -> Result<Read, Unread>
     ensures { Reads (texts_of given.now) result }
 {
@@ -412,6 +414,7 @@ pub(crate) fn read_words(alloc: Global, given: &Given) -> Result<Read, Unread>
         value: named.value,
         options: options_in(given),
         force: given.force,
+        json: given.json,
         target: addresses.target,
         site: addresses.site,
         turns: numbers.counts.turns,

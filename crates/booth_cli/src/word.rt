@@ -1,6 +1,6 @@
-//! Which word is refused.
+//! The argument that is refused.
 
-/// A word that is refused.
+/// An argument that is refused, by its kind.
 #[derive(Clone, Copy, Debug, PartialEq, Eq)]
 pub enum Word {
     /// The name of a ticket.

@@ -1,4 +1,4 @@
--- The configuration, read from its file, and how a run ends that gets none.
+-- The configuration, read from its file, and how a run ends without one.
 use Rattle.std.specs.Prelude.{◌≡◌, ◌⊎◌, ℕ, List, [], ◌∷◌, Result, Ok, Err, Bool, true, false, T}
 use Rattle.booth_conf.specs.Config.{ConfigSays}
 use Rattle.booth_conf.specs.Says.{Says, IsFault}
@@ -12,7 +12,7 @@ use Rattle.booth_outcomes.specs.declared.outcome.Outcome.TheVariants.{ConfUnread
 use Rattle.booth_outcomes.specs.declared.outcome.Ended.{Ended}
 use Rattle.booth_outcomes.specs.Texts.{unread_text, IsFaultText, out_of_memory_text}
 
--- no configuration came from the file at this path
+-- no configuration could be read from the file at this path
 abbrev pub IsUnread : List ℕ → Outcome → List ℕ → List Entry → Type 0
 IsUnread path ConfUnread said entries = (said ≡ unread_text path)
     × (entries ≡ ReadFile path (Err reads.Failed) ∷ [])
@@ -24,7 +24,7 @@ IsUnread path OutOfMemory said entries = (said ≡ out_of_memory_text)
     ⊎ ((text : List ℕ) × (entries ≡ ReadFile path (Ok text) ∷ [])))
 IsUnread path outcome said entries = ⊥
 
--- the outcomes of a configuration that did not come
+-- the outcomes without a configuration
 abbrev pub is_unread_outcome : Outcome → Bool
 is_unread_outcome ConfUnread = true
 is_unread_outcome (ConfBad fault) = true
@@ -34,7 +34,7 @@ is_unread_outcome outcome = false
 abbrev pub IsUnreadOutcome : Outcome → Type 0
 IsUnreadOutcome outcome = T (is_unread_outcome outcome)
 
--- the read of the file, and the configuration that its text says
+-- the read of the file, and the configuration that its text spells
 abbrev pub IsConfigRead : List ℕ → Result ConfigSays Ended → List Entry → Type 0
 IsConfigRead path (Ok config) entries = (text : List ℕ) × Says text config
     × (entries ≡ ReadFile path (Ok text) ∷ [])
@@ -42,12 +42,12 @@ IsConfigRead path (Err ended) entries = IsUnread path ended.outcome ended.said e
 
 -- ---- in the code
 
--- the outcome of a text with this fault
+-- the outcome for a text with this fault
 abbrev pub refusal : ConfFault → Outcome
 refusal confs.OutOfMemory = OutOfMemory
 refusal fault = ConfBad fault
 
--- the configuration in this text, which stands at this path
+-- the configuration in this text, from the file at this path
 abbrev pub IsParsed : List ℕ → List ℕ → Result ConfigSays Ended → Type 0
 IsParsed path text (Ok config) = Says text config
 IsParsed path text (Err ended) = IsUnread path ended.outcome ended.said (ReadFile path (Ok text) ∷ [])

@@ -1,4 +1,4 @@
--- The ring, whose keys are read from their files where they are set, and how a run ends that gets none.
+-- The ring, with the keys in the key files that are set, and how a run ends without one.
 use Rattle.std.specs.Prelude.{◌≡◌, ◌⊎◌, ◌++◌, ℕ, List, [], ◌∷◌, Option, Some, None, Result, Ok, Err, Bool, true, false, T, IsSomeAnd}
 use Rattle.booth_conf.specs.Config.{ConfigSays}
 use Rattle.booth_keys.specs.Key.{key_read}
@@ -21,19 +21,19 @@ pub record IsKeyFile (text : List ℕ) : Type 0 where
 abbrev pub NamesKeyFile : ConfigSays → List ℕ → Type 0
 NamesKeyFile config file = (config.authfile ≡ Some file) ⊎ (config.authfile_old ≡ Some file)
 
--- ---- what is read
+-- ---- the texts
 
 -- the texts of the two key files
 pub record KeyTexts : Type 0 where
   pub first : List ℕ
   pub old : List ℕ
 
--- the file of the old key, which is read only where the first key has a file
+-- the file of the old key, which is read only if the first key has a file
 abbrev pub old_file : Option (List ℕ) → Option (List ℕ) → Option (List ℕ)
 old_file None old = None
 old_file (Some first) old = old
 
--- the read of a key file, where one is set
+-- the read of a key file, if one is set
 abbrev pub key_call : Option (List ℕ) → List ℕ → List Entry
 key_call None text = []
 key_call (Some file) text = ReadFile file (Ok text) ∷ []
@@ -45,7 +45,7 @@ key_calls config texts =
 
 -- ---- the ring
 
--- the key in a key file's text, or none where no file is set
+-- the key in a key file's text, or none if no file is set
 abbrev pub HasKey : Option (List ℕ) → List ℕ → Option (List ℕ) → Type 0
 HasKey None text key = key ≡ None
 HasKey (Some file) text key = IsSomeAnd key (λ bytes. key_read text ≡ Ok bytes)
@@ -58,14 +58,14 @@ pub record IsRing (config : ConfigSays) (texts : KeyTexts) (ring : Ring) : Type 
   pub old : HasKey config.authfile_old texts.old ring.old
   pub hash : ring.hash ≡ config.auth_hash
 
--- that ring, or none where the first key has no file
+-- that ring, or none if the first key has no file
 abbrev pub HasRing : ConfigSays → KeyTexts → Option Ring → Type 0
 HasRing config texts None = config.authfile ≡ None
 HasRing config texts (Some ring) = IsRing config texts ring
 
--- ---- a key that did not come
+-- ---- a missing key
 
--- no key came from this file
+-- no key could be read from this file
 abbrev pub IsFileKeyless : List ℕ → Outcome → List ℕ → List Entry → Type 0
 IsFileKeyless file KeyUnread said entries =
     (said ≡ unread_text file) × (entries ≡ ReadFile file (Err reads.Failed) ∷ [])
@@ -76,14 +76,14 @@ IsFileKeyless file OutOfMemory said entries =
     (said ≡ out_of_memory_text) × (entries ≡ ReadFile file (Err reads.NoMemory) ∷ [])
 IsFileKeyless file outcome said entries = ⊥
 
--- no first key came, and then no other file was read
+-- the first key could not be read, and no other file was read
 pub record IsFirstKeyless (config : ConfigSays) (outcome : Outcome) (said : List ℕ) (entries : List Entry)
     : Type 0 where
   pub file : List ℕ
   pub set : config.authfile ≡ Some file
   pub here : IsFileKeyless file outcome said entries
 
--- the first key came, and then no old one
+-- the first key was read, and the old one could not be
 pub record IsOldKeyless (config : ConfigSays) (outcome : Outcome) (said : List ℕ) (entries : List Entry)
     : Type 0 where
   pub file : List ℕ
@@ -97,12 +97,12 @@ pub record IsOldKeyless (config : ConfigSays) (outcome : Outcome) (said : List �
   pub whole : entries ≡ ReadFile file (Ok text) ∷ rest
   pub here : IsFileKeyless old outcome said rest
 
--- no key came from one of the files; that of the first key goes first
+-- a key could not be read from one of the files; that of the first key comes first
 pub data IsKeyless (config : ConfigSays) (outcome : Outcome) (said : List ℕ) (entries : List Entry) : Type 0 where
   FirstKeyless : IsFirstKeyless config outcome said entries → IsKeyless config outcome said entries
   OldKeyless : IsOldKeyless config outcome said entries → IsKeyless config outcome said entries
 
--- the outcomes of a key that did not come
+-- the outcomes without a key
 abbrev pub is_keyless_outcome : Outcome → Bool
 is_keyless_outcome KeyUnread = true
 is_keyless_outcome (KeyBad fault) = true
@@ -112,7 +112,7 @@ is_keyless_outcome outcome = false
 abbrev pub IsKeylessOutcome : Outcome → Type 0
 IsKeylessOutcome outcome = T (is_keyless_outcome outcome)
 
--- the reads of the key files that are set, and the ring of the keys that they hold
+-- the reads of the key files that are set, and the ring with their keys
 abbrev pub IsRingRead : ConfigSays → Result (Option Ring) Ended → List Entry → Type 0
 IsRingRead config (Ok ring) entries = (texts : KeyTexts) × HasRing config texts ring
     × (entries ≡ key_calls config texts)
@@ -120,7 +120,7 @@ IsRingRead config (Err ended) entries = IsKeyless config ended.outcome ended.sai
 
 -- ---- in the code
 
--- these bytes are no key, for this fault, which is told
+-- these bytes are no key, for this fault, which is reported
 pub record IsNoKey (bytes : List ℕ) (ended : Ended) : Type 0 where
   pub fault : KeyFault
   pub reads : key_read bytes ≡ Err fault
@@ -131,13 +131,13 @@ abbrev pub IsFileKey : List ℕ → Result (List ℕ) Ended → Type 0
 IsFileKey bytes (Ok key) = key_read bytes ≡ Ok key
 IsFileKey bytes (Err ended) = IsNoKey bytes ended
 
--- the one read of this file, and what came of it
+-- the one read of this file, and its result
 abbrev pub IsFromFile : List ℕ → Result (List ℕ) Ended → List Entry → Type 0
 IsFromFile file (Ok key) entries = (text : List ℕ) × (key_read text ≡ Ok key)
     × (entries ≡ ReadFile file (Ok text) ∷ [])
 IsFromFile file (Err ended) entries = IsFileKeyless file ended.outcome ended.said entries
 
--- the read of a key file, where one is set, and what came of it
+-- the read of a key file, if one is set, and its result
 abbrev pub IsKeyRead : Option (List ℕ) → Result (Option (List ℕ)) Ended → List Entry → Type 0
 IsKeyRead file (Ok key) entries = (text : List ℕ) × HasKey file text key × (entries ≡ key_call file text)
 IsKeyRead file (Err ended) entries =

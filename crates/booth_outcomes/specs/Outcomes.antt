@@ -1,4 +1,4 @@
--- What an outcome alone says: whether a daemon that was asked for can have it, and whom it blames.
+-- The properties of an outcome alone: whether a daemon can have it, and whether the environment failed.
 use Rattle.std.specs.Prelude.{ℕ, Bool, true, false, not, T, MatchBool, ⊤}
 use Rattle.booth_host.specs.Causes.{Rose}
 use Rattle.booth_outcomes.specs.declared.outcome.Outcome.{Outcome}
@@ -7,7 +7,7 @@ use Rattle.booth_outcomes.specs.declared.outcome.Outcome.TheVariants.{KeyUnread,
 use Rattle.booth_outcomes.specs.declared.outcome.Outcome.TheVariants.{RecordUnread, TurnsSpent, OutOfMemory}
 use Rattle.booth_outcomes.specs.declared.outcome.Outcome.TheVariants.{JournalUnread, PrintFault, SendFault}
 
--- an outcome of a daemon that was asked for
+-- an outcome of a daemon
 abbrev pub is_served : Outcome → Bool
 is_served Done = true
 is_served ConfUnread = true
@@ -26,7 +26,7 @@ is_served outcome = false
 abbrev pub IsServed : Outcome → Type 0
 IsServed outcome = T (is_served outcome)
 
--- an outcome that comes only where the outside failed
+-- an outcome that comes only if the environment failed
 abbrev pub has_blame : Outcome → Bool
 has_blame ConfUnread = true
 has_blame KeyUnread = true
@@ -38,7 +38,7 @@ has_blame PrintFault = true
 has_blame SendFault = true
 has_blame outcome = false
 
--- Where the outside is to blame, its count of faults rose.
+-- If the environment failed, its count of faults rose.
 abbrev pub HasBlame : Outcome → ℕ → ℕ → Type 0
 HasBlame outcome before now = MatchBool (has_blame outcome) (Rose before now) ⊤
 

@@ -1,4 +1,4 @@
--- What is said on standard error, and the exit status.
+-- The text on standard error, and the exit status.
 use Rattle.std.specs.Prelude.{◌≡◌, ◌++◌, ℕ, List, [], ◌∷◌, Option, Some, Result, codes, decimal, slice_get, unwrap_or}
 use Rattle.booth_base.specs.declared.address.Address.{Address}
 use Rattle.booth_base.specs.Address.{printed}
@@ -25,11 +25,11 @@ use Rattle.booth_cli.specs.declared.word.Word.TheVariants as words
 use Rattle.booth_outcomes.specs.declared.outcome.Outcome.{Outcome}
 use Rattle.booth_outcomes.specs.declared.outcome.Outcome.TheVariants.{Done, Report, NotRunning, Usage}
 
--- a text as it is said: behind the program's name, on a line
+-- a text as it is printed: after the program's name, on a line
 abbrev pub spoken : Program → List ℕ → List ℕ
 spoken program text = name_of program ++ codes ": " ++ text ++ codes "\n"
 
--- one err of the program's line with this text, whatever the host answers, or none where the text is empty
+-- one print of the program's line with this text, with any answer of the host, or none if the text is empty
 abbrev pub IsText : Program → List ℕ → List Entry → Type 0
 IsText program [] entries = entries ≡ []
 IsText program (b ∷ text) entries = (answer : Result (Unit {0}) Failed)
@@ -39,12 +39,12 @@ abbrev pub usage_text : Program → List ℕ
 usage_text Boothd =
     codes "usage: boothd COMMAND [OPTIONS], with the command daemon, status, sim or audit; see --help behind it, and boothd(8)"
 usage_text Booth =
-    codes "usage: booth COMMAND [OPTIONS], with the command list, peers, grant, revoke or move; see --help behind it"
+    codes "usage: booth COMMAND [OPTIONS], with the command list, show, peers, status, grant, revoke or move; see --help behind it"
 usage_text Geostore =
     codes "usage: geostore COMMAND [OPTIONS], with the command set, get, delete or list; see --help behind it"
 usage_text BoothFollow = codes "usage: booth-follow [OPTIONS] -s ADDRESS TICKET PROGRAM; see --help"
 
--- what is printed where the version is asked for
+-- the output for the version
 abbrev pub version_text : Program → List ℕ
 version_text program = name_of program ++ codes " " ++ version ++ codes "\n"
 
@@ -75,7 +75,7 @@ why_not_followed follows.MarginTooLong = codes "the margin is too long for its e
 why_not_followed follows.KillTooLong = codes "the time of a kill is not below the margin"
 why_not_followed follows.KillTooShort = codes "the time of a kill is below 1 second"
 
--- of the ticket with this name
+-- about the ticket with this name
 abbrev pub not_followed_text : List ℕ → FollowFault → List ℕ
 not_followed_text ticket fault = codes "cannot follow ticket " ++ ticket ++ codes ": " ++ why_not_followed fault
 
@@ -90,7 +90,7 @@ key_fault_text keys.TooLong = codes "key too long"
 abbrev pub out_of_memory_text : List ℕ
 out_of_memory_text = codes "out of memory"
 
--- of the ticket with this name
+-- about the ticket with this name
 abbrev pub unread_record_text : List ℕ → List ℕ
 unread_record_text name = codes "cannot read the record of " ++ name
 
@@ -103,25 +103,25 @@ unopened_text = codes "cannot open"
 abbrev pub unprinted_text : List ℕ
 unprinted_text = codes "cannot print"
 
--- what is wrong with the file at this path
+-- the text for a fault of the file at this path
 abbrev pub file_text : List ℕ → List ℕ → List ℕ
 file_text path what = path ++ codes ": " ++ what
 
--- what is wrong with a line of it
+-- the text for a fault of one of its lines
 abbrev pub at_line : List ℕ → ℕ → List ℕ → List ℕ
 at_line path line what = file_text path (codes "line " ++ decimal line ++ codes ": " ++ what)
 
--- what is wrong with the ticket of this name
+-- the text for a fault of the ticket with this name
 abbrev pub at_ticket : List ℕ → List ℕ → List ℕ → List ℕ
 at_ticket path name what = file_text path (codes "ticket " ++ name ++ codes ": " ++ what)
 
--- what is said of the ticket on the text's `ticket` line of this place
+-- the text for the ticket on the text's `ticket` line with this number
 pub record IsTicketText (path text : List ℕ) (ticket : ℕ) (what said : List ℕ) : Type 0 where
   pub name : Option (List ℕ)
   pub named : NamesTicket text ticket name
   pub is : said ≡ at_ticket path (unwrap_or name []) what
 
--- what is said of the fault of a text, which stands in the file at this path
+-- the text for a fault of a text in the file at this path
 abbrev pub IsFaultText : List ℕ → List ℕ → ConfFault → List ℕ → Type 0
 IsFaultText path text confs.TooLarge said = said ≡ file_text path (codes "too large")
 IsFaultText path text (confs.Syntax line) said = said ≡ at_line path line (codes "syntax")
@@ -148,7 +148,7 @@ IsFaultText path text confs.OutOfMemory said = said ≡ out_of_memory_text
 abbrev pub journal_at : List (List ℕ) → ℕ → List ℕ
 journal_at paths place = unwrap_or (slice_get paths place) []
 
--- what is said of the fault of journals, which stand in the files at these paths
+-- the text for a fault of journals in the files at these paths
 abbrev pub audit_text : List (List ℕ) → AuditFault → List ℕ
 audit_text paths (audits.Line journal line) = at_line (journal_at paths journal) line (codes "syntax")
 audit_text paths (audits.Member journal) = file_text (journal_at paths journal) (codes "member")

@@ -1,4 +1,5 @@
--- Words that ask for nothing, and how that is told: help and version by an out, all else by an err.
+-- Arguments without a request, and how this is reported: help and version on standard output, anything else on
+-- standard error.
 use Rattle.std.specs.Prelude.{◌≡◌, ℕ, Bool, true, false, List, [], ◌∷◌, Some, None, Result, Ok}
 use Rattle.std.specs.Prelude.{Err}
 use Rattle.clap.specs.declared.error.kind.ErrorKind.{ErrorKind}
@@ -20,18 +21,18 @@ is_request DisplayHelp = true
 is_request DisplayVersion = true
 is_request kind = false
 
--- The text is printed for a request of this kind: the version is a line of its own, and help is any text.
+-- The text that is printed for a request of this kind: the version is a line of its own, and help is any text.
 abbrev pub IsShownText : Program → ErrorKind → List ℕ → Type 0
 IsShownText program kind text = kind ≡ DisplayVersion → text ≡ version_text program
 
--- one out of the text where it was asked for, and else one err of some text
+-- a print on standard output if the text was requested, and else a line on standard error with some text
 abbrev pub IsShown : Program → ErrorKind → Bool → List Entry → Type 0
 IsShown program kind true entries = (text : List ℕ) × IsShownText program kind text
     × (entries ≡ calls.Out text (Ok tt) ∷ [])
 IsShown program kind false entries = (text : List ℕ) × (answer : Result (Unit {0}) Failed)
     × (entries ≡ calls.Err text answer ∷ [])
 
--- what a program tells of an error of this kind of `clap`'s
+-- the report of a program about an error of `clap` with this kind
 abbrev pub IsTold : Program → ErrorKind → Outcome → List ℕ → List Entry → Type 0
 IsTold program kind (Usage (Some told)) said entries = (told ≡ kind) × (said ≡ [])
     × IsShown program kind (is_request kind) entries
@@ -41,21 +42,21 @@ IsTold program kind PrintFault said entries = (is_request kind ≡ true) × (sai
 IsTold program kind OutOfMemory said entries = (said ≡ out_of_memory_text) × (entries ≡ [])
 IsTold program kind outcome said entries = ⊥
 
--- the outcomes of an error of this kind
+-- the outcomes for an error of this kind
 abbrev pub IsToldOutcome : ErrorKind → Outcome → Type 0
 IsToldOutcome kind (Usage (Some told)) = (told ≡ kind) × (kind ≡ NoMemory → ⊥)
 IsToldOutcome kind PrintFault = is_request kind ≡ true
 IsToldOutcome kind OutOfMemory = Unit {0}
 IsToldOutcome kind outcome = ⊥
 
--- help or the version was asked for
+-- help or the version was requested
 pub record IsRequest (program : Program) (words : List (List ℕ)) : Type 0 where
   pub kind : ErrorKind
   pub untaken : IsUntaken program words kind
   pub is : is_request kind ≡ true
 
--- The words ask this program for nothing, by the outcome that this has. Want of memory may come in place of each thing
--- that they ask for, but only where there is a command: to see that there is none takes no memory.
+-- The arguments of this program have no request, by this outcome. Out of memory may come in place of any request, but
+-- only if there is a command: to see that there is none takes no memory.
 abbrev pub IsUnasked : Program → List (List ℕ) → Outcome → List ℕ → List Entry → Type 0
 IsUnasked program words (Usage None) said entries = (verb_in program words ≡ None)
     × (said ≡ usage_text program) × (entries ≡ [])

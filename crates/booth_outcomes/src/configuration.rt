@@ -13,7 +13,7 @@ use booth_conf::{ConfFault, Config};
 use booth_host::{Host, ReadFault};
 use std::alloc::Global;
 
-// How a run ends whose configuration has this fault.
+// Returns how a run ends if its configuration has this fault.
 fn refuse(path: &PathText, text: &[u8], fault: ConfFault) -> Ended
     ensures outcome { result.outcome ≡ refusal fault }
     ensures said { IsFaultText path.now text.now fault result.said }
@@ -30,7 +30,7 @@ fn refuse(path: &PathText, text: &[u8], fault: ConfFault) -> Ended
     }
 }
 
-// The configuration in this text, which stands at this path.
+// Returns the configuration in this text, from the file at this path.
 fn parse(alloc: Global, path: &PathText, text: &[u8]) -> Result<Config, Ended>
     ensures parsed { IsParsed path.now text.now result }
     ensures whole { IfOk result (λ config. file_fault config.members config.tickets ≡ None) }
@@ -44,7 +44,7 @@ fn parse(alloc: Global, path: &PathText, text: &[u8]) -> Result<Config, Ended>
     }
 }
 
-/// The configuration in the file at this path.
+/// Reads the configuration in the file at this path.
 pub fn read_config<H: Host>(alloc: Global, path: &PathText, host: &mut H) -> Result<Config, Ended>
     ensures past { GrewSome (IsConfigRead path.now result) (H.past host.old) (H.past host.new) }
     ensures whole { IfOk result (λ config. file_fault config.members config.tickets ≡ None) }

@@ -1,4 +1,4 @@
-//! The text of a line for standard error, whose memory is its own.
+//! The text of a line for standard error, in memory of its own.
 ghost use Rattle.std.specs.Prelude.{◌≡◌, ◌≤◌, ◌+◌, ◌++◌, [], decimal, length};
 ghost use Rattle.booth_outcomes.specs.Texts.{spoken};
 
@@ -10,8 +10,7 @@ use std::marker::Model;
 /// The most bytes of a text.
 const LINE_BYTES: usize = 400;
 
-/// Nothing, or the text of one line. The program's name is put before it when it is said. Contracts see
-/// its bytes.
+/// Nothing, or the text of one line. The program's name is put before it when it is printed. Contracts see its bytes.
 #[derive(Drop)]
 pub struct ErrorLine {
     bytes: ArrayVec<u8, LINE_BYTES>,
@@ -29,7 +28,7 @@ impl Model for ErrorLine {
 }
 
 impl ErrorLine {
-    /// Nothing.
+    /// Returns an empty text.
     pub fn none() -> ErrorLine
         ensures { result ≡ [] }
     {
@@ -38,7 +37,7 @@ impl ErrorLine {
         }
     }
 
-    /// Appends a piece, for which there is room.
+    /// Appends a text; there must be room for it.
     pub fn put(&mut self, piece: &[u8])
         requires { length self.old + length piece.now ≤ LINE_BYTES }
         ensures { self.new ≡ self.old ++ piece.now }
@@ -56,14 +55,14 @@ impl ErrorLine {
         self.put(digits.format(number).as_bytes());
     }
 
-    /// The bytes.
+    /// Returns the bytes.
     pub fn bytes(&self) -> &[u8]
         ensures { result.now ≡ self.now }
     {
         &self.bytes
     }
 
-    /// The whole line: the program's name, and then the text.
+    /// Returns the whole line: the program's name, and then the text.
     pub(crate) fn spoken(&self, program: Program) -> ArrayVec<u8, 415>
         ensures { result.items ≡ spoken program self.now }
     {

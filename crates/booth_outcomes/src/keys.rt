@@ -1,4 +1,4 @@
-//! The ring, whose keys come from their files.
+//! The ring, with the keys from their files.
 ghost use Rattle.std.specs.Prelude.{◌≤◌, ℕ, IfErr, option_copied};
 ghost use Rattle.booth_host.specs.Past.{GrewSome};
 ghost use Rattle.booth_outcomes.specs.Outcomes.{HasBlame, IsServed};
@@ -12,7 +12,7 @@ use booth_host::{Host, ReadFault};
 use booth_keys::{Key, Ring};
 use std::alloc::Global;
 
-// The key in a key file's bytes.
+// Returns the key in a key file's bytes.
 fn file_key(bytes: &[u8]) -> Result<Key, Ended>
     ensures key { IsFileKey bytes.now result }
     ensures keyless { IfErr result (λ ended. IsKeylessOutcome ended.outcome) }
@@ -28,7 +28,7 @@ fn file_key(bytes: &[u8]) -> Result<Key, Ended>
     }
 }
 
-// The key in the file at this path.
+// Reads the key in the file at this path.
 fn from_file<H: Host>(alloc: Global, path: &PathText, host: &mut H) -> Result<Key, Ended>
     ensures past { GrewSome (IsFromFile path.now result) (H.past host.old) (H.past host.new) }
     ensures keyless { IfErr result (λ ended. IsKeylessOutcome ended.outcome) }
@@ -46,7 +46,7 @@ fn from_file<H: Host>(alloc: Global, path: &PathText, host: &mut H) -> Result<Ke
     }
 }
 
-// The key in the file at this path, where one is set.
+// Reads the key in the file at this path, if one is set.
 fn key_at<H: Host>(
     alloc: Global,
     path: Option<&PathText>,
@@ -67,8 +67,8 @@ fn key_at<H: Host>(
     }
 }
 
-/// The ring of the keys, where the configuration names the file of the first one. That file is read and
-/// checked before the old key's.
+/// Returns the ring of the keys, if the configuration names the file of the first one. That file is read and checked
+/// before the old key's.
 pub fn read_ring<H: Host>(
     alloc: Global,
     config: &Config,

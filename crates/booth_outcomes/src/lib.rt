@@ -1,5 +1,5 @@
-//! What the programs share: how a run ends and what is said of it, words that ask for nothing, the configuration
-//! and the key.
+//! What the programs share: how a run ends and the text for it, arguments without a request, the configuration and
+//! the key.
 #![tactic(auto)]
 
 mod configuration;

@@ -14,27 +14,26 @@ use clap::error::ErrorKind;
 /// How a run ended.
 #[derive(Clone, Copy, Debug, PartialEq, Eq)]
 pub enum Outcome {
-    /// The end was asked for, or the turns that were asked for were made; or a daemon runs, and that was
-    /// printed; or a simulation's counts were printed, or who held what by true journals.
+    /// The host asked for the end, or the requested turns were made; or a daemon runs, and that was printed; or the
+    /// counts of a simulation were printed, or the holdings of true journals.
     Done,
-    /// A daemon did or began what it was asked for, and that was printed.
+    /// A daemon did or began the request, and that was printed.
     Report,
     /// A daemon refused, with this result.
     Refused(u32),
-    /// A ticket was given back, and its grant to another site was refused, with this result.
+    /// A ticket was released, and its grant to another site was refused, with this result.
     Stranded(u32),
     /// No daemon answered in time.
     NoReply,
     /// A request could not be sent.
     SendFault,
-    /// The words are none that are taken, or ask for help. The kind is none where there is no command in
-    /// them.
+    /// The arguments are invalid, or request help. The kind is none if there is no command.
     Usage(Option<ErrorKind>),
-    /// This word is not of its form.
+    /// This argument does not have its form.
     BadWord(Word),
     /// The configuration could not be read.
     ConfUnread,
-    /// The configuration is faulty.
+    /// The configuration has a fault.
     ConfBad(ConfFault),
     /// No member of the configuration has the address.
     NotMember,
@@ -60,16 +59,16 @@ pub enum Outcome {
     OpenFault,
     /// The record of a ticket could not be read.
     RecordUnread,
-    /// 2^62 turns were made, and no count of them was asked for.
+    /// 2^62 turns were made, without a number of turns in the arguments.
     TurnsSpent,
-    /// What was asked for could not be printed.
+    /// The output could not be printed.
     PrintFault,
-    /// There was no memory; at a daemon, before the first turn.
+    /// Memory was out; at a daemon, before the first turn.
     OutOfMemory,
 }
 
 impl Outcome {
-    /// The exit status of the program.
+    /// Returns the exit status of the program.
     pub fn status(&self) -> u8
         ensures { result ≡ status_of self.now }
     {
@@ -91,7 +90,7 @@ impl Outcome {
     }
 }
 
-/// An outcome, and what is said of it on standard error: nothing or one line.
+/// An outcome, and the text for it on standard error: nothing or one line.
 #[derive(Drop)]
 pub struct Ended {
     pub outcome: Outcome,
@@ -99,7 +98,7 @@ pub struct Ended {
 }
 
 impl Ended {
-    /// How a run ends where there was no memory.
+    /// Returns how a run ends if memory is out.
     pub fn out_of_memory() -> Ended
         ensures outcome { result.outcome ≡ Outcome.OutOfMemory }
         ensures said { result.said ≡ out_of_memory_text }

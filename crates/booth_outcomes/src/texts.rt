@@ -1,4 +1,4 @@
-//! What is said on standard error of each outcome, but for the program's name.
+//! The text on standard error for each outcome, without the program's name.
 ghost use Rattle.std.specs.Prelude.{◌≡◌, ◌≤◌, ◌+◌, ◌++◌, [], codes, decimal, length};
 ghost use Rattle.std.specs.Prelude.{unwrap_or};
 ghost use Rattle.booth_base.specs.Address.{printed};
@@ -18,7 +18,7 @@ use booth_following::FollowFault;
 use booth_journal::AuditFault;
 use booth_keys::KeyFault;
 
-/// A line of this text.
+/// Returns a line with this text.
 pub fn line_of(text: &[u8]) -> ErrorLine
     requires { length text.now ≤ 300 }
     ensures { result ≡ text.now }
@@ -28,7 +28,7 @@ pub fn line_of(text: &[u8]) -> ErrorLine
     line
 }
 
-/// What is said where there is no command: those that the program has.
+/// Returns the text for a missing command: those that the program has.
 pub fn usage_text(program: Program) -> ErrorLine
     ensures { result ≡ usage_text program }
 {
@@ -38,7 +38,7 @@ pub fn usage_text(program: Program) -> ErrorLine
             see --help behind it, and boothd(8)",
         ),
         Program::Booth => line_of(
-            b"usage: booth COMMAND [OPTIONS], with the command list, peers, grant, revoke or move; \
+            b"usage: booth COMMAND [OPTIONS], with the command list, show, peers, status, grant, revoke or move; \
             see --help behind it",
         ),
         Program::Geostore => line_of(
@@ -51,7 +51,7 @@ pub fn usage_text(program: Program) -> ErrorLine
     }
 }
 
-/// What is printed where the version of a program is asked for.
+/// Returns the output for the version of a program.
 pub(crate) fn version_text(program: Program) -> ErrorLine
     ensures { result ≡ version_text program }
 {
@@ -63,7 +63,7 @@ pub(crate) fn version_text(program: Program) -> ErrorLine
     line
 }
 
-/// What is said of a word that is refused.
+/// Returns the text for an argument that is refused.
 pub fn bad_word_text(word: Word) -> ErrorLine
     ensures { result ≡ bad_word_text word }
 {
@@ -79,7 +79,7 @@ pub fn bad_word_text(word: Word) -> ErrorLine
     }
 }
 
-/// What is said of a file that could not be read.
+/// Returns the text for a file that could not be read.
 pub fn unread_text(path: &PathText) -> ErrorLine
     ensures { result ≡ unread_text path.now }
 {
@@ -89,7 +89,7 @@ pub fn unread_text(path: &PathText) -> ErrorLine
     line
 }
 
-/// What is said of a lock that failed.
+/// Returns the text for a lock that failed.
 pub fn unlocked_text(path: &PathText) -> ErrorLine
     ensures { result ≡ unlocked_text path.now }
 {
@@ -99,14 +99,14 @@ pub fn unlocked_text(path: &PathText) -> ErrorLine
     line
 }
 
-/// What is said where the socket or the directory of the records could not be opened.
+/// Returns the text for a socket or a directory of records that could not be opened.
 pub fn unopened_text() -> ErrorLine
     ensures { result ≡ unopened_text }
 {
     line_of(b"cannot open")
 }
 
-/// What is said where the record of this ticket could not be read.
+/// Returns the text for this ticket's record, which could not be read.
 pub fn unread_record_text(ticket: &Name) -> ErrorLine
     ensures { result ≡ unread_record_text ticket.now }
 {
@@ -116,7 +116,7 @@ pub fn unread_record_text(ticket: &Name) -> ErrorLine
     line
 }
 
-/// What is said where a print failed.
+/// Returns the text for a print that failed.
 pub fn unprinted_text() -> ErrorLine
     ensures { result ≡ unprinted_text }
 {
@@ -132,7 +132,7 @@ fn put_not_member(address: &Address, line: &mut ErrorLine)
     line.put(b" is not a member");
 }
 
-/// What is said of an address that no member has.
+/// Returns the text for an address that no member has.
 pub fn not_member_text(address: &Address) -> ErrorLine
     ensures { result ≡ not_member_text address.now }
 {
@@ -149,7 +149,7 @@ fn put_not_site(address: &Address, line: &mut ErrorLine)
     line.put(b" is not a site");
 }
 
-/// What is said of an address that no site has.
+/// Returns the text for an address that no site has.
 pub fn not_site_text(address: &Address) -> ErrorLine
     ensures { result ≡ not_site_text address.now }
 {
@@ -172,7 +172,7 @@ fn why_not_followed(fault: FollowFault) -> &'static str
     }
 }
 
-/// What is said of a ticket that is not followed.
+/// Returns the text for a ticket that is not followed.
 pub fn not_followed_text(ticket: &Name, fault: FollowFault) -> ErrorLine
     ensures { result ≡ not_followed_text ticket.now fault }
 {
@@ -184,7 +184,7 @@ pub fn not_followed_text(ticket: &Name, fault: FollowFault) -> ErrorLine
     line
 }
 
-// The name of a key; those of the table have one.
+// Returns the name of a key; those of the table have one.
 fn key_name(key: KeyNo) -> &'static str
     ensures name { result.now ≡ key_name key }
     ensures short { length result.now ≤ 22 }
@@ -201,14 +201,14 @@ pub(crate) fn key_fault_text(fault: KeyFault) -> ErrorLine
     }
 }
 
-/// What is said of want of memory.
+/// Returns the text for out of memory.
 pub(crate) fn out_of_memory_text() -> ErrorLine
     ensures { result ≡ out_of_memory_text }
 {
     line_of(b"out of memory")
 }
 
-// The begin of a line on the file at this path.
+// Returns the start of a line about the file at this path.
 fn begun_with(path: &str) -> ErrorLine
     requires { length path.now ≤ PATH_BYTES }
     ensures bytes { result ≡ path.now ++ codes ": " }
@@ -229,7 +229,7 @@ fn file_text(path: &PathText, what: &[u8]) -> ErrorLine
     line
 }
 
-// The begin of a line on a line of the file at this path.
+// Returns the start of a line about a line of the file at this path.
 fn begun_at(path: &str, number: u64) -> ErrorLine
     requires { length path.now ≤ PATH_BYTES }
     ensures bytes { result ≡ path.now ++ codes ": line "
@@ -269,7 +269,7 @@ fn of_value(path: &PathText, number: u32, key: KeyNo) -> ErrorLine
     line
 }
 
-// Appends the name of a ticket, where it has one.
+// Appends the name of a ticket, if it has one.
 fn put_name(name: &Option<Name>, line: &mut ErrorLine)
     requires { length line.old ≤ 300 }
     ensures bytes { line.new ≡ line.old ++ unwrap_or name.now [] }
@@ -293,7 +293,7 @@ fn at_ticket(path: &PathText, text: &[u8], ticket: usize, what: &[u8]) -> ErrorL
     line
 }
 
-/// What is said of the fault of this text, which stands in the file at this path.
+/// Returns the text for the fault of this text, from the file at this path.
 pub(crate) fn fault_text(path: &PathText, text: &[u8], fault: ConfFault) -> ErrorLine
     ensures { IsFaultText path.now text.now fault result }
 {
@@ -322,7 +322,7 @@ pub(crate) fn fault_text(path: &PathText, text: &[u8], fault: ConfFault) -> Erro
     }
 }
 
-// The path of the journal at this place.
+// Returns the path of the journal at this place.
 fn journal_at(paths: &[PathText], place: u32) -> &str
     ensures value { result.now ≡ journal_at paths.now place }
     ensures short { length result.now ≤ PATH_BYTES }
@@ -351,7 +351,7 @@ fn at_journal_line(paths: &[PathText], journal: u32, number: u64, what: &[u8]) -
     line
 }
 
-/// What is said of the fault of journals, which stand in the files at these paths.
+/// Returns the text for the fault of journals in the files at these paths.
 pub fn audit_text(paths: &[PathText], fault: AuditFault) -> ErrorLine
     ensures { result ≡ audit_text paths.now fault }
 {

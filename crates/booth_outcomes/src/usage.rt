@@ -1,4 +1,5 @@
-//! How it is told that words ask for nothing: help and version by an out, all else by an err.
+//! How it is reported that arguments have no request: help and version on standard output, anything else on standard
+//! error.
 ghost use Rattle.std.specs.Prelude.{◌≡◌, ◌≤◌, true, false};
 ghost use Rattle.clap.specs.Words.{kind_of};
 ghost use Rattle.booth_host.specs.Past.{GrewSome};
@@ -28,7 +29,7 @@ fn text_of(alloc: Global, error: &Error) -> Result<String, AllocError> {
     format!(in alloc; "{error}")
 }
 
-// Prints what was asked for.
+// Prints the requested text.
 fn print<H: Host>(program: Program, kind: ErrorKind, text: &[u8], host: &mut H) -> Ended
     requires request { is_request kind ≡ true }
     requires shown { IsShownText program kind text.now }
@@ -51,7 +52,7 @@ fn print<H: Host>(program: Program, kind: ErrorKind, text: &[u8], host: &mut H) 
     }
 }
 
-// Says what is wrong, whether or not it can be said.
+// Prints what is wrong, whether or not the print succeeds.
 fn complain<H: Host>(program: Program, kind: ErrorKind, text: &str, host: &mut H) -> Ended
     requires mistake { is_request kind ≡ false }
     requires no_memory { kind ≡ ErrorKind.OutOfMemory → ⊥ }
@@ -68,7 +69,7 @@ fn complain<H: Host>(program: Program, kind: ErrorKind, text: &str, host: &mut H
     }
 }
 
-// Tells an error of this kind by the text that `clap` has for it.
+// Reports an error of this kind with the text that `clap` has for it.
 fn tell_kind<H: Host>(
     alloc: Global,
     program: Program,
@@ -94,8 +95,8 @@ fn tell_kind<H: Host>(
     }
 }
 
-/// Tells what `clap` has to say, and how the run of this program ends with it. The version is told with the program's
-/// name.
+/// Reports an error of `clap`, and returns how the run of this program ends. The version is printed with the
+/// program's name.
 pub fn tell_error<H: Host>(alloc: Global, program: Program, error: &Error, host: &mut H) -> Ended
     ensures past { GrewSome (IsTold program (kind_of error.now) result.outcome result.said)
         (H.past host.old) (H.past host.new) }

@@ -1,4 +1,4 @@
--- What a client asks, of whom, and the bytes that ask it.
+-- A client's request, its receiver, and its bytes.
 use Rattle.std.specs.Prelude.{ℕ, ◌+◌, ◌%◌, ◌^◌, ◌||◌, Bool, true, false, List, [], Option, Some, None, option_map, if◌then◌else◌}
 use Rattle.std.specs.List.{find}
 use Rattle.booth_base.specs.declared.address.MemberId.{MemberId}
@@ -8,7 +8,7 @@ use Rattle.booth_conf.specs.Config.{ConfigSays, has_id}
 use Rattle.booth_conf.specs.declared.members.Member.{Member}
 use Rattle.booth_wire.specs.declared.codes.options.TheConstants.{IMMEDIATE, WAIT, COMMIT}
 use Rattle.booth_wire.specs.declared.command.Cmd.{Cmd}
-use Rattle.booth_wire.specs.declared.command.Cmd.TheVariants.{CLst, Peer, CGnt, CRvk, ASet, AGet, ADel, ALst}
+use Rattle.booth_wire.specs.declared.command.Cmd.TheVariants.{CLst, CTkt, Peer, CGnt, CRvk, ASet, AGet, ADel, ALst}
 use Rattle.booth_wire.specs.declared.message.AttrPart.{AttrPart}
 use Rattle.booth_wire.specs.declared.message.TicketPart.{TicketPart}
 use Rattle.booth_wire.specs.PlainMessage.{PlainMessage, Content, Bare, Ticket, Attr}
@@ -18,11 +18,13 @@ use Rattle.booth_talk.specs.declared.order.Options.{Options}
 use Rattle.booth_talk.specs.declared.order.Order.{Order}
 use Rattle.booth_talk.specs.declared.order.Order.TheVariants as orders
 
--- ---- what is asked for
+-- ---- requests
 
 abbrev pub cmd_of : Order → Cmd
 cmd_of orders.List = CLst
+cmd_of (orders.Show ticket style) = CTkt
 cmd_of orders.Peers = Peer
+cmd_of orders.Status = Peer
 cmd_of (orders.Grant ticket options) = CGnt
 cmd_of (orders.Revoke ticket options) = CRvk
 cmd_of (orders.SetAttribute ticket name value) = ASet
@@ -30,7 +32,7 @@ cmd_of (orders.GetAttribute ticket name) = AGet
 cmd_of (orders.DeleteAttribute ticket name) = ADel
 cmd_of (orders.ListAttributes ticket) = ALst
 
--- it is for the list of tickets, which comes in parts
+-- the order is for the list of tickets, which comes in parts
 abbrev pub is_list : Order → Bool
 is_list orders.List = true
 is_list order = false
@@ -43,34 +45,36 @@ order_options (orders.Grant ticket options) = options
 order_options (orders.Revoke ticket options) = options
 order_options order = no_options
 
--- the outcome is waited for
+-- the client waits for the outcome
 abbrev pub is_waiting : Options → Bool
 is_waiting o = o.wait || o.commit
 
 abbrev pub bit : Bool → ℕ → ℕ
 bit set value = if set then value else 0
 
--- the bits of a request: who commits waits too
+-- the bits of a request: a client that commits waits too
 abbrev pub options_of : Options → ℕ
 options_of o = bit o.immediate IMMEDIATE + bit (is_waiting o) WAIT + bit o.commit COMMIT
 
 -- ---- the request
 
--- the number of the request that is sent at this reading
+-- the number of a request that is sent at this reading
 abbrev pub number_of : ℕ → ℕ
 number_of start = start % 2 ^ 32
 
--- the ticket is named, and nothing is said of it
+-- the part with the ticket's name and nothing else
 abbrev pub asked_part : List ℕ → TicketPart
 asked_part ticket = record { ticket = ticket; leader = NO_ONE; term = 0; valid_for = 0 }
 
--- the ticket is named, and the attribute where one is; a value is said by who sets it alone
+-- the part with the ticket's name, and the attribute's if there is one; only a request to set has a value
 abbrev pub asked_attribute : List ℕ → Option (List ℕ) → List ℕ → AttrPart
 asked_attribute ticket name value = record { ticket = ticket; name = name; value = value }
 
 abbrev pub asked_content : Order → Content
 asked_content orders.List = Bare
+asked_content (orders.Show ticket style) = Ticket (asked_part ticket)
 asked_content orders.Peers = Bare
+asked_content orders.Status = Bare
 asked_content (orders.Grant ticket options) = Ticket (asked_part ticket)
 asked_content (orders.Revoke ticket options) = Ticket (asked_part ticket)
 asked_content (orders.SetAttribute ticket name value) = Attr (asked_attribute ticket (Some name) value)
@@ -78,7 +82,7 @@ asked_content (orders.GetAttribute ticket name) = Attr (asked_attribute ticket (
 asked_content (orders.DeleteAttribute ticket name) = Attr (asked_attribute ticket (Some name) [])
 asked_content (orders.ListAttributes ticket) = Attr (asked_attribute ticket None [])
 
--- the message of a request, but for time and MAC
+-- the message of a request, except time and MAC
 abbrev pub request : Order → ℕ → PlainMessage
 request order start = record {
   head = record {
@@ -104,6 +108,6 @@ request_bytes asking start = sealed asking.ring (stamped asking.ring start (requ
 abbrev pub peer_at : ConfigSays → Member → Place
 peer_at config member = record { address = member.address; port = config.port }
 
--- where the member with this id listens
+-- the address at which the member with this id listens
 abbrev pub find_peer : ConfigSays → MemberId → Option Place
 find_peer config id = option_map (peer_at config) (find (has_id id) config.members)

@@ -1,4 +1,4 @@
--- The fields of a line: between them stands one blank.
+-- The fields of a line, with one blank between them.
 use Rattle.std.specs.Prelude.{◌≡◌, ◌<◌, ◌⊎◌, ◌+◌, ◌^◌, ◌==◌, ℕ, Bool, not, List, codes, decimal, take, drop}
 use Rattle.std.specs.List.{prefix_len}
 use Rattle.booth_base.specs.declared.address.Address.{Address}
@@ -12,11 +12,11 @@ is_field_byte b = not (b == 0x20)
 abbrev pub first : List ℕ → List ℕ
 first line = take (prefix_len is_field_byte line) line
 
--- the bytes behind the first blank, and none where there is no blank
+-- the bytes after the first blank, and none if there is no blank
 abbrev pub rest : List ℕ → List ℕ
 rest line = drop (prefix_len is_field_byte line + 1) line
 
--- a number below 2^64 as it is printed, so without leading zeros
+-- a number below 2^64 as it is printed, without leading zeros
 pub record IsNumber (text : List ℕ) : Type 0 where
   pub number : ℕ
   pub small : number < 2 ^ 64
@@ -28,7 +28,7 @@ pub record IsPrinted (text : List ℕ) : Type 0 where
   pub whole : IsAddress address
   pub spelled : text ≡ printed address
 
--- the owner of a ticket: an address, or nobody
+-- the owner of a ticket: an address, or none
 abbrev pub IsOwner : List ℕ → Type 0
 IsOwner text = (text ≡ codes "none") ⊎ IsPrinted text
 

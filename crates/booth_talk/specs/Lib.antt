@@ -6,6 +6,7 @@ pub mod Civil
 pub mod Fields
 pub mod Forms
 pub mod Owner
+pub mod Standing
 pub mod Report
 pub mod Parts
 pub mod Listing

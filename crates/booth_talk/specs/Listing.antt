@@ -1,4 +1,4 @@
--- A list that is asked for: the request, and the wait until all its parts have come.
+-- A request for a list, and the wait until all its parts have arrived.
 use Rattle.std.specs.Prelude.{◌≡◌, ◌<◌, ◌≤◌, ◌+◌, ◌++◌, ◌⊎◌, ℕ, true, false, List, [], ◌∷◌, length, Option, Some, None, Result, Ok, Err}
 use Rattle.std.specs.List.{All}
 use Rattle.booth_base.specs.declared.address.Peer.{Peer}
@@ -15,30 +15,30 @@ use Rattle.booth_talk.specs.Parts.{BringList, IsWhole, Part, first_part, is_whol
 use Rattle.booth_talk.specs.Waiting.{Pair, all_calls, calls_of}
 use Rattle.booth_talk.specs.declared.wait.TheConstants.{MOST_PAIRS, PATIENCE}
 
--- ---- rows of pairs
+-- ---- sequences of pairs
 
--- no refusal came with the pair, and its reading is not late
+-- the pair has no refusal, and its reading is not late
 pub record IsPatient (asking : Asking) (start : ℕ) (p : Pair) : Type 0 where
   pub none : refusal_at asking start p ≡ None
   pub early : p.reading ≤ start + PATIENCE
 
--- these pairs bring no whole list
+-- these pairs do not have a whole list
 abbrev pub IsUnwhole : Asking → ℕ → List Pair → Type 0
 IsUnwhole asking start pairs = (texts : List (List ℕ)) → IsWhole (first_part asking start pairs) texts → ⊥
 
--- Behind these pairs the list is still waited for. Since a whole list stays whole, none of their beginnings brings one.
+-- After these pairs the client still waits for the list. Since a whole list stays whole, no prefix of them has one.
 pub record IsAwaited (asking : Asking) (start : ℕ) (pairs : List Pair) : Type 0 where
   pub patient : All (IsPatient asking start) pairs
   pub unwhole : IsUnwhole asking start pairs
 
--- so many pairs, behind which the list is still waited for
+-- this many pairs, after which the client still waits for the list
 pub record IsListRow (asking : Asking) (start count : ℕ) (entries : List Entry) : Type 0 where
   pub pairs : List Pair
   pub number : length pairs ≡ count
   pub whole : entries ≡ all_calls pairs
   pub awaited : IsAwaited asking start pairs
 
--- fewer pairs than there may be, behind which the list is still waited for, and then a last one, with which Q holds
+-- fewer pairs than the limit, after which the client still waits for the list, and then a last one, for which Q holds
 pub record EndsAwaited (asking : Asking) (start : ℕ) (Q : List Pair → Pair → Type 0) (entries : List Entry)
     : Type 0 where
   pub early : List Pair
@@ -50,7 +50,7 @@ pub record EndsAwaited (asking : Asking) (start : ℕ) (Q : List Pair → Pair �
 
 -- ---- how a wait for a list ends
 
--- the last pair makes the list whole; its reading may be late
+-- the last pair completes the list; its reading may be late
 abbrev pub Completes : Asking → ℕ → List ℕ → List Pair → Pair → Type 0
 Completes asking start text early last = BringList asking start (early ++ last ∷ []) text
 
@@ -58,13 +58,13 @@ Completes asking start text early last = BringList asking start (early ++ last �
 abbrev pub IsRefused : Asking → ℕ → ℕ → List Pair → Pair → Type 0
 IsRefused asking start result early last = refusal_at asking start last ≡ Some result
 
--- the last pair is no refusal and makes no list whole, and its reading is late
+-- the last pair is no refusal and completes no list, and its reading is late
 pub record IsLateList (asking : Asking) (start : ℕ) (early : List Pair) (last : Pair) : Type 0 where
   pub none : refusal_at asking start last ≡ None
   pub unwhole : IsUnwhole asking start (early ++ last ∷ [])
   pub late : start + PATIENCE < last.reading
 
--- The wait for a list. It ends where its parts are whole, with their text; where an answer refuses it; at the first
+-- The wait for a list. It ends when its parts are whole, with their text; when an answer refuses it; at the first
 -- late reading before that; or with the last pair.
 abbrev pub IsListWait : Asking → ℕ → Listed → List ℕ → List Entry → Type 0
 IsListWait asking start Whole text entries = EndsAwaited asking start (Completes asking start text) entries
@@ -81,7 +81,7 @@ IsListTalk asking to start (Err failed) text entries =
 
 -- ---- in the code
 
--- a pair as it was heard by who waits for a list and has kept these parts
+-- a pair, for a client that waits for a list and has these parts
 abbrev pub IsListHeard : Asking → ℕ → Pair → List (Option Part) → ListHeard → Type 0
 IsListHeard asking start p kept heard.Whole = is_whole kept ≡ true
 IsListHeard asking start p kept (heard.Refusal result) = refusal_at asking start p ≡ Some result

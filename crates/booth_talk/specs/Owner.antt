@@ -1,11 +1,11 @@
--- Whom a list names as the owner of a ticket.
+-- The owner of a ticket in a list.
 use Rattle.std.specs.Prelude.{◌≡◌, ◌<◌, List, ℕ, [], length, get_or}
 use Rattle.booth_base.specs.declared.address.Address.{Address}
 use Rattle.booth_base.specs.Address.{printed}
 use Rattle.booth_talk.specs.Fields.{first, rest}
 use Rattle.booth_talk.specs.Forms.{lines_of}
 
--- the line is that of the ticket, and names this owner
+-- the line is about the ticket, and names this owner
 pub record IsOwnerLine (ticket owner line : List ℕ) : Type 0 where
   pub of_ticket : first line ≡ ticket
   pub named : first (rest line) ≡ owner

@@ -1,4 +1,4 @@
--- The parts in which a list comes, and when it is whole.
+-- The parts of a list, and when the list is whole.
 use Rattle.std.specs.Prelude.{◌≡◌, ◌<◌, ◌+◌, ◌++◌, ◌==◌, ◌&&◌, ◌||◌, ℕ, Bool, true, false, List, [], ◌∷◌, length, get_or, nat_lt}
 use Rattle.std.specs.Prelude.{Option, Some, None, option_and_then, if◌then◌else◌}
 use Rattle.std.specs.List.{concat}
@@ -15,25 +15,25 @@ pub record Part : Type 0 where
   pub last : Bool
   pub text : List ℕ
 
--- ---- what a reply is to who waits for a list
+-- ---- the meaning of a reply for a client that waits for a list
 
--- More is the result of each part but the last, which has 0
+-- More is the result of each part except the last, whose result is 0
 abbrev pub is_of_list : ℕ → Bool
 is_of_list result = (result == SUCCESS) || (result == MORE)
 
 abbrev pub part_of : PlainMessage → Part
 part_of m = record { last = m.head.result == SUCCESS; text = text_in m.content }
 
--- the part of this number that a reply is, if it is that
+-- the part with this number, if the reply is that part
 abbrev pub part_in : ℕ → PlainMessage → Option Part
 part_in n m =
     if is_of_list m.head.result && ((m.head.options == n) && nat_lt n PARTS) then Some (part_of m) else None
 
--- the result of a reply that refuses the list, which is every other result, whatever number the reply has
+-- the result of a reply that refuses the list: every result that no part has, whatever the options are
 abbrev pub refusal_in : PlainMessage → Option ℕ
 refusal_in m = if is_of_list m.head.result then None else Some m.head.result
 
--- ---- what pairs bring
+-- ---- the parts in pairs
 
 abbrev pub part_at : Asking → ℕ → ℕ → Pair → Option Part
 part_at asking start n p = option_and_then (part_in n) (message_at asking start p)
@@ -41,28 +41,28 @@ part_at asking start n p = option_and_then (part_in n) (message_at asking start 
 abbrev pub refusal_at : Asking → ℕ → Pair → Option ℕ
 refusal_at asking start p = option_and_then refusal_in (message_at asking start p)
 
--- the first part of this number that these pairs bring; each later one is passed over
+-- the first part with this number in these pairs; later ones are ignored
 unfoldable pub first_part : Asking → ℕ → List Pair → ℕ → Option Part
 first_part asking start [] n = None
 first_part asking start (p ∷ ps) n = option_or (part_at asking start n p) (first_part asking start ps n)
 
 -- ---- when a list is whole
 
--- By number these parts are a whole list with these texts: a last one, and before it one of each number that is not the
--- last.
+-- These parts, by number, are a whole list with these texts: a last one, and before it one with each number, none of
+-- which is the last.
 pub record IsWhole (part : ℕ → Option Part) (texts : List (List ℕ)) : Type 0 where
   pub last : ℕ
   pub number : length texts ≡ last + 1
   pub inner : (n : ℕ) → n < last → part n ≡ Some (record { last = false; text = get_or texts n [] })
   pub end : part last ≡ Some (record { last = true; text = get_or texts last [] })
 
--- these pairs bring a whole list, whose text is theirs, joined by number
+-- these pairs have a whole list, whose text is that of its parts, joined by number
 pub record BringList (asking : Asking) (start : ℕ) (pairs : List Pair) (text : List ℕ) : Type 0 where
   pub texts : List (List ℕ)
   pub whole : IsWhole (first_part asking start pairs) texts
   pub joined : text ≡ concat texts
 
--- A list that is whole has one text, and stays whole with it, whatever comes later.
+-- A whole list has one text, and stays whole with it, whatever arrives later.
 pub record ListsAreOne : Type 0 where
   pub one : (asking : Asking) (start : ℕ) (pairs : List Pair) (text other : List ℕ) →
       BringList asking start pairs text → BringList asking start pairs other → text ≡ other
@@ -71,11 +71,11 @@ pub record ListsAreOne : Type 0 where
 
 -- ---- in the code
 
--- Of each number the part is kept that was first: the one that was there, or this one.
+-- For each number the first part is stored: the one that was there, or this one.
 pub record AreTaken (part : ℕ → Option Part) (old new : List (Option Part)) : Type 0 where
   pub each : (n : ℕ) → get_or new n None ≡ option_or (get_or old n None) (part n)
 
--- none has come
+-- no part has arrived
 abbrev pub AreNone : List (Option Part) → Type 0
 AreNone kept = (n : ℕ) → get_or kept n None ≡ None
 

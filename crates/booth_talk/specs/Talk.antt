@@ -1,4 +1,4 @@
--- All that is sent and waited for: a request, its answer, and the one redirection of a revoke.
+-- All messages and waits: a request, its answer, and the one redirection of a revoke.
 use Rattle.std.specs.Prelude.{◌≡◌, ◌++◌, ◌&&◌, ◌==◌, ℕ, Bool, true, false, List, [], ◌∷◌, Option, Some, None, option_map}
 use Rattle.std.specs.Prelude.{Result, Ok, Err, MatchBool, MatchOption, if◌then◌else◌}
 use Rattle.booth_base.specs.declared.address.Peer.{Peer}
@@ -16,13 +16,13 @@ use Rattle.booth_talk.specs.Asking.{find_peer, is_waiting, order_options, reques
 use Rattle.booth_talk.specs.Replies.{reply_in}
 use Rattle.booth_talk.specs.Waiting.{IsFirstWait, IsFinalWait, is_begun}
 
--- ---- what a datagram holds
+-- ---- the reply in a datagram
 
--- the reply is what these bytes are to a request of this order
+-- the reply is the meaning of these bytes for a request of this order
 abbrev pub IsReplyIn : Asking → Reply → List ℕ → Type 0
 IsReplyIn asking reply bytes = (start : ℕ) × (reply_in asking start bytes ≡ Some reply)
 
--- the bytes are those of the reply that came
+-- the bytes are those of the reply that arrived
 abbrev pub IsHeld : Asking → Waited → List ℕ → Type 0
 IsHeld asking (Came reply reading) bytes = IsReplyIn asking reply bytes
 IsHeld asking Over bytes = Unit {0}
@@ -33,14 +33,15 @@ IsAnswerHeld asking (Err failed) bytes = Unit {0}
 
 -- ---- one request
 
--- nothing more is done
+-- nothing more happens
 pub record Stays (first : Waited) (first_bytes : List ℕ) (last : Waited) (bytes : List ℕ)
     (entries : List Entry) : Type 0 where
   pub same : last ≡ first
   pub kept : bytes ≡ first_bytes
   pub none : entries ≡ []
 
--- What follows the wait for the first reply: where the outcome is waited for and it was begun, the wait for that.
+-- What follows the wait for the first reply: if the client waits for the outcome and the request was begun, the wait
+-- for that.
 abbrev pub GoesOn : Asking → ℕ → Waited → List ℕ → Waited → List ℕ → List Entry → Type 0
 GoesOn asking start (Came reply reading) first_bytes last bytes entries =
     MatchBool (is_waiting (order_options asking.order) && is_begun reply)
@@ -72,28 +73,29 @@ abbrev pub is_revoke : Order → Bool
 is_revoke (orders.Revoke ticket options) = true
 is_revoke order = false
 
--- The member that a revoke is sent on to, and the reading at which it is: that of the pair which brought its name.
+-- The member to which a revoke is sent on, and the reading at which it is sent: the reading at which the reply
+-- came that names the member.
 abbrev pub redirected : Asking → Waited → Option (Peer × ℕ)
 redirected asking (Came reply reading) =
     if is_revoke asking.order && reply.result == REDR
     then option_map (λ peer. (peer, reading)) (find_peer asking.config reply.leader) else None
 redirected asking Over = None
 
--- nothing more is asked
+-- no further request
 pub record Rests (first : Result Waited Failed) (first_bytes : List ℕ) (last : Result Waited Failed)
     (bytes : List ℕ) (entries : List Entry) : Type 0 where
   pub same : last ≡ first
   pub kept : bytes ≡ first_bytes
   pub none : entries ≡ []
 
--- what follows the first asking: one more, where it is redirected
+-- what follows the first request: one more, if it is redirected
 abbrev pub AsksOn : Asking → Result Waited Failed → List ℕ → Result Waited Failed → List ℕ → List Entry → Type 0
 AsksOn asking (Ok first) first_bytes last bytes entries =
     MatchOption (redirected asking first) (Rests (Ok first) first_bytes last bytes entries)
     (λ on. IsAsking asking on.0 on.1 last bytes entries)
 AsksOn asking (Err failed) first_bytes last bytes entries = Rests (Err failed) first_bytes last bytes entries
 
--- All that is asked and waited for. The answer's bytes are those of the last datagram.
+-- All requests and waits. The answer's bytes are those of the last datagram.
 pub record IsTalk (asking : Asking) (to : Peer) (start : ℕ) (last : Result Waited Failed) (bytes : List ℕ)
     (entries : List Entry) : Type 0 where
   pub first : Result Waited Failed

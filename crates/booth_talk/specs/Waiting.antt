@@ -1,4 +1,4 @@
--- The wait for a reply, as a row of pairs of one arrival and one reading.
+-- The wait for a reply, as a sequence of pairs of one arrival and one reading.
 use Rattle.std.specs.Prelude.{◌≡◌, ◌<◌, ◌≤◌, ◌+◌, ◌++◌, ◌⊎◌, ◌==◌, ℕ, Bool, List, [], ◌∷◌, length}
 use Rattle.std.specs.Prelude.{Option, Some, None, Result, Ok, if◌then◌else◌}
 use Rattle.std.specs.List.{All}
@@ -33,14 +33,14 @@ unfoldable pub all_calls : List Pair → List Entry
 all_calls [] = []
 all_calls (p ∷ ps) = calls_of p ++ all_calls ps
 
--- so many pairs, of each of which P holds
+-- this many pairs, for each of which P holds
 pub record IsRow (P : Pair → Type 0) (count : ℕ) (entries : List Entry) : Type 0 where
   pub pairs : List Pair
   pub number : length pairs ≡ count
   pub whole : entries ≡ all_calls pairs
   pub each : All P pairs
 
--- fewer pairs than there may be, of each of which P holds, and then a last one, of which Q holds
+-- fewer pairs than the limit, for each of which P holds, and then a last one, for which Q holds
 pub record EndsBy (P Q : Pair → Type 0) (limit : ℕ) (entries : List Entry) : Type 0 where
   pub count : ℕ
   pub below : count < limit
@@ -50,9 +50,9 @@ pub record EndsBy (P Q : Pair → Type 0) (limit : ℕ) (entries : List Entry) :
   pub whole : entries ≡ early ++ calls_of last
   pub holds : Q last
 
--- ---- what a pair brings
+-- ---- the content of a pair
 
--- the reply that a datagram's bytes are; nothing else brings one
+-- the reply in a datagram's bytes; nothing else has one
 abbrev pub brought : Asking → ℕ → Result Arrival Failed → List ℕ → Option Reply
 brought asking start (Ok (Datagram peer)) bytes = reply_in asking start bytes
 brought asking start answer bytes = None
@@ -68,24 +68,24 @@ message_at asking start p = message_brought asking start p.answer p.bytes
 abbrev pub reply_at : Asking → ℕ → Pair → Option Reply
 reply_at asking start p = brought asking start p.answer p.bytes
 
--- no reply came with the pair, and its reading is not late
+-- the pair has no reply, and its reading is not late
 pub record IsSilent (asking : Asking) (start : ℕ) (p : Pair) : Type 0 where
   pub none : reply_at asking start p ≡ None
   pub early : p.reading ≤ start + PATIENCE
 
--- no reply came with the pair, and its reading is late
+-- the pair has no reply, and its reading is late
 pub record IsLate (asking : Asking) (start : ℕ) (p : Pair) : Type 0 where
   pub none : reply_at asking start p ≡ None
   pub late : start + PATIENCE < p.reading
 
--- this reply came with the pair, at its reading and with its bytes; the reading may be late
+-- the pair has this reply, with this reading and these bytes; the reading may be late
 pub record Brings (asking : Asking) (start : ℕ) (reply : Reply) (reading : ℕ) (bytes : List ℕ)
     (p : Pair) : Type 0 where
   pub is : reply_at asking start p ≡ Some reply
   pub at : p.reading ≡ reading
   pub with : p.bytes ≡ bytes
 
--- The wait for the first reply. It is over at the first late reading before a reply, or with the last pair.
+-- The wait for the first reply. It ends at the first late reading before a reply, or with the last pair.
 abbrev pub IsFirstWait : Asking → ℕ → Waited → List ℕ → List Entry → Type 0
 IsFirstWait asking start (Came reply reading) bytes entries =
     EndsBy (IsSilent asking start) (Brings asking start reply reading bytes) MOST_PAIRS entries
@@ -93,13 +93,13 @@ IsFirstWait asking start Over bytes entries =
     EndsBy (IsSilent asking start) (IsLate asking start) MOST_PAIRS entries
     ⊎ IsRow (IsSilent asking start) MOST_PAIRS entries
 
--- ---- outcomes of what was begun
+-- ---- outcomes of requests that were begun
 
--- the reply says that it was begun, and that the outcome is still to come
+-- the reply says that the request was begun, and that the outcome will follow
 abbrev pub is_begun : Reply → Bool
 is_begun reply = reply.result == ASYN
 
--- the reply, where it tells an outcome
+-- the reply, if it has an outcome
 abbrev pub settled : Option Reply → Option Reply
 settled None = None
 settled (Some reply) = if is_begun reply then None else Some reply
@@ -107,18 +107,18 @@ settled (Some reply) = if is_begun reply then None else Some reply
 abbrev pub outcome_at : Asking → ℕ → Pair → Option Reply
 outcome_at asking start p = settled (reply_at asking start p)
 
--- no outcome came with the pair
+-- the pair has no outcome
 pub record IsUnsettled (asking : Asking) (start : ℕ) (p : Pair) : Type 0 where
   pub none : outcome_at asking start p ≡ None
 
--- this outcome came with the pair, at its reading and with its bytes
+-- the pair has this outcome, with this reading and these bytes
 pub record BringsOutcome (asking : Asking) (start : ℕ) (reply : Reply) (reading : ℕ) (bytes : List ℕ)
     (p : Pair) : Type 0 where
   pub is : outcome_at asking start p ≡ Some reply
   pub at : p.reading ≡ reading
   pub with : p.bytes ≡ bytes
 
--- the wait for the outcome, without a bound of time
+-- the wait for the outcome, without a limit of time
 abbrev pub IsFinalWait : Asking → ℕ → Waited → List ℕ → List Entry → Type 0
 IsFinalWait asking start (Came reply reading) bytes entries =
     EndsBy (IsUnsettled asking start) (BringsOutcome asking start reply reading bytes) MOST_PAIRS entries
@@ -126,7 +126,7 @@ IsFinalWait asking start Over bytes entries = IsRow (IsUnsettled asking start) M
 
 -- ---- in the code
 
--- a pair as it was heard by one who waits for the first reply
+-- a pair, for a client that waits for the first reply
 abbrev pub IsHeard : Asking → ℕ → Pair → Heard → Type 0
 IsHeard asking start p (heard.Answer reply) = reply_at asking start p ≡ Some reply
 IsHeard asking start p heard.Late = IsLate asking start p

@@ -1,4 +1,4 @@
-//! Moments as dates and times of UTC.
+//! Moments as dates and times in UTC.
 ghost use Rattle.std.specs.Prelude.{◌≡◌, ◌≤◌, ◌<◌, ◌+◌, ◌*◌, ◌++◌, ◌∷◌, [], pos, codes, decimal, length, unsigned_abs};
 ghost use Rattle.jiff.specs.Words.{civil_nanos};
 ghost use Rattle.booth_talk.specs.Civil.{pair, moment_text, date_text};
@@ -12,7 +12,7 @@ use jiff::tz::Offset;
 /// The greatest number of seconds that is written as a date.
 const LAST: u64 = 250_000_000_000;
 
-// What a clock of UTC shows so many seconds after 1970 began.
+// Returns date and time in UTC, this many seconds after the start of 1970.
 fn moment(seconds: u64) -> DateTime
     requires { seconds ≤ LAST }
     ensures { civil_nanos result ≡ pos (seconds * 1000000000) }
@@ -23,7 +23,7 @@ fn moment(seconds: u64) -> DateTime
     Offset::UTC.to_datetime(at)
 }
 
-// A number below 100, in two digits.
+// Appends a number below 100, in two digits.
 fn put_pair(text: &mut ArrayString<32>, number: u8)
     requires small { number < 100 }
     requires room { length text.old.bytes + 2 ≤ 32 }
@@ -33,7 +33,7 @@ fn put_pair(text: &mut ArrayString<32>, number: u8)
     text.push((b'0' + number % 10) as char);
 }
 
-// The year as a number from 0 on.
+// Returns the year as a number from 0 on.
 fn year_of(at: &DateTime) -> u16
     ensures year { result ≡ unsigned_abs at.now.date.year }
     ensures fits { result < 10000 }
@@ -61,7 +61,7 @@ fn put_moment(text: &mut ArrayString<32>, at: &DateTime)
     put_pair(text, plain.time.second);
 }
 
-/// The text of a moment so many seconds after 1970 began: `YYYY-MM-DD HH:MM:SS` by UTC, and above
+/// Returns the text of a moment this many seconds after the start of 1970: `YYYY-MM-DD HH:MM:SS` in UTC, and above
 /// 250,000,000,000 an `@` and the number.
 pub fn date_text(seconds: u64) -> ArrayString<32>
     ensures { result.bytes ≡ date_text seconds }

@@ -1,4 +1,4 @@
-//! The fields of a line, between which one blank stands.
+//! The fields of a line, with one blank between them.
 ghost use Rattle.std.specs.Prelude.{◌≡◌, ◌≤◌, length, MatchBool};
 ghost use Rattle.std.specs.List.{prefix_len};
 ghost use Rattle.booth_base.specs.Address.{IsAddress};
@@ -12,7 +12,7 @@ fn first_len(line: &[u8]) -> usize
     line.iter().take_while(|b| **b != b' ').count()
 }
 
-/// The bytes before the first blank.
+/// Returns the bytes before the first blank.
 #[tactic(auto, using(booth_keys::proofs::KeyLemmas::cuts))]
 pub(crate) fn first(line: &[u8]) -> &[u8]
     ensures { result.now ≡ first line.now }
@@ -20,7 +20,7 @@ pub(crate) fn first(line: &[u8]) -> &[u8]
     &line[..first_len(line)]
 }
 
-/// The bytes behind the first blank, and none where there is no blank.
+/// Returns the bytes after the first blank, and none if there is no blank.
 pub(crate) fn rest(line: &[u8]) -> &[u8]
     ensures { result.now ≡ rest line.now }
 {
@@ -32,7 +32,7 @@ pub(crate) fn rest(line: &[u8]) -> &[u8]
     }
 }
 
-// An address has 4 or 16 bytes.
+// Returns whether an address has 4 or 16 bytes.
 fn is_whole(address: Address)
     ensures { IsAddress address }
 {
@@ -41,7 +41,7 @@ fn is_whole(address: Address)
     }
 }
 
-/// Whether this is an address as it is printed.
+/// Returns whether this is an address as it is printed.
 pub(crate) fn is_printed(text: &[u8]) -> bool
     ensures { MatchBool result (IsPrinted text.now) (IsPrinted text.now → ⊥) }
 {
@@ -54,7 +54,7 @@ pub(crate) fn is_printed(text: &[u8]) -> bool
     }
 }
 
-/// Whether this names an owner, or nobody.
+/// Returns whether this names an owner, or none.
 pub(crate) fn is_owner(text: &[u8]) -> bool
     ensures { MatchBool result (IsOwner text.now) (IsOwner text.now → ⊥) }
 {
@@ -64,7 +64,7 @@ pub(crate) fn is_owner(text: &[u8]) -> bool
     is_printed(text)
 }
 
-/// Whether this is what a member is.
+/// Returns whether this is the role of a member.
 pub(crate) fn is_role(text: &[u8]) -> bool
     ensures { MatchBool result (IsRole text.now) (IsRole text.now → ⊥) }
 {

@@ -1,13 +1,13 @@
-//! What holds of every reply, and of every list.
+//! What holds for every reply, and for every list.
 ghost use Rattle.booth_talk.specs.Parts.{ListsAreOne};
 ghost use Rattle.booth_talk.specs.Replies.{RepliesAreAuthentic};
 
-/// Just the bytes that meet five conditions are a reply.
+/// Exactly the bytes that meet five conditions are a reply.
 pub fn replies_are_authentic()
     ensures { RepliesAreAuthentic }
 {}
 
-/// A list that is whole has one text, and stays whole with it.
+/// A whole list has one text, and stays whole with it.
 pub fn lists_are_one()
     ensures { ListsAreOne }
 {}

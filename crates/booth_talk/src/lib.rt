@@ -1,4 +1,4 @@
-//! A client over any host: what it asks, which datagrams answer it, how long it waits, and what is printed.
+//! A client over any host: its requests, the datagrams that answer them, how long it waits, and its output.
 #![tactic(auto)]
 
 mod date;
@@ -14,13 +14,14 @@ mod parts;
 mod reply;
 mod reports;
 mod request;
+mod standing;
 mod talking;
 mod wait;
 
 pub use date::date_text;
 pub use list_wait::Listed;
 pub use listing::{ListRoom, talk_list};
-pub use order::{Asking, Options, Order};
+pub use order::{Asking, Options, Order, Style};
 pub use parts::Parts;
 pub use reply::Reply;
 pub use reports::{report, report_of};

@@ -1,4 +1,4 @@
-//! The lines of a daemon's texts: whether each is of its kind, and how it is shown.
+//! The lines of a daemon's texts: the kind of each, and how it is printed.
 ghost use Rattle.std.specs.Prelude.{◌≡◌, ◌++◌, [], codes, map, IfOk, OnOk, MatchBool, MatchOption};
 ghost use Rattle.std.specs.Str.Parse.{digits_value};
 ghost use Rattle.booth_talk.specs.Civil.{date_text};
@@ -16,7 +16,7 @@ use std::alloc::{AllocError, Global};
 pub(crate) enum Form {
     /// A line for each ticket.
     List,
-    /// What was dropped, and a line for each other member.
+    /// The dropped datagrams, and a line for each other member.
     Peers,
 }
 
@@ -28,7 +28,7 @@ pub(crate) enum LineKind {
     Member,
 }
 
-/// What stands before the numbers of what was dropped, in the order of the faults.
+/// The labels of the numbers of dropped datagrams, in the order of the faults.
 const DROP_LABELS: [&str; 8] = [
     "dropped: frame ",
     ", nomac ",
@@ -40,11 +40,11 @@ const DROP_LABELS: [&str; 8] = [
     ", leader ",
 ];
 
-/// What stands before the counters of a member.
+/// The labels of the counters of a member.
 const MEMBER_LABELS: [&str; 3] = [", received: ", ", sent: ", ", errors: "];
 
 impl Form {
-    /// The kind of the first line.
+    /// Returns the kind of the first line.
     fn first_kind(self) -> LineKind
         ensures { result ≡ kind_at self 0 }
     {
@@ -54,7 +54,7 @@ impl Form {
         }
     }
 
-    /// The kind of every other line.
+    /// Returns the kind of every other line.
     fn other_kind(self) -> LineKind
         ensures { result ≡ kind_at self 1 }
     {
@@ -65,7 +65,7 @@ impl Form {
     }
 }
 
-// ---- whether a line is of its kind
+// ---- the kind of a line
 
 fn is_ticket_line(line: &[u8]) -> bool
     ensures { MatchBool result (IsTicketLine line.now) (IsTicketLine line.now → ⊥) }
@@ -97,7 +97,7 @@ fn is_line(kind: LineKind, line: &[u8]) -> bool
     }
 }
 
-// ---- how a line is shown
+// ---- how a line is printed
 
 fn put(shown: &mut Vec<u8>, piece: &[u8]) -> Result<(), AllocError>
     ensures { OnOk result (shown.new.items ≡ shown.old.items ++ piece.now) }
@@ -105,7 +105,7 @@ fn put(shown: &mut Vec<u8>, piece: &[u8]) -> Result<(), AllocError>
     shown.extend_from_slice(piece)
 }
 
-// Appends the end of a lease, where there is one.
+// Appends the end of a lease, if there is one.
 fn put_expiry(shown: &mut Vec<u8>, seconds: u64) -> Result<(), AllocError>
     ensures { OnOk result (shown.new.items ≡ shown.old.items ++ expiry seconds) }
 {
@@ -116,7 +116,7 @@ fn put_expiry(shown: &mut Vec<u8>, seconds: u64) -> Result<(), AllocError>
     put(shown, date_text(seconds).as_bytes())
 }
 
-// Appends when something came last, where it did.
+// Appends when the last datagram arrived, if one did.
 fn put_last(shown: &mut Vec<u8>, seconds: u64) -> Result<(), AllocError>
     ensures { OnOk result (shown.new.items ≡ shown.old.items ++ last_text seconds) }
 {
@@ -126,7 +126,7 @@ fn put_last(shown: &mut Vec<u8>, seconds: u64) -> Result<(), AllocError>
     put(shown, date_text(seconds).as_bytes())
 }
 
-// Appends each of these fields behind its label.
+// Appends each of these fields after its label.
 fn put_labelled(shown: &mut Vec<u8>, labels: &[&str], text: &[u8]) -> Result<(), AllocError>
     ensures { OnOk result (shown.new.items
         ≡ shown.old.items ++ labelled (map (λ l. l.now) labels.now) text.now) }
@@ -140,7 +140,7 @@ fn put_labelled(shown: &mut Vec<u8>, labels: &[&str], text: &[u8]) -> Result<(),
     Ok(())
 }
 
-// The number in a field that is one.
+// Returns the number in a field that is one.
 fn number_in(text: &[u8]) -> u64
     requires { IsNumber text.now }
     ensures { result ≡ digits_value 10 text.now }
@@ -171,7 +171,7 @@ fn put_drops(shown: &mut Vec<u8>, line: &[u8]) -> Result<(), AllocError>
     put(shown, b"\n")
 }
 
-// Appends what a member is, its address, and when something came from it last.
+// Appends the role of a member, its address, and when its last datagram arrived.
 fn put_member_head(shown: &mut Vec<u8>, line: &[u8], seconds: u64) -> Result<(), AllocError>
     ensures { OnOk result (shown.new.items ≡ shown.old.items ++ (first line.now ++ codes " "
         ++ first (rest line.now) ++ codes ", last: " ++ last_text seconds)) }
@@ -204,7 +204,7 @@ fn put_line(shown: &mut Vec<u8>, kind: LineKind, line: &[u8]) -> Result<(), Allo
     }
 }
 
-/// The lines of a text as they are shown, where each is of the kind of its place; else nothing.
+/// Returns the lines of a text as they are printed, if each has the kind for its place; else nothing.
 pub(crate) fn shown_lines(
     alloc: Global,
     form: Form,

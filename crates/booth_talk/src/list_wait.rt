@@ -1,4 +1,4 @@
-//! The wait for a list: pairs of one arrival and one reading, until all parts have come.
+//! The wait for a list: pairs of one arrival and one reading, until all parts have arrived.
 ghost use Rattle.std.specs.Prelude.{◌≡◌, ◌≤◌, true, option_and_then, option_map, IfSome};
 ghost use Rattle.booth_host.specs.Past.{GrewSome};
 ghost use Rattle.booth_wire.specs.PlainMessage.{content_of, has_text, plain_of};
@@ -16,15 +16,15 @@ use booth_wire::Message;
 /// How the wait for a list ended.
 #[derive(Clone, Copy)]
 pub enum Listed {
-    /// All its parts came.
+    /// All its parts arrived.
     Whole,
-    /// It was refused with this result.
+    /// An answer refused it with this result.
     Refused(u32),
-    /// It did not come whole.
+    /// It did not arrive whole.
     Over,
 }
 
-// A pair of an arrival and a reading, as it was heard by one who waits for a list.
+// A pair of an arrival and a reading, for a client that waits for a list.
 enum ListHeard {
     Whole,
     Refusal(u32),
@@ -32,7 +32,7 @@ enum ListHeard {
     Silent,
 }
 
-// The authentic message that an arrival brought, if it is one.
+// Returns the authentic message in an arrival, if it has one.
 fn message_brought<'d>(
     asking: &Asking,
     start: u64,
@@ -51,7 +51,7 @@ fn message_brought<'d>(
     }
 }
 
-// The result of an answer that refuses the list.
+// Returns the result of an answer that refuses the list.
 fn refusal_in(message: &Message<'_>) -> Option<u32>
     ensures { result ≡ refusal_in (plain_of message.now) }
 {
@@ -62,7 +62,7 @@ fn refusal_in(message: &Message<'_>) -> Option<u32>
     }
 }
 
-// Keeps the part that an arrival brought, where it is the first of its number. What refuses the list is answered.
+// Stores the part in an arrival, if it is the first with its number. Returns the result of a refusal.
 fn take(
     asking: &Asking,
     start: u64,
@@ -113,7 +113,7 @@ fn judged(
     }
 }
 
-/// Waits for the parts of the list that was asked for at `start`. None has come before.
+/// Waits for the parts of the list that was requested at `start`. No part has arrived before.
 pub(crate) fn wait_list<H: Host>(
     asking: &Asking,
     start: u64,

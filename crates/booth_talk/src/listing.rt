@@ -1,4 +1,4 @@
-//! A list that is asked for: the request, the wait for its parts, and what is printed of it.
+//! A request for a list, the wait for its parts, and its output.
 ghost use Rattle.std.specs.Prelude.{◌≡◌, true, IfOk, MatchBool};
 ghost use Rattle.booth_host.specs.Past.{GrewSome};
 ghost use Rattle.booth_host.specs.Causes.{HasCause};
@@ -19,17 +19,17 @@ use booth_host::{Datagram, Failed, Host};
 use booth_wire::Frame;
 use std::alloc::{AllocError, Global};
 
-/// The memory of a list that is asked for: a frame to send, a datagram that arrives, and all parts.
+/// The memory for a list: a frame to send, a datagram that arrives, and all parts.
 #[derive(Drop)]
 pub struct ListRoom {
     frame: Frame,
     datagram: Datagram,
-    /// The parts that have come.
+    /// The parts that have arrived.
     pub parts: Parts,
 }
 
 impl ListRoom {
-    /// All memory that is taken until a list is whole. No part has come.
+    /// Allocates all memory that the reception of a list needs. No part has arrived.
     pub fn new(alloc: Global) -> Result<ListRoom, AllocError>
         ensures { IfOk result (λ room. AreNone room.parts) }
     {
@@ -43,8 +43,8 @@ impl ListRoom {
         })
     }
 
-    /// What is printed of the list whose parts have come: their texts, joined by number, line by line, with dates.
-    /// A text that is no list is printed as it is.
+    /// Returns the output for the list whose parts have arrived: their texts, joined by number, line by line, with
+    /// dates. A text that is no list is printed unchanged.
     pub fn report(&self, alloc: Global) -> Result<ByteText, AllocError>
         ensures { IfOk result (λ report. IsListReport (text_of self.now.parts) report) }
     {
@@ -52,7 +52,7 @@ impl ListRoom {
         list_report(alloc, &text)
     }
 
-    /// Returns whether the list whose parts have come names the member at this address as the owner of the ticket.
+    /// Returns whether the list whose parts have arrived names the member at this address as the owner of the ticket.
     pub fn shows_owner(
         &self,
         alloc: Global,
@@ -67,9 +67,12 @@ impl ListRoom {
     }
 }
 
-/// Asks this peer for the list, at this reading, and waits until all its parts have come.
+/// Requests the list from this peer, at this reading, and waits until all its parts have arrived. They are then in
+/// the room.
 ///
-/// They are then in the room. It fails only where the request could not be sent.
+/// # Errors
+///
+/// `Failed` only if the request could not be sent.
 pub fn talk_list<H: Host>(
     asking: &Asking,
     to: &Peer,

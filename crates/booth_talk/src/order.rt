@@ -1,26 +1,26 @@
-//! What a client asks for, and of whom.
+//! A client's request and its receiver.
 ghost use Rattle.std.specs.Prelude.{◌≡◌, ◌≤◌};
 ghost use Rattle.booth_talk.specs.Asking.{bit, cmd_of, find_peer, is_list, is_waiting, options_of, order_options};
-ghost use Rattle.booth_talk.specs.Report.{is_silent};
+ghost use Rattle.booth_talk.specs.Report.{is_silent, is_status};
 
 use booth_base::{AttrValue, MemberId, Name, Peer};
 use booth_conf::Config;
 use booth_keys::Ring;
 use booth_wire::{Cmd, options};
 
-/// How a grant or a revoke is asked for.
+/// The options of a grant or a revoke.
 #[derive(Clone, Copy)]
 pub struct Options {
     /// Whether a manual ticket is granted although another member is known to hold it.
     pub immediate: bool,
-    /// Whether the outcome is waited for.
+    /// Whether the client waits for the outcome.
     pub wait: bool,
-    /// Whether a grant counts only once its record is kept. It is then waited for.
+    /// Whether a grant counts only once its record is written. The client then waits for it.
     pub commit: bool,
 }
 
 impl Options {
-    /// Nothing but the request itself.
+    /// No options.
     pub const NONE: Options = Options {
         immediate: false,
         wait: false,
@@ -28,18 +28,31 @@ impl Options {
     };
 }
 
-/// What is asked for.
+/// The form of the output for one ticket.
+#[derive(Clone, Copy)]
+pub enum Style {
+    /// One line of text.
+    Line,
+    /// One JSON object on a line.
+    Json,
+}
+
+/// The kind of a request.
 #[derive(Drop)]
 pub enum Order {
     /// The tickets and their owners.
     List,
-    /// The members, and what came from them and went to them.
+    /// The holder, the term and the time left of one ticket.
+    Show(Name, Style),
+    /// The members, and the counters of the messages from and to them.
     Peers,
-    /// That the site acquires the ticket.
+    /// Any answer at all, which shows that the daemon runs.
+    Status,
+    /// A grant of the ticket to the site.
     Grant(Name, Options),
-    /// That the ticket is given back.
+    /// A revocation of the ticket.
     Revoke(Name, Options),
-    /// That an attribute of the ticket has this value.
+    /// Set an attribute of the ticket to this value.
     SetAttribute {
         ticket: Name,
         name: Name,
@@ -50,7 +63,7 @@ pub enum Order {
         ticket: Name,
         name: Name,
     },
-    /// That an attribute of the ticket is gone.
+    /// Delete an attribute of the ticket.
     DeleteAttribute {
         ticket: Name,
         name: Name,
@@ -59,7 +72,7 @@ pub enum Order {
     ListAttributes(Name),
 }
 
-/// A request, and the cluster that it is made to.
+/// A request, and the cluster that receives it.
 #[derive(Drop)]
 pub struct Asking {
     pub order: Order,
@@ -67,7 +80,7 @@ pub struct Asking {
     pub ring: Option<Ring>,
 }
 
-// This value where it is set, and else 0.
+// Returns this value if it is set, and else 0.
 fn bit(set: bool, value: u32) -> u32
     ensures bit { result ≡ bit set value }
     ensures most { result ≤ value }
@@ -76,14 +89,14 @@ fn bit(set: bool, value: u32) -> u32
 }
 
 impl Options {
-    /// Whether the outcome is waited for.
+    /// Returns whether the client waits for the outcome.
     pub(crate) fn is_waiting(&self) -> bool
         ensures { result ≡ is_waiting self.now }
     {
         self.wait || self.commit
     }
 
-    /// The bits of the request.
+    /// Returns the bits of the request.
     pub(crate) fn bits(&self) -> u32
         ensures { result ≡ options_of self.now }
     {
@@ -94,13 +107,14 @@ impl Options {
 }
 
 impl Order {
-    /// The command of the request.
+    /// Returns the command of the request.
     pub(crate) fn cmd(&self) -> Cmd
         ensures { result ≡ cmd_of self.now }
     {
         match self {
             Order::List => Cmd::CLst,
-            Order::Peers => Cmd::Peer,
+            Order::Show(_, _) => Cmd::CTkt,
+            Order::Peers | Order::Status => Cmd::Peer,
             Order::Grant(_, _) => Cmd::CGnt,
             Order::Revoke(_, _) => Cmd::CRvk,
             Order::SetAttribute { .. } => Cmd::ASet,
@@ -110,35 +124,51 @@ impl Order {
         }
     }
 
-    /// Whether it is for the list of tickets, which comes in parts.
+    /// Returns whether the request is for the list of tickets, which comes in parts.
     pub fn is_list(&self) -> bool
         ensures { result ≡ is_list self.now }
     {
         match self {
             Order::List => true,
-            Order::Peers | Order::Grant(_, _) | Order::Revoke(_, _) => false,
+            Order::Show(_, _) | Order::Peers | Order::Status => false,
+            Order::Grant(_, _) | Order::Revoke(_, _) => false,
             Order::SetAttribute { .. } | Order::GetAttribute { .. } => false,
             Order::DeleteAttribute { .. } | Order::ListAttributes(_) => false,
         }
     }
 
-    /// Whether nothing is printed of a good reply.
+    /// Returns whether a good reply has no output.
     pub fn is_silent(&self) -> bool
         ensures { result ≡ is_silent self.now }
     {
         match self {
             Order::SetAttribute { .. } | Order::DeleteAttribute { .. } => true,
-            Order::List | Order::Peers | Order::Grant(_, _) | Order::Revoke(_, _) => false,
+            Order::List | Order::Show(_, _) | Order::Peers | Order::Status => false,
+            Order::Grant(_, _) | Order::Revoke(_, _) => false,
             Order::GetAttribute { .. } | Order::ListAttributes(_) => false,
         }
     }
 
-    /// How it is asked for.
+    /// Returns whether the client asks whether the daemon runs.
+    pub fn is_status(&self) -> bool
+        ensures { result ≡ is_status self.now }
+    {
+        match self {
+            Order::Status => true,
+            Order::List | Order::Show(_, _) | Order::Peers => false,
+            Order::Grant(_, _) | Order::Revoke(_, _) => false,
+            Order::SetAttribute { .. } | Order::GetAttribute { .. } => false,
+            Order::DeleteAttribute { .. } | Order::ListAttributes(_) => false,
+        }
+    }
+
+    /// Returns the options of the request.
     pub(crate) fn options(&self) -> Options
         ensures { result ≡ order_options self.now }
     {
         match self {
-            Order::List | Order::Peers => Options::NONE,
+            Order::List | Order::Show(_, _) => Options::NONE,
+            Order::Peers | Order::Status => Options::NONE,
             Order::Grant(_, options) | Order::Revoke(_, options) => *options,
             Order::SetAttribute { .. } | Order::GetAttribute { .. } => Options::NONE,
             Order::DeleteAttribute { .. } | Order::ListAttributes(_) => Options::NONE,
@@ -147,7 +177,7 @@ impl Order {
 }
 
 impl Asking {
-    /// Where the member with this id listens, if there is one.
+    /// Returns the address at which the member with this id listens, if there is one.
     pub(crate) fn peer(&self, id: MemberId) -> Option<Peer>
         ensures { result ≡ find_peer self.now.config id }
     {

@@ -1,11 +1,11 @@
-//! Whom a list names as the owner of a ticket.
+//! The owner of a ticket in a list.
 ghost use Rattle.std.specs.Prelude.{MatchBool};
 ghost use Rattle.booth_talk.specs.Owner.{HasOwnerLine, IsOwnerLine, ShowsOwner};
 
 use crate::fields::{first, rest};
 use booth_base::{Address, Name};
 
-// Whether a line is that of the ticket, and names this owner.
+// Returns whether a line is about the ticket, and names this owner.
 fn is_owner_line(ticket: &[u8], owner: &[u8], line: &[u8]) -> bool
     ensures { MatchBool result (IsOwnerLine ticket.now owner.now line.now)
         (IsOwnerLine ticket.now owner.now line.now → ⊥) }
@@ -13,7 +13,7 @@ fn is_owner_line(ticket: &[u8], owner: &[u8], line: &[u8]) -> bool
     first(line) == ticket && first(rest(line)) == owner
 }
 
-// Whether a text has such a line.
+// Returns whether a text has such a line.
 fn has_owner_line(ticket: &[u8], owner: &[u8], text: &[u8]) -> bool
     ensures { MatchBool result (HasOwnerLine ticket.now owner.now text.now)
         (HasOwnerLine ticket.now owner.now text.now → ⊥) }
@@ -26,7 +26,7 @@ fn has_owner_line(ticket: &[u8], owner: &[u8], text: &[u8]) -> bool
     false
 }
 
-/// Whether a line of a list names the member at this address as the owner of the ticket.
+/// Returns whether a line of a list names the member at this address as the owner of the ticket.
 pub(crate) fn shows_owner(ticket: &Name, owner: &Address, text: &[u8]) -> bool
     ensures { MatchBool result (ShowsOwner ticket.now owner.now text.now)
         (ShowsOwner ticket.now owner.now text.now → ⊥) }

@@ -1,4 +1,4 @@
-//! The parts of a list, of each number the first that came.
+//! The parts of a list, for each number the first that arrived.
 ghost use Rattle.std.specs.Prelude.{◌≡◌, true, Some, None, option_map, vec_len, IfOk, IfSome};
 ghost use Rattle.std.specs.Option.{option_or};
 ghost use Rattle.booth_wire.specs.PlainMessage.{content_of, has_text, plain_of};
@@ -13,10 +13,10 @@ use std::marker::Model;
 /// The most parts of a list.
 pub const PARTS: usize = 32;
 
-// The place of the part of one number, with the memory of its text.
+// The place of the part with one number, with the memory of its text.
 #[derive(Drop)]
 struct Slot {
-    /// Whether the part is the last one, where it has come.
+    /// Whether the part is the last one, if it has arrived.
     last: Option<bool>,
     text: TextBuf,
 }
@@ -40,7 +40,7 @@ impl Slot {
         })
     }
 
-    // Keeps the part that a message is, where none has come.
+    // Stores the part in this message, if this part has not arrived before.
     fn keep(&mut self, message: &Message<'_>)
         requires { has_text (content_of message.now.body) ≡ true }
         ensures { self.new ≡ option_or self.old (Some (part_of (plain_of message.now))) }
@@ -52,14 +52,14 @@ impl Slot {
         }
     }
 
-    // Whether the part is the last one, where it has come.
+    // Returns whether the part is the last one, if it has arrived.
     fn last(&self) -> Option<bool>
         ensures { result ≡ option_map (λ part. part.last) self.now }
     {
         self.last
     }
 
-    // The text of the part, where it has come.
+    // Returns the text of the part, if it has arrived.
     fn text(&self) -> &[u8]
         ensures { IfSome self.now (λ part. result.now ≡ part.text) }
     {
@@ -67,7 +67,7 @@ impl Slot {
     }
 }
 
-/// Whether an answer of this result goes on with a list.
+/// Returns whether an answer with this result continues a list.
 pub(crate) fn is_of_list(code: u32) -> bool
     ensures { result ≡ is_of_list code }
 {
@@ -113,7 +113,7 @@ fn joined(alloc: Global, slots: &[Slot]) -> Result<Vec<u8>, AllocError>
     Ok(text)
 }
 
-/// The parts of a list by number, from 0: of each the first that came. Contracts see a list of them.
+/// The parts of a list by number, from 0: for each the first that arrived. Contracts see a list of them.
 #[derive(Drop)]
 pub struct Parts {
     slots: Vec<Slot>,
@@ -132,7 +132,7 @@ impl Model for Parts {
 }
 
 impl Parts {
-    /// None, and the memory of all.
+    /// Returns no parts, with memory for all.
     pub(crate) fn new(alloc: Global) -> Result<Parts, AllocError>
         ensures { IfOk result (λ parts. AreNone parts) }
     {
@@ -140,7 +140,7 @@ impl Parts {
         Ok(Parts { slots })
     }
 
-    /// Keeps the part that an answer is, where it is one and the first of its number.
+    /// Stores the part in an answer, if it is one and the first with its number.
     pub(crate) fn take(&mut self, message: &Message<'_>)
         requires { has_text (content_of message.now.body) ≡ true }
         ensures { AreTaken (λ n. part_in n (plain_of message.now)) self.old self.new }
@@ -151,14 +151,14 @@ impl Parts {
         }
     }
 
-    /// Whether the last part has come, and each before it.
+    /// Returns whether the last part has arrived, and each before it.
     pub(crate) fn is_whole(&self) -> bool
         ensures { result ≡ is_whole self.now }
     {
         is_whole(&self.slots)
     }
 
-    /// The texts of the parts, joined by number up to the last one.
+    /// Returns the texts of the parts, joined by number up to the last one.
     pub(crate) fn text(&self, alloc: Global) -> Result<Vec<u8>, AllocError>
         ensures { IfOk result (λ text. text.items ≡ text_of self.now) }
     {

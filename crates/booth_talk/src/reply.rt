@@ -9,11 +9,11 @@ use booth_auth::is_signed;
 use booth_base::{MemberId, NO_ONE};
 use booth_wire::{Body, Cmd, Message, decode};
 
-/// What counts of a reply while it is waited for.
+/// The fields of a reply that matter while a client waits.
 #[derive(Clone, Copy)]
 pub struct Reply {
     pub result: u32,
-    /// The member that is named, or `NO_ONE`.
+    /// The member in the reply, or `NO_ONE`.
     pub leader: MemberId,
 }
 
@@ -43,7 +43,7 @@ fn leader_in(body: &Body<'_>) -> MemberId
     }
 }
 
-/// The text that is told, or none.
+/// Returns the text in the reply, or none.
 pub(crate) fn text_in<'a>(body: &Body<'a>) -> &'a [u8]
     ensures { result.now ≡ text_in (content_of body.now) }
 {
@@ -53,7 +53,8 @@ pub(crate) fn text_in<'a>(body: &Body<'a>) -> &'a [u8]
     }
 }
 
-/// The authentic message that these bytes spell, to the request that was sent at `start`, if they do.
+/// Returns the authentic message that these bytes spell, in answer to the request that was sent at `start`, if they
+/// do.
 #[tactic(auto, unfolding(crate::specs::Replies::message_in))]
 pub(crate) fn message_in<'a>(asking: &Asking, start: u64, bytes: &'a [u8]) -> Option<Message<'a>>
     ensures same { option_map plain_of result ≡ message_in asking.now start bytes.now }
@@ -73,7 +74,7 @@ pub(crate) fn message_in<'a>(asking: &Asking, start: u64, bytes: &'a [u8]) -> Op
     }
 }
 
-/// The reply that these bytes are to the request that was sent at `start`, if they are one.
+/// Returns the reply that these bytes spell, in answer to the request that was sent at `start`, if they do.
 #[tactic(auto, unfolding(crate::specs::Replies::reply_in))]
 pub(crate) fn reply_in(asking: &Asking, start: u64, bytes: &[u8]) -> Option<Reply>
     ensures { result ≡ reply_in asking.now start bytes.now }

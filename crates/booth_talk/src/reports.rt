@@ -1,4 +1,4 @@
-//! What is printed of a reply.
+//! The output for a reply.
 ghost use Rattle.std.specs.Prelude.{◌≡◌, ◌++◌, ℕ, List, codes, IfOk, MatchOption};
 ghost use Rattle.booth_wire.specs.PlainMessage.{content_of, plain_of};
 ghost use Rattle.booth_talk.specs.Replies.{text_in};
@@ -7,6 +7,7 @@ ghost use Rattle.booth_talk.specs.Report.{IsListReport, IsReport, IsReportOf, Is
 
 use crate::lines::{Form, shown_lines};
 use crate::reply::text_in;
+use crate::standing::standing_report;
 use crate::{Asking, Order, Reply};
 use booth_base::ByteText;
 use booth_wire::{Body, Message, decode, results};
@@ -30,7 +31,7 @@ fn value_in<'m>(body: &'m Body<'_>) -> &'m [u8]
     }
 }
 
-// A text without the line feed at its end, where it has one there.
+// Returns a text without the line feed at its end, if it has one there.
 fn body_in(text: &[u8]) -> Option<&[u8]>
     ensures { MatchOption result ((body : List ℕ) → text.now ≡ body ++ codes "\n" → ⊥)
         (λ body. text.now ≡ body.now ++ codes "\n") }
@@ -41,7 +42,7 @@ fn body_in(text: &[u8]) -> Option<&[u8]>
     }
 }
 
-// A text of this form line by line, and another as it is.
+// Returns a text with this form line by line, and any other text unchanged.
 fn shown(alloc: Global, form: Form, text: &[u8]) -> Result<ByteText, AllocError>
     ensures { IfOk result (λ report. IsShown form text.now report) }
 {
@@ -54,7 +55,7 @@ fn shown(alloc: Global, form: Form, text: &[u8]) -> Result<ByteText, AllocError>
     }
 }
 
-// Three pieces as one text.
+// Returns three texts joined.
 fn joined(alloc: Global, before: &str, ticket: &[u8], behind: &str) -> Result<ByteText, AllocError>
     ensures { IfOk result (λ text. text ≡ before.now ++ ticket.now ++ behind.now) }
 {
@@ -84,23 +85,25 @@ fn revoke_text(alloc: Global, code: u32, ticket: &[u8]) -> Result<ByteText, Allo
     }
 }
 
-/// What is printed of a list whose text this is: it is shown line by line, with dates, and a text that is none as it
-/// is.
+/// Returns the output for a list with this text: line by line, with dates; a text that is no list is unchanged.
 pub(crate) fn list_report(alloc: Global, text: &[u8]) -> Result<ByteText, AllocError>
     ensures { IfOk result (λ report. IsListReport text.now report) }
 {
     shown(alloc, Form::List, text)
 }
 
-/// What is printed of a reply to this order that says that it was done or begun.
+/// Returns the output for a good reply, which says that the request was done or begun.
 ///
-/// A list of tickets or members is shown line by line, with dates. A text that is none is printed as it is, and so is
-/// a list of attributes. A value is a line. Of a set or deleted attribute it is empty.
-pub fn report(alloc: Global, order: &Order, reply: &Message<'_>) -> Result<ByteText, AllocError>
-    ensures { IfOk result (λ report. IsReport order.now (plain_of reply.now) report) }
+/// A list of tickets or members is printed line by line, with dates. A text that is no such list is printed
+/// unchanged, and so is a list of attributes. A value is a line, and so is the state of a ticket. After an attribute
+/// was set or deleted, the output is empty.
+pub fn report(alloc: Global, asking: &Asking, reply: &Message<'_>) -> Result<ByteText, AllocError>
+    ensures { IfOk result (λ report. IsReport asking.now (plain_of reply.now) report) }
 {
-    match order {
+    match &asking.order {
         Order::List => list_report(alloc, text_in(&reply.body)),
+        Order::Show(_, style) => standing_report(alloc, *style, &asking.config, &reply.body),
+        Order::Status => ByteText::new(alloc, b"booth daemon is running\n"),
         Order::Peers => shown(alloc, Form::Peers, text_in(&reply.body)),
         Order::Grant(_, _) => grant_text(alloc, reply.head.result, ticket_in(&reply.body)),
         Order::Revoke(_, _) => revoke_text(alloc, reply.head.result, ticket_in(&reply.body)),
@@ -110,7 +113,7 @@ pub fn report(alloc: Global, order: &Order, reply: &Message<'_>) -> Result<ByteT
     }
 }
 
-/// The same of the reply that came last, whose bytes these are.
+/// Returns the same for the last reply, which has these bytes.
 pub fn report_of(
     alloc: Global,
     asking: &Asking,
@@ -118,10 +121,10 @@ pub fn report_of(
     bytes: &[u8],
 ) -> Result<ByteText, AllocError>
     requires { IsReplyIn asking.now reply.now bytes.now }
-    ensures { IfOk result (λ report. IsReportOf asking.now.order bytes.now report) }
+    ensures { IfOk result (λ report. IsReportOf asking.now bytes.now report) }
 {
     match decode(bytes) {
-        Ok(message) => report(alloc, &asking.order, &message),
+        Ok(message) => report(alloc, asking, &message),
         Err(_) => unreachable!(),
     }
 }

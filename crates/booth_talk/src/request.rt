@@ -8,7 +8,7 @@ use crate::{Asking, Order};
 use booth_base::{AttrValue, MemberId, NO_ONE, Name};
 use booth_wire::{AttrPart, Body, Frame, Head, Message, TicketPart};
 
-/// The number of the request that is sent at this reading.
+/// Returns the number of a request that is sent at this reading.
 pub(crate) fn number_of(start: u64) -> u32
     ensures { result ≡ number_of start }
 {
@@ -26,7 +26,7 @@ fn part_of(ticket: &Name) -> TicketPart
     }
 }
 
-// An attribute of a ticket as it is asked for.
+// Returns an attribute of a ticket for a request.
 fn attribute_of(ticket: &Name, name: Option<&Name>, value: AttrValue) -> Body<'static>
     ensures { content_of result
         ≡ Attr (asked_attribute ticket.now (option_map (λ n. n.now) name.entry) value) }
@@ -42,7 +42,8 @@ fn body_of(order: &Order) -> Body<'static>
     ensures { content_of result ≡ asked_content order.now }
 {
     match order {
-        Order::List | Order::Peers => Body::Bare,
+        Order::List | Order::Peers | Order::Status => Body::Bare,
+        Order::Show(ticket, _) => Body::Ticket(part_of(ticket)),
         Order::Grant(ticket, _) | Order::Revoke(ticket, _) => Body::Ticket(part_of(ticket)),
         Order::SetAttribute {
             ticket,
@@ -78,7 +79,7 @@ fn message_of(order: &Order, start: u64) -> Message<'static>
     }
 }
 
-/// Writes the request as it is sent at this reading: with its time, and with the MAC where there is a key.
+/// Writes the request as it is sent at this reading: with its time, and with the MAC if there is a key.
 pub(crate) fn put_request(asking: &Asking, start: u64, frame: &mut Frame)
     ensures { frame.new ≡ request_bytes asking.now start }
 {

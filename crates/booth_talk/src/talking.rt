@@ -22,7 +22,7 @@ pub struct Room {
 }
 
 impl Room {
-    /// All memory that a talk takes. Nothing has arrived.
+    /// Allocates all memory of a talk. No datagram has arrived.
     pub fn new(alloc: Global) -> Result<Room, AllocError>
         ensures { IfOk result (λ room. room.datagram ≡ []) }
     {
@@ -32,7 +32,7 @@ impl Room {
     }
 }
 
-// What follows the wait for the first reply.
+// Does what follows the wait for the first reply.
 fn go_on<H: Host>(
     asking: &Asking,
     start: u64,
@@ -92,13 +92,14 @@ fn is_revoke(order: &Order) -> bool
 {
     match order {
         Order::Revoke(_, _) => true,
-        Order::List | Order::Peers | Order::Grant(_, _) => false,
+        Order::List | Order::Show(_, _) | Order::Peers | Order::Status => false,
+        Order::Grant(_, _) => false,
         Order::SetAttribute { .. } | Order::GetAttribute { .. } => false,
         Order::DeleteAttribute { .. } | Order::ListAttributes(_) => false,
     }
 }
 
-// The member that a revoke is sent on to, and the reading at which it is.
+// Returns the member to which a revoke is sent on, and the reading at which it is.
 fn redirected(asking: &Asking, first: &Waited) -> Option<(Peer, u64)>
     ensures { result ≡ redirected asking.now first.now }
 {
@@ -114,7 +115,7 @@ fn redirected(asking: &Asking, first: &Waited) -> Option<(Peer, u64)>
     }
 }
 
-// What follows the first asking, whose request was sent.
+// Does what follows the first request, which was sent.
 fn ask_on<H: Host>(
     asking: &Asking,
     first: Waited,
@@ -135,9 +136,13 @@ fn ask_on<H: Host>(
 
 /// Sends the request to this peer, at this reading, and waits for its answer.
 ///
-/// A revoke that is answered by the name of another owner is sent on to that member, once, as a new request. The
-/// bytes of the last answer are then in the room's datagram. It fails only where a request could not be sent. A list,
-/// which comes in parts, is asked for by `talk_list`.
+/// If the answer to a revoke names another owner, the revoke is sent on to that member, once, as a new request. The
+/// bytes of the last answer are then in the room's datagram. A list, which comes in parts, is requested by
+/// `talk_list`.
+///
+/// # Errors
+///
+/// `Failed` only if a request could not be sent.
 pub fn talk<H: Host>(
     asking: &Asking,
     to: &Peer,

@@ -18,13 +18,13 @@ pub const PATIENCE: u64 = 5_000;
 /// How a wait ended.
 #[derive(Clone, Copy)]
 pub enum Waited {
-    /// This reply came, and then this reading.
+    /// This reply arrived, and then the clock read this.
     Came { reply: Reply, reading: u64 },
-    /// None came.
+    /// No reply arrived.
     Over,
 }
 
-// The reply that an arrival brought, if it is one.
+// Returns the reply in an arrival, if it has one.
 fn brought(
     asking: &Asking,
     start: u64,
@@ -42,7 +42,7 @@ fn brought(
     }
 }
 
-/// Whether a reading is past the wait for the first reply.
+/// Returns whether a reading is past the wait for the first reply.
 pub(crate) fn is_late(start: u64, reading: u64) -> bool
     ensures { result ≡ nat_lt (start + PATIENCE) reading }
 {
@@ -52,14 +52,14 @@ pub(crate) fn is_late(start: u64, reading: u64) -> bool
     }
 }
 
-/// Whether the reply says that what was asked for was begun, and that the outcome is still to come.
+/// Returns whether the reply says that the request was begun, and that the outcome will follow.
 pub fn is_begun(reply: &Reply) -> bool
     ensures { result ≡ is_begun reply.now }
 {
     reply.result == results::ASYN
 }
 
-// A pair of an arrival and a reading, as it was heard by one who waits for the first reply.
+// A pair of an arrival and a reading, for a client that waits for the first reply.
 enum Heard {
     Answer(Reply),
     Late,
@@ -88,7 +88,7 @@ fn judged(
     }
 }
 
-// The outcome that an arrival brought, if it is one.
+// Returns the outcome in an arrival, if it has one.
 fn brought_outcome(
     asking: &Asking,
     start: u64,
@@ -127,8 +127,7 @@ pub(crate) fn wait_first<H: Host>(
     Waited::Over
 }
 
-/// Waits for the outcome of what was begun by the request that was sent at `start`. Its bytes are then in the
-/// datagram.
+/// Waits for the outcome of the request that was sent at `start` and was begun. Its bytes are then in the datagram.
 pub(crate) fn wait_final<H: Host>(
     asking: &Asking,
     start: u64,

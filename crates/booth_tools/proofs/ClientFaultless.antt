@@ -1,5 +1,5 @@
 -- Where the outside does not fail, a client ends with an answer or without one.
-use Rattle.std.specs.Prelude.{Contains, Option, Some, None, Result, Ok, Err, MatchBool, MatchOption}
+use Rattle.std.specs.Prelude.{Contains, codes, Option, Some, None, Result, Ok, Err, MatchBool, MatchOption}
 use Rattle.std.proofs.Common.{◌≡◌, ◌++◌, ℕ, Bool, true, false, List, [], ◌∷◌, refl, sym, subst, inl, inr}
 use Rattle.std.proofs.lemmas.List.Elements.{Contains-append_right}
 use Rattle.booth_keys.specs.declared.ring.Ring.{Ring}
@@ -12,7 +12,6 @@ use Rattle.booth_host.specs.declared.host.ReadFault.TheVariants as reads
 use Rattle.booth_host.specs.declared.entry.Entry.{Entry}
 use Rattle.booth_host.specs.declared.entry.Entry.TheVariants.{Open, Now, ReadFile, Send, Out}
 use Rattle.booth_talk.specs.declared.order.Asking.{Asking}
-use Rattle.booth_talk.specs.declared.order.Order.{Order}
 use Rattle.booth_talk.specs.declared.reply.Reply.{Reply}
 use Rattle.booth_talk.specs.declared.wait.Waited.{Waited}
 use Rattle.booth_talk.specs.declared.wait.Waited.TheVariants.{Came, Over}
@@ -20,7 +19,7 @@ use Rattle.booth_talk.specs.declared.list_wait.Listed.{Listed}
 use Rattle.booth_talk.specs.declared.list_wait.Listed.TheVariants as lists
 use Rattle.booth_talk.specs.Asking.{is_list, request_bytes}
 use Rattle.booth_talk.specs.Listing.{IsListTalk}
-use Rattle.booth_talk.specs.Report.{IsListReport, IsReportOf, is_silent}
+use Rattle.booth_talk.specs.Report.{IsListReport, IsReportOf, is_silent, is_status}
 use Rattle.booth_talk.specs.Talk.{AsksOn, IsAsking, IsTalk, Rests, redirected}
 use Rattle.booth_cli.specs.declared.asking.ClientWords.{ClientWords}
 use Rattle.booth_cli.specs.declared.command.Verb.{Verb}
@@ -28,7 +27,7 @@ use Rattle.booth_outcomes.specs.declared.outcome.Outcome.{Outcome}
 use Rattle.booth_outcomes.specs.declared.outcome.Outcome.TheVariants as outs
 use Rattle.booth_outcomes.specs.Configuration.{IsUnread}
 use Rattle.booth_outcomes.specs.Keys.{FirstKeyless, IsFileKeyless, IsKeyless, NamesKeyFile, OldKeyless}
-use Rattle.booth_tools.specs.Client.{EndsWith, Follows, IsClientLog, IsListTold, IsPlainEnd, IsPrinted, IsReported, IsSocketless, IsTalkTold, IsUnkeyedClient, ListEndsWith, cluster_calls}
+use Rattle.booth_tools.specs.Client.{EndsWith, Follows, IsClientLog, IsListTold, IsPlainEnd, IsPrinted, IsReported, IsSocketless, IsStopped, IsTalkTold, IsUnkeyedClient, ListEndsWith, cluster_calls, not_running_text}
 use Rattle.booth_tools.specs.Client.{Unread, Unkeyed, Asked, Socketless, Conversing}
 use Rattle.booth_tools.specs.Client.{is_good, refused_text}
 use Rattle.booth_tools.specs.ClientRun.{IsTalked, IsUnhindered}
@@ -102,24 +101,35 @@ module _ (verb : Verb) (conf : List ℕ) (entries : List Entry) (free : IsUnhind
   printed Q outs.PrintFault said part all r = absurd (free.printed r.1 r.3 (only entries (Out r.1 (Err r.3)) part r.4 all))
   printed Q outcome said part all r = absurd r
 
-  reported : (order : Order) (bytes : List ℕ) (outcome : Outcome) (said : List ℕ) (part : List Entry) (silent : Bool) → AreAmong part entries →
-      MatchBool silent (IsPlainEnd outcome outs.Report said [] part) (IsPrinted (IsReportOf order bytes) outcome said part) → IsTalked verb outcome
-  reported order bytes outcome said part true all r = subst (IsTalked verb) (sym r.is) tt
-  reported order bytes outcome said part false all r = printed (IsReportOf order bytes) outcome said part all r
+  reported : (asking : Asking) (bytes : List ℕ) (outcome : Outcome) (said : List ℕ) (part : List Entry) (silent : Bool) → AreAmong part entries →
+      MatchBool silent (IsPlainEnd outcome outs.Report said [] part) (IsPrinted (IsReportOf asking bytes) outcome said part) → IsTalked verb outcome
+  reported asking bytes outcome said part true all r = subst (IsTalked verb) (sym r.is) tt
+  reported asking bytes outcome said part false all r = printed (IsReportOf asking bytes) outcome said part all r
 
-  ended : (order : Order) (reply : Reply) (bytes : List ℕ) (outcome : Outcome) (said : List ℕ) (part : List Entry) (good : Bool) → AreAmong part entries →
-      MatchBool good (IsReported order bytes outcome said part) (IsPlainEnd outcome (outs.Refused reply.result) said (refused_text reply.result) part) → IsTalked verb outcome
-  ended order reply bytes outcome said part true all e = reported order bytes outcome said part (is_silent order) all e
-  ended order reply bytes outcome said part false all e = subst (IsTalked verb) (sym e.is) tt
+  ended : (asking : Asking) (reply : Reply) (bytes : List ℕ) (outcome : Outcome) (said : List ℕ) (part : List Entry) (good : Bool) → AreAmong part entries →
+      MatchBool good (IsReported asking bytes outcome said part) (IsPlainEnd outcome (outs.Refused reply.result) said (refused_text reply.result) part) → IsTalked verb outcome
+  ended asking reply bytes outcome said part true all e = reported asking bytes outcome said part (is_silent asking.order) all e
+  ended asking reply bytes outcome said part false all e = subst (IsTalked verb) (sym e.is) tt
+
+  stopped : (outcome : Outcome) (said : List ℕ) (part : List Entry) → AreAmong part entries → IsStopped outcome said part → IsTalked verb outcome
+  stopped outs.NotRunning said part all s = tt
+  stopped outs.PrintFault said part all s = absurd (free.printed not_running_text s.1 (only entries (Out not_running_text (Err s.1)) part s.2 all))
+  stopped outcome said part all s = absurd s
+
+  unanswered : (outcome : Outcome) (said : List ℕ) (part : List Entry) (status : Bool) → AreAmong part entries →
+      MatchBool status (IsStopped outcome said part) (IsPlainEnd outcome outs.NoReply said (codes "no reply") part) → IsTalked verb outcome
+  unanswered outcome said part true all u = stopped outcome said part all u
+  unanswered outcome said part false all u = subst (IsTalked verb) (sym u.is) tt
 
   talk_told : (asking : Asking) (to : Peer) (start : ℕ) (outcome : Outcome) (said : List ℕ) (part : List Entry) → AreAmong part entries →
       IsTalkTold asking to start outcome said part → IsTalked verb outcome
   talk_told asking to start outcome said part all t = go t.last t.talk t.end
     where
-      go : (last : Result Waited Failed) → IsTalk asking to start last t.bytes t.early → EndsWith asking.order last t.bytes outcome said t.late → IsTalked verb outcome
+      go : (last : Result Waited Failed) → IsTalk asking to start last t.bytes t.early → EndsWith asking last t.bytes outcome said t.late → IsTalked verb outcome
       go (Ok (Came reply reading)) talk end =
-          ended asking.order reply t.bytes outcome said t.late (is_good reply) (right_among t.early t.late entries part t.whole all) end
-      go (Ok Over) talk end = subst (IsTalked verb) (sym end.is) tt
+          ended asking reply t.bytes outcome said t.late (is_good reply) (right_among t.early t.late entries part t.whole all) end
+      go (Ok Over) talk end =
+          unanswered outcome said t.late (is_status asking.order) (right_among t.early t.late entries part t.whole all) end
       go (Err failed) talk end = absurd (untalked asking to start failed t.bytes t.early (left_among t.early t.late entries part t.whole all) talk)
 
   list_told : (asking : Asking) (to : Peer) (start : ℕ) (outcome : Outcome) (said : List ℕ) (part : List Entry) → AreAmong part entries →

@@ -112,10 +112,10 @@ not_read path ended read = some_weaker (IsConfigRead path (Err ended)) (IsCluste
 -- ---- the talk
 
 pub told : (asking : Asking) (to : Peer) (start : ℕ) (last : Result Waited Failed) (bytes held : List ℕ) (outcome : Outcome) (said : List ℕ) {a b c : Option (List Entry)} →
-    held ≡ bytes → GrewSome (IsTalk asking to start last bytes) a b → GrewSome (EndsWith asking.order last held outcome said) b c →
+    held ≡ bytes → GrewSome (IsTalk asking to start last bytes) a b → GrewSome (EndsWith asking last held outcome said) b c →
     GrewSome (IsTalkTold asking to start outcome said) a c
 told asking to start last bytes held outcome said same talk end =
-    some_joined (IsTalk asking to start last bytes) (EndsWith asking.order last held outcome said) (IsTalkTold asking to start outcome said)
+    some_joined (IsTalk asking to start last bytes) (EndsWith asking last held outcome said) (IsTalkTold asking to start outcome said)
     (λ xs ys h k. record {
       last = last;
       bytes = bytes;
@@ -123,7 +123,7 @@ told asking to start last bytes held outcome said same talk end =
       late = ys;
       whole = refl;
       talk = h;
-      end = subst (λ b. EndsWith asking.order last b outcome said ys) same k;
+      end = subst (λ b. EndsWith asking last b outcome said ys) same k;
     }) talk end
 
 pub untold : (asking : Asking) (to : Peer) (start : ℕ) (failed : Failed) (bytes said : List ℕ) {a b : Option (List Entry)} → said ≡ codes "cannot send" →

@@ -1,4 +1,4 @@
--- The calls of a client that was asked for, up to where its outcome is decided, and what it then says.
+-- The calls of a client, up to the one that decides its outcome, and the text that it then prints.
 use Rattle.std.specs.Prelude.{◌≡◌, ◌++◌, ◌⊎◌, ◌||◌, ◌==◌, ℕ, Bool, true, false, List, [], ◌∷◌, Option, Some, None, option_map}
 use Rattle.std.specs.Prelude.{Result, Ok, Err, MatchBool, codes, if◌then◌else◌}
 use Rattle.std.specs.Int.{to_be_bytes, w32}
@@ -26,7 +26,7 @@ use Rattle.booth_talk.specs.Listing.{IsListTalk}
 use Rattle.booth_talk.specs.Parts.{AreNone}
 use Rattle.booth_talk.specs.Waiting.{is_begun}
 use Rattle.booth_talk.specs.Talk.{IsTalk}
-use Rattle.booth_talk.specs.Report.{IsListReport, IsReportOf, is_silent}
+use Rattle.booth_talk.specs.Report.{IsListReport, IsReportOf, is_silent, is_status}
 use Rattle.booth_outcomes.specs.declared.outcome.Outcome.{Outcome}
 use Rattle.booth_outcomes.specs.declared.outcome.Outcome.TheVariants as outs
 use Rattle.booth_outcomes.specs.declared.outcome.Ended.{Ended}
@@ -52,7 +52,7 @@ abbrev pub cluster_calls : {config : ConfigSays} {ring : Option Ring} → List �
 cluster_calls {config} path cluster =
     ReadFile path (Ok cluster.text) ∷ key_calls config cluster.key_texts
 
--- a configuration was read, and no key
+-- a configuration was read, and a key could not be
 pub record IsUnkeyedClient (path : List ℕ) (outcome : Outcome) (said : List ℕ) (entries : List Entry) : Type 0 where
   pub text : List ℕ
   pub config : ConfigSays
@@ -61,20 +61,20 @@ pub record IsUnkeyedClient (path : List ℕ) (outcome : Outcome) (said : List �
   pub whole : entries ≡ ReadFile path (Ok text) ∷ rest
   pub here : IsKeyless config outcome said rest
 
--- ---- whom it asks
+-- ---- the receiver
 
--- the address that is named, or that of the first site, at the configured port
+-- the address in the arguments, or else the address of the first site, at the configured port
 abbrev pub destination : Option Address → ConfigSays → Option Peer
 destination (Some address) config = Some (record { address = address; port = config.port })
 destination None config = option_map (peer_at config) (find is_site config.members)
 
 -- ---- how a talk ends
 
--- it was done, or it was begun
+-- the request was done, or it was begun
 abbrev pub is_good : Reply → Bool
 is_good reply = reply.result == 0 || is_begun reply
 
--- what is said of a refusal
+-- the text for a refusal
 abbrev pub refused_text : ℕ → List ℕ
 refused_text result =
     if result == FAIL then codes "failed" else
@@ -89,7 +89,7 @@ refused_text result =
     if result == REDR then codes "ticket is owned by another site" else
     codes "result " ++ encode_lower (to_be_bytes w32 result)
 
--- the one print of a report of which Q holds, where there is memory for it
+-- the one print of a report for which Q holds, if there is memory for it
 abbrev pub IsPrinted : (List ℕ → Type 0) → Outcome → List ℕ → List Entry → Type 0
 IsPrinted Q outs.Report said entries = (said ≡ [])
     × (report : List ℕ) × Q report × (entries ≡ Out report (Ok tt) ∷ [])
@@ -99,30 +99,45 @@ IsPrinted Q outs.PrintFault said entries = (said ≡ unprinted_text)
 IsPrinted Q outs.OutOfMemory said entries = (said ≡ out_of_memory_text) × (entries ≡ [])
 IsPrinted Q outcome said entries = ⊥
 
--- an end without a call, of which this is said
+-- an end without a call, with this text
 pub record IsPlainEnd (outcome wanted : Outcome) (said text : List ℕ) (entries : List Entry) : Type 0 where
   pub is : outcome ≡ wanted
   pub told : said ≡ text
   pub none : entries ≡ []
 
--- The report of a good reply: its print, or none where the order is one of which nothing is printed.
-abbrev pub IsReported : Order → List ℕ → Outcome → List ℕ → List Entry → Type 0
-IsReported order bytes outcome said entries =
-    MatchBool (is_silent order) (IsPlainEnd outcome outs.Report said [] entries)
-    (IsPrinted (IsReportOf order bytes) outcome said entries)
+-- The report of a good reply: its print, or none if the order has no output.
+abbrev pub IsReported : Asking → List ℕ → Outcome → List ℕ → List Entry → Type 0
+IsReported asking bytes outcome said entries =
+    MatchBool (is_silent asking.order) (IsPlainEnd outcome outs.Report said [] entries)
+    (IsPrinted (IsReportOf asking bytes) outcome said entries)
+
+-- a daemon that does not answer does not run
+abbrev pub not_running_text : List ℕ
+not_running_text = codes "booth daemon is not running\n"
+
+-- the one print of that, if the client asks whether the daemon runs
+abbrev pub IsStopped : Outcome → List ℕ → List Entry → Type 0
+IsStopped outs.NotRunning said entries = (said ≡ []) × (entries ≡ Out not_running_text (Ok tt) ∷ [])
+IsStopped outs.PrintFault said entries = (said ≡ unprinted_text)
+    × (failed : Failed) × (entries ≡ Out not_running_text (Err failed) ∷ [])
+IsStopped outcome said entries = ⊥
+
+-- how a talk ends without a reply
+abbrev pub IsUnanswered : Order → Outcome → List ℕ → List Entry → Type 0
+IsUnanswered order outcome said entries =
+    MatchBool (is_status order) (IsStopped outcome said entries)
+    (IsPlainEnd outcome outs.NoReply said (codes "no reply") entries)
 
 -- How a talk ends: with the report of a good reply, with the result of another, or without a reply.
-abbrev pub EndsWith : Order → Result Waited Failed → List ℕ → Outcome → List ℕ → List Entry → Type 0
-EndsWith order (Ok (Came reply reading)) bytes outcome said entries =
-    MatchBool (is_good reply) (IsReported order bytes outcome said entries)
+abbrev pub EndsWith : Asking → Result Waited Failed → List ℕ → Outcome → List ℕ → List Entry → Type 0
+EndsWith asking (Ok (Came reply reading)) bytes outcome said entries =
+    MatchBool (is_good reply) (IsReported asking bytes outcome said entries)
     (IsPlainEnd outcome (outs.Refused reply.result) said (refused_text reply.result) entries)
-EndsWith order (Ok Over) bytes outcome said entries =
-    IsPlainEnd outcome outs.NoReply said (codes "no reply") entries
-EndsWith order (Err failed) bytes outcome said entries =
+EndsWith asking (Ok Over) bytes outcome said entries = IsUnanswered asking.order outcome said entries
+EndsWith asking (Err failed) bytes outcome said entries =
     IsPlainEnd outcome outs.SendFault said (codes "cannot send") entries
 
--- How a list that was asked for ends: with the report of its text, with the result of a refusal, or without a whole
--- list.
+-- How a request for a list ends: with the report of its text, with the result of a refusal, or without a whole list.
 abbrev pub ListEndsWith : Result Listed Failed → List ℕ → Outcome → List ℕ → List Entry → Type 0
 ListEndsWith (Ok Whole) text outcome said entries = IsPrinted (IsListReport text) outcome said entries
 ListEndsWith (Ok (Refused result)) text outcome said entries =
@@ -132,7 +147,7 @@ ListEndsWith (Ok listed.Over) text outcome said entries =
 ListEndsWith (Err failed) text outcome said entries =
     IsPlainEnd outcome outs.SendFault said (codes "cannot send") entries
 
--- a list that was asked for, and its end
+-- a request for a list, and its end
 pub record IsListTold (asking : Asking) (to : Peer) (start : ℕ) (outcome : Outcome) (said : List ℕ)
     (entries : List Entry) : Type 0 where
   pub last : Result Listed Failed
@@ -152,22 +167,22 @@ pub record IsTalkTold (asking : Asking) (to : Peer) (start : ℕ) (outcome : Out
   pub late : List Entry
   pub whole : entries ≡ early ++ late
   pub talk : IsTalk asking to start last bytes early
-  pub end : EndsWith asking.order last bytes outcome said late
+  pub end : EndsWith asking last bytes outcome said late
 
--- what is asked for, and what comes of it: of a list, or of a talk
+-- the request and its result: for a list, or for any other order
 abbrev pub IsTold : Asking → Peer → ℕ → Outcome → List ℕ → List Entry → Type 0
 IsTold asking to start outcome said entries =
     MatchBool (is_list asking.order) (IsListTold asking to start outcome said entries)
     (IsTalkTold asking to start outcome said entries)
 
--- the socket failed, or there was no memory before it
+-- the socket failed, or memory was out before it
 abbrev pub IsSocketless : Outcome → List ℕ → List Entry → Type 0
 IsSocketless outs.OpenFault said entries = (said ≡ unopened_text)
     × (failed : Failed) × (entries ≡ Open None 0 [] [] (Err failed) ∷ [])
 IsSocketless outs.OutOfMemory said entries = (said ≡ out_of_memory_text) × (entries ≡ [])
 IsSocketless outcome said entries = ⊥
 
--- the socket was opened at any address and port, and the clock read; then it asked
+-- the socket was opened at any address and port, and the clock read; then the client sent its request
 pub record IsConversing (asked : ClientWords) (config : ConfigSays) (ring : Option Ring) (outcome : Outcome)
     (said : List ℕ) (entries : List Entry) : Type 0 where
   pub to : Peer
@@ -192,7 +207,7 @@ pub record IsAsked (asked : ClientWords) (outcome : Outcome) (said : List ℕ) (
   pub whole : entries ≡ cluster_calls asked.conf cluster ++ rest
   pub here : Follows asked config ring outcome said rest
 
--- the first stage that did not go on, or the talk
+-- the first stage that failed, or the talk
 pub data IsClientLog (asked : ClientWords) (outcome : Outcome) (said : List ℕ) (entries : List Entry) : Type 0 where
   Unread : IsUnread asked.conf outcome said entries → IsClientLog asked outcome said entries
   Unkeyed : IsUnkeyedClient asked.conf outcome said entries → IsClientLog asked outcome said entries
@@ -200,7 +215,7 @@ pub data IsClientLog (asked : ClientWords) (outcome : Outcome) (said : List ℕ)
 
 -- ---- in the code
 
--- the memory is that of what is asked for, and no part of a list has come
+-- the memory is that for the order, and no part of a list has arrived
 abbrev pub IsMemoryFor : Order → Memory → Type 0
 IsMemoryFor order (memories.List room) = (is_list order ≡ true) × AreNone room.parts
 IsMemoryFor order (memories.Talk room) = is_list order ≡ false

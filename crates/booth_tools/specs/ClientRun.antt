@@ -6,7 +6,7 @@ use Rattle.booth_cli.specs.declared.program.Program.{Program}
 use Rattle.booth_cli.specs.declared.program.Program.TheVariants.{Booth}
 use Rattle.booth_outcomes.specs.declared.outcome.Outcome.{Outcome}
 use Rattle.booth_outcomes.specs.declared.outcome.Outcome.TheVariants.{Usage, BadWord, ConfUnread, ConfBad, KeyUnread, KeyBad}
-use Rattle.booth_outcomes.specs.declared.outcome.Outcome.TheVariants.{OpenFault, SendFault, NoReply, Report, Refused, PrintFault, OutOfMemory}
+use Rattle.booth_outcomes.specs.declared.outcome.Outcome.TheVariants.{OpenFault, SendFault, NoReply, NotRunning, Report, Refused, PrintFault, OutOfMemory}
 use Rattle.booth_outcomes.specs.declared.outcome.Outcome.TheVariants.{NotSite, Stranded}
 use Rattle.booth_cli.specs.declared.asking.ClientWords.{ClientWords}
 use Rattle.booth_cli.specs.declared.asking.MoveWords.{MoveWords}
@@ -28,12 +28,12 @@ use Rattle.booth_cli.specs.declared.command.Verb.TheVariants as verbs
 use Rattle.booth_cli.specs.Valid.{AreValid}
 use Rattle.booth_outcomes.specs.Keys.{IsKeyFile, NamesKeyFile}
 
--- one leading `client` is passed over
+-- one leading `client` is ignored
 abbrev pub passed : List (List ℕ) → List (List ℕ)
 passed [] = []
 passed (word ∷ words) = if bytes_eq word (codes "client") then words else word ∷ words
 
--- the calls up to where the outcome is decided, by what the words ask for
+-- the calls up to the one that decides the outcome, for these arguments
 pub data IsClientMade (program : Program) (words : List (List ℕ)) (outcome : Outcome) (said : List ℕ)
     (entries : List Entry) : Type 0 where
   Unasked : IsUnasked program words outcome said entries → IsClientMade program words outcome said entries
@@ -42,7 +42,7 @@ pub data IsClientMade (program : Program) (words : List (List ℕ)) (outcome : O
   Moved : (asked : MoveWords) → program ≡ Booth → AsksMove words asked → IsMoveLog asked outcome said entries →
       IsClientMade program words outcome said entries
 
--- all calls of a run on these words, the last of which says how it ended
+-- all calls of a run with these arguments, the last of which reports how it ended
 pub record IsClientRun (program : Program) (words : List (List ℕ)) (outcome : Outcome) (entries : List Entry)
     : Type 0 where
   pub said : List ℕ
@@ -52,9 +52,9 @@ pub record IsClientRun (program : Program) (words : List (List ℕ)) (outcome : 
   pub made : IsClientMade program words outcome said body
   pub told : IsText program said last
 
--- ---- over every host
+-- ---- for every host
 
--- an outcome of a client that was asked for
+-- an outcome of a client
 abbrev pub is_answered : Outcome → Bool
 is_answered ConfUnread = true
 is_answered (ConfBad fault) = true
@@ -63,6 +63,7 @@ is_answered (KeyBad fault) = true
 is_answered OpenFault = true
 is_answered SendFault = true
 is_answered NoReply = true
+is_answered NotRunning = true
 is_answered Report = true
 is_answered (Refused result) = true
 is_answered PrintFault = true
@@ -72,26 +73,26 @@ is_answered outcome = false
 abbrev pub IsAnswered : Outcome → Type 0
 IsAnswered outcome = T (is_answered outcome)
 
--- an outcome of a move that was asked for
+-- an outcome of a move
 abbrev pub IsMoveAnswered : Outcome → Type 0
 IsMoveAnswered NotSite = Unit {0}
 IsMoveAnswered (Stranded result) = Unit {0}
 IsMoveAnswered outcome = IsAnswered outcome
 
--- the words ask for a client, whatever they say of it
+-- the arguments are those of a client, with any options
 pub record AskForClient (program : Program) (words : List (List ℕ)) : Type 0 where
   pub asked : ClientWords
   pub asks : AsksClient program words asked
 
--- the words ask for a move, whatever they say of it
+-- the arguments are those of a move, with any options
 pub record AskForMove (program : Program) (words : List (List ℕ)) : Type 0 where
   pub asked : MoveWords
   pub own : program ≡ Booth
   pub asks : AsksMove words asked
 
--- Usage comes only for words that are not taken, and BadWord exactly where that word is the first refused; NotSite and
--- Stranded only where the words ask for a move, want of memory only where there is a command, and all else that a client
--- may come to only where they ask for one or for a move
+-- Usage comes only for invalid arguments, and BadWord exactly if that argument is the first invalid one; NotSite and
+-- Stranded come only for the arguments of a move, out of memory only if there is a command, and every other outcome
+-- of a client only for the arguments of one or of a move
 abbrev pub FitsClientWords : Program → List (List ℕ) → Outcome → Type 0
 FitsClientWords program words (Usage None) = verb_in program words ≡ None
 FitsClientWords program words (Usage (Some kind)) = IsUntaken program words kind
@@ -104,10 +105,10 @@ FitsClientWords program words (Stranded result) = AskForMove program words
 FitsClientWords program words outcome =
     (AskForClient program words ⊎ AskForMove program words) × IsAnswered outcome
 
--- ---- where nothing fails
+-- ---- if nothing fails
 
--- No file, no socket, no send and no print failed; what was read at the path says a configuration, and what was
--- read at a key file that it names holds a key.
+-- No file, socket, send or print failed; the file at the path spells a configuration, and the key file that it names
+-- holds a key.
 pub record IsUnhindered (conf : List ℕ) (entries : List Entry) : Type 0 where
   pub read : (file : List ℕ) → Contains entries (ReadFile file (Err reads.Failed)) → ⊥
   pub valid : (text : List ℕ) → Contains entries (ReadFile conf (Ok text)) →
@@ -120,11 +121,12 @@ pub record IsUnhindered (conf : List ℕ) (entries : List Entry) : Type 0 where
   pub sent : (to : Peer) (bytes : List ℕ) (failed : Failed) → Contains entries (Send to bytes (Err failed)) → ⊥
   pub printed : (text : List ℕ) (failed : Failed) → Contains entries (Out text (Err failed)) → ⊥
 
--- the outcomes that are no one's fault here, by the command
+-- the outcomes without a fault, by the command
 abbrev pub is_talked : Verb → Outcome → Bool
 is_talked verb Report = true
 is_talked verb (Refused result) = true
 is_talked verb NoReply = true
+is_talked verb NotRunning = true
 is_talked verb OutOfMemory = true
 is_talked verbs.Move NotSite = true
 is_talked verbs.Move (Stranded result) = true
@@ -133,8 +135,8 @@ is_talked verb outcome = false
 abbrev pub IsTalked : Verb → Outcome → Type 0
 IsTalked verb outcome = T (is_talked verb outcome)
 
--- Valid words, a valid file and key and an outside that does not fail give Report, Refused, NoReply or OutOfMemory;
--- those of a move give NotSite or Stranded too, and no others.
+-- Valid arguments, a valid file and key and an environment that does not fail give Report, Refused, NoReply,
+-- NotRunning or OutOfMemory; those of a move may also give NotSite or Stranded, and there are no others.
 abbrev pub FaultlessTalks : Type 0
 FaultlessTalks = (program : Program) (words : List (List ℕ)) (verb : Verb) (outcome : Outcome) (entries : List Entry) →
     AreValid program words verb → IsClientRun program words outcome entries →

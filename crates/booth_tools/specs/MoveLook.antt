@@ -1,4 +1,4 @@
--- The look at the target before a move: its list says whether it has the ticket already.
+-- The look at the target before a move: its list shows whether it has the ticket already.
 use Rattle.std.specs.Prelude.{◌≡◌, ◌++◌, ◌⊎◌, ℕ, List, [], ◌∷◌, Option, Some, None, Result, Ok, Err, codes}
 use Rattle.booth_keys.specs.declared.ring.Ring.{Ring}
 use Rattle.booth_base.specs.declared.address.Peer.{Peer}
@@ -25,7 +25,7 @@ use Rattle.booth_tools.specs.Client.{IsPlainEnd, refused_text}
 abbrev pub listing : ConfigSays → Option Ring → Asking
 listing config ring = record { order = orders.List; config = config; ring = ring }
 
--- where the site listens that is to have the ticket
+-- the address of the target site
 abbrev pub target_peer : MoveWords → ConfigSays → Peer
 target_peer asked config = record { address = asked.target; port = config.port }
 
@@ -49,8 +49,8 @@ IsShown text outs.PrintFault said entries = (said ≡ unprinted_text)
     × (failed : Failed) × (entries ≡ Out text (Err failed) ∷ [])
 IsShown text outcome said entries = ⊥
 
--- How a move ends by the target's list: where the list names the target as the owner, with one print that says so, or
--- without memory to read it; where the list is refused, does not come whole, or cannot be asked for.
+-- How a move ends after the target's list: if the list names the target as the owner, with one print that says so, or
+-- without memory to read it; or if the list is refused, does not arrive whole, or cannot be requested.
 abbrev pub LookEndsWith : MoveWords → Result Listed Failed → List ℕ → Outcome → List ℕ → List Entry → Type 0
 LookEndsWith asked (Ok Whole) text outcome said entries =
     (IsHeldIn asked text × IsShown (held_text asked) outcome said entries)
@@ -62,7 +62,7 @@ LookEndsWith asked (Ok listed.Over) text outcome said entries =
 LookEndsWith asked (Err failed) text outcome said entries =
     IsPlainEnd outcome outs.SendFault said (codes "cannot send") entries
 
--- the clock was read, the target was asked for its list, and the move ended by that
+-- the clock was read, the target's list was requested, and the move ended
 pub record IsSettled (asked : MoveWords) (asking : Asking) (outcome : Outcome) (said : List ℕ) (entries : List Entry)
     : Type 0 where
   pub to : Peer
@@ -76,7 +76,7 @@ pub record IsSettled (asked : MoveWords) (asking : Asking) (outcome : Outcome) (
   pub talk : IsListTalk asking to start last text early
   pub end : LookEndsWith asked last text outcome said late
 
--- the clock was read, and the target's list came whole and does not name the target as the owner
+-- the clock was read, and the target's list arrived whole and does not name the target as the owner
 pub record IsElsewhere (asked : MoveWords) (asking : Asking) (entries : List Entry) : Type 0 where
   pub to : Peer
   pub named : to ≡ target_peer asked asking.config
@@ -89,13 +89,13 @@ pub record IsElsewhere (asked : MoveWords) (asking : Asking) (entries : List Ent
 
 -- ---- in the code
 
--- how a move ends by a list that was asked for, or that it goes on
+-- how a move ends after a list, or that it goes on
 abbrev pub IsJudged : MoveWords → Listed → List ℕ → Option Ended → List Entry → Type 0
 IsJudged asked came text (Some ended) entries = LookEndsWith asked (Ok came) text ended.outcome ended.said entries
 IsJudged asked Whole text None entries = IsNotHeldIn asked text × (entries ≡ [])
 IsJudged asked came text None entries = ⊥
 
--- how a move ends by the look, or that it goes on
+-- how a move ends after the look, or that it goes on
 abbrev pub IsLook : MoveWords → Asking → Option Ended → List Entry → Type 0
 IsLook asked asking (Some ended) entries = IsSettled asked asking ended.outcome ended.said entries
 IsLook asked asking None entries = IsElsewhere asked asking entries

@@ -1,4 +1,4 @@
--- The calls of a move that was asked for, up to where its outcome is decided, and what it then says.
+-- The calls of a move, up to the one that decides its outcome, and the text that it then prints.
 use Rattle.std.specs.Prelude.{◌≡◌, ◌++◌, ◌&&◌, ℕ, Bool, List, [], ◌∷◌, Option, Some, None, Result, Ok, Err, MatchOption}
 use Rattle.std.specs.Prelude.{codes, position}
 use Rattle.booth_keys.specs.declared.ring.Ring.{Ring}
@@ -25,7 +25,7 @@ use Rattle.booth_outcomes.specs.Texts.{not_site_text}
 use Rattle.booth_tools.specs.Client.{IsPlainEnd, IsSocketless, destination, refused_text}
 use Rattle.booth_tools.specs.MoveLook.{IsElsewhere, IsSettled, IsShown, listing}
 
--- ---- the site that is to have the ticket
+-- ---- the target site
 
 -- the member is a site, and has this address
 abbrev pub is_site_at : Address → Member → Bool
@@ -35,7 +35,7 @@ is_site_at address m = is_site m && is_at address m
 abbrev pub site_at : Address → ConfigSays → Option ℕ
 site_at address config = position (is_site_at address) config.members
 
--- ---- what is printed, and what is said
+-- ---- the output
 
 -- the site has the ticket
 abbrev pub moved_text : MoveWords → List ℕ
@@ -45,7 +45,7 @@ moved_text asked = codes "ticket " ++ asked.ticket ++ codes " moved to " ++ prin
 abbrev pub begun_text : MoveWords → List ℕ
 begun_text asked = codes "move of " ++ asked.ticket ++ codes " requested\n"
 
--- the ticket was given back, and its grant was answered by this result
+-- the ticket was released, and the answer to its grant has this result
 abbrev pub stranded_text : List ℕ → ℕ → List ℕ
 stranded_text ticket result =
     codes "ticket " ++ ticket ++ codes " is revoked, and its grant was refused: " ++ refused_text result
@@ -77,7 +77,7 @@ pub record IsMoveTold (asked : MoveWords) (moving : Moving) (start : ℕ) (outco
 
 -- ---- the stages before it
 
--- the move of the ticket to the member at this place, of which this peer is asked first
+-- the move of the ticket to the member at this place, which starts with a request to this peer
 abbrev pub moving_of : MoveWords → ConfigSays → Option Ring → ℕ → Peer → Moving
 moving_of asked config ring target to = record {
   config = config;
@@ -109,7 +109,8 @@ pub record IsLookedUp (asked : MoveWords) (config : ConfigSays) (ring : Option R
   pub whole : entries ≡ opened ∷ rest
   pub here : IsSettled asked (listing config ring) outcome said rest
 
--- the socket was opened, and the target does not have the ticket; then the ticket was moved
+-- the calls of a move, in order: the socket was opened, the look showed that the target does not have the ticket, and
+-- the move was tried with this outcome
 pub record IsStarted (asked : MoveWords) (config : ConfigSays) (ring : Option Ring) (target : ℕ) (outcome : Outcome)
     (said : List ℕ) (entries : List Entry) : Type 0 where
   pub look : List Entry
@@ -127,7 +128,7 @@ pub data FollowsKey (asked : MoveWords) (config : ConfigSays) (ring : Option Rin
   Started : IsStarted asked config ring target outcome said entries →
       FollowsKey asked config ring target outcome said entries
 
--- the key was read, where one is set, and then these calls were made
+-- the key was read, if one is set, and then these calls were made
 pub record IsMoveKeyed (asked : MoveWords) (config : ConfigSays) (target : ℕ) (outcome : Outcome) (said : List ℕ)
     (entries : List Entry) : Type 0 where
   pub ring : Option Ring
@@ -137,14 +138,14 @@ pub record IsMoveKeyed (asked : MoveWords) (config : ConfigSays) (target : ℕ) 
   pub whole : entries ≡ key_calls config texts ++ rest
   pub here : FollowsKey asked config ring target outcome said rest
 
--- what follows where the target is a site
+-- what follows if the target is a site
 pub data FollowsSite (asked : MoveWords) (config : ConfigSays) (target : ℕ) (outcome : Outcome) (said : List ℕ)
     (entries : List Entry) : Type 0 where
   Keyless : IsKeyless config outcome said entries → FollowsSite asked config target outcome said entries
   Keyed : IsMoveKeyed asked config target outcome said entries →
       FollowsSite asked config target outcome said entries
 
--- What follows the configuration: NotSite without a call exactly where no site has the address.
+-- What follows the configuration: NotSite without a call exactly if no site has the address.
 abbrev pub FollowsConfig : MoveWords → ConfigSays → Outcome → List ℕ → List Entry → Type 0
 FollowsConfig asked config outcome said entries =
     MatchOption (site_at asked.target config)
@@ -160,7 +161,7 @@ pub record IsMoveRead (asked : MoveWords) (outcome : Outcome) (said : List ℕ) 
   pub whole : entries ≡ ReadFile asked.conf (Ok text) ∷ rest
   pub here : FollowsConfig asked config outcome said rest
 
--- the first stage that did not go on, or the move
+-- the first stage that failed, or the move
 pub data IsMoveLog (asked : MoveWords) (outcome : Outcome) (said : List ℕ) (entries : List Entry) : Type 0 where
   Unread : IsUnread asked.conf outcome said entries → IsMoveLog asked outcome said entries
   Read : IsMoveRead asked outcome said entries → IsMoveLog asked outcome said entries

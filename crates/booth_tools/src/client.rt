@@ -1,4 +1,4 @@
-//! A client that was asked for: its configuration and key, its socket, and what it asks.
+//! A client: its configuration and key, its socket, and its request.
 ghost use Rattle.std.specs.Prelude.{◌≡◌, ◌≤◌, ◌∷◌, [], None, Some, IfErr, IfOk, option_copied};
 ghost use Rattle.std.specs.List.{find};
 ghost use Rattle.booth_conf.specs.Config.{file_fault, is_site};
@@ -20,14 +20,14 @@ use booth_outcomes::{Ended, Outcome, read_config, read_ring, texts};
 use booth_talk::Asking;
 use std::alloc::Global;
 
-/// The configuration of a cluster, and its key, where it has one.
+/// The configuration of a cluster, and its key, if it has one.
 #[derive(Drop)]
 pub(crate) struct Cluster {
     pub(crate) config: Config,
     pub(crate) ring: Option<Ring>,
 }
 
-/// This configuration with its key.
+/// Reads the key of this configuration.
 pub(crate) fn with_key<H: Host>(
     alloc: Global,
     config: Config,
@@ -62,7 +62,7 @@ fn find_site(config: &Config) -> Option<&Member>
     config.members().iter().find(|member| member.site)
 }
 
-// The first site of a configuration, each of which has one.
+// Returns the first site of a configuration, each of which has one.
 fn first_site(config: &Config) -> Member
     requires { file_fault config.now.members config.now.tickets ≡ None }
     ensures { find is_site config.now.members ≡ Some result }
@@ -73,7 +73,7 @@ fn first_site(config: &Config) -> Member
     }
 }
 
-/// Whom a client asks.
+/// Returns the receiver of a client's request.
 pub(crate) fn destination(site: Option<Address>, config: &Config) -> Peer
     requires { file_fault config.now.members config.now.tickets ≡ None }
     ensures { destination site config.now ≡ Some result }
@@ -111,7 +111,8 @@ pub(crate) fn open_socket<H: Host>(host: &mut H) -> Result<(), Failed>
     host.open(&place)
 }
 
-// What follows the reads: the socket, the clock, and what is asked for. Its memory is taken before them.
+// Does what follows the reads: opens the socket, reads the clock, and sends the request. Its memory is allocated
+// before these.
 fn converse<H: Host>(alloc: Global, asked: ClientWords, cluster: Cluster, host: &mut H) -> Ended
     requires { file_fault cluster.config.members cluster.config.tickets ≡ None }
     ensures past { GrewSome (Follows asked cluster.config cluster.ring result.outcome result.said)
@@ -142,7 +143,7 @@ fn converse<H: Host>(alloc: Global, asked: ClientWords, cluster: Cluster, host: 
     ask_and_tell(alloc, &asking, &to, start, &mut memory, host)
 }
 
-/// The calls of the client that was asked for, up to where its outcome is decided.
+/// Makes the calls of the client, up to the one that decides its outcome.
 pub(crate) fn ask_daemon<H: Host>(alloc: Global, asked: ClientWords, host: &mut H) -> Ended
     ensures past { GrewSome (IsClientLog asked result.outcome result.said)
         (H.past host.old) (H.past host.new) }

@@ -13,7 +13,7 @@ use booth_host::{Host, QuietHost};
 use booth_outcomes::{Ended, Outcome, tell, tell_error, texts};
 use std::alloc::Global;
 
-/// The words, without a leading `client`.
+/// Returns the arguments, without a leading `client`.
 pub fn passed(words: &[String]) -> &[String]
     ensures { map string_bytes result.now ≡ passed (map string_bytes words.now) }
 {
@@ -27,7 +27,7 @@ pub fn passed(words: &[String]) -> &[String]
     }
 }
 
-// The calls of a client's run up to where its outcome is decided.
+// Makes the calls of a client's run, up to the one that decides its outcome.
 fn run_words<H: Host>(alloc: Global, program: Program, words: &[String], host: &mut H) -> Ended
     requires client { IsClient program }
     ensures past { GrewSome (IsClientMade program (map string_bytes words.now) result.outcome result.said)
@@ -40,7 +40,7 @@ fn run_words<H: Host>(alloc: Global, program: Program, words: &[String], host: &
         Ok(Asked::Client(asked)) => ask_daemon(alloc, asked, host),
         Ok(Asked::Move(asked)) => move_ticket(alloc, asked, host),
         Ok(Asked::Daemon(_)) | Ok(Asked::Status(_)) | Ok(Asked::Simulation(_)) => unreachable!(),
-        // (taken out of the words, since its journals own memory)
+        // (taken out of the arguments, since its journals own memory)
         Ok(Asked::Audit(_asked)) => unreachable!(),
         Ok(Asked::Follow(_)) => unreachable!(),
         Err(Refusal::Untaken(error)) => tell_error(alloc, program, &error, host),
@@ -55,7 +55,7 @@ fn run_words<H: Host>(alloc: Global, program: Program, words: &[String], host: &
     }
 }
 
-// A client's run.
+// Runs a client.
 fn run_client<H: Host>(alloc: Global, program: Program, words: &[String], host: &mut H) -> Outcome
     requires client { IsClient program }
     ensures past { GrewSome (IsClientRun program (map string_bytes words.now) result)
@@ -69,22 +69,22 @@ fn run_client<H: Host>(alloc: Global, program: Program, words: &[String], host: 
     ended.outcome
 }
 
-/// Runs `booth` with these words, without the program's name, over this host. A leading `client` is passed
-/// over.
+/// Runs `booth` with these arguments, without the program's name, with this host. A leading `client` is ignored.
 ///
-/// It reads the configuration, and its key where `authfile` is set, opens a socket, reads the clock, and sends
-/// one request to the daemon that is named, or to the first site. It then waits for the answer, and a revoke
-/// that is answered by the name of another owner is sent on to that member, once. It prints what a good answer
-/// says, and says why another refuses.
+/// It reads the configuration and, if `authfile` is set, its key; opens a socket; reads the clock; and sends one
+/// request to the daemon in the arguments, or to the first site. It then waits for the answer; if the answer to a
+/// revoke names another owner, the revoke is sent on to that member, once. It prints the content of a good answer,
+/// and why any other refuses.
 ///
-/// A move goes so too, where its target is a site; else it ends before the key is read. Once the revoke is answered
-/// that the ticket was given back, it asks the target for a grant, again while that is busy, and tells how it ended.
+/// A move does the same if its target is a site; otherwise it ends before the key is read. Once the answer to the
+/// revoke says that the ticket was released, it sends the target a grant, again while the target is busy, and prints
+/// how the move ended.
 pub fn booth<H: Host>(alloc: Global, words: &[String], host: &mut H) -> Outcome
-    // Where the host tells its calls: exactly these, by how the run ended.
+    // If the host records its calls, they are exactly these, by how the run ended.
     ensures past { GrewSome (IsClientRun Program.Booth (passed (map string_bytes words.now)) result)
         (H.past host.old) (H.past host.new) }
 
-    // Over every host.
+    // For every host.
     ensures words { FitsClientWords Program.Booth (passed (map string_bytes words.now)) result }
     ensures blame { HasBlame result (H.faults host.old) (H.faults host.new) }
     ensures later { H.faults host.old ≤ H.faults host.new }
@@ -92,7 +92,7 @@ pub fn booth<H: Host>(alloc: Global, words: &[String], host: &mut H) -> Outcome
     run_client(alloc, Program::Booth, passed(words), host)
 }
 
-/// Runs `booth` over a host without failures: no failure is ever answered.
+/// Runs `booth` with a host that has no failures: no call returns a failure.
 pub fn quiet_booth(alloc: Global, words: &[String], host: &mut QuietHost) -> Outcome
     ensures past { GrewSome (IsClientRun Program.Booth (passed (map string_bytes words.now)) result)
         (quiet_past host.old) (quiet_past host.new) }
@@ -102,18 +102,18 @@ pub fn quiet_booth(alloc: Global, words: &[String], host: &mut QuietHost) -> Out
     booth(alloc, words, host)
 }
 
-/// Runs `geostore` with these words, without the program's name, over this host.
+/// Runs `geostore` with these arguments, without the program's name, with this host.
 ///
-/// It goes as `booth` does: it reads the configuration, and its key where `authfile` is set, opens a socket, reads
-/// the clock, sends one request to the daemon that is named, or to the first site, and waits for the answer. Of a
-/// value that is asked for it prints a line, and of a list what the daemon says; of a set or deleted attribute
-/// nothing. It says why an answer refuses.
+/// It works like `booth`: it reads the configuration and, if `authfile` is set, its key; opens a socket; reads the
+/// clock; sends one request to the daemon in the arguments, or to the first site; and waits for the answer. It prints
+/// a value as a line, and a list as the daemon sent it; after an attribute was set or deleted it prints nothing. It
+/// prints why an answer refuses.
 pub fn geostore<H: Host>(alloc: Global, words: &[String], host: &mut H) -> Outcome
-    // Where the host tells its calls: exactly these, by how the run ended.
+    // If the host records its calls, they are exactly these, by how the run ended.
     ensures past { GrewSome (IsClientRun Program.Geostore (map string_bytes words.now) result)
         (H.past host.old) (H.past host.new) }
 
-    // Over every host.
+    // For every host.
     ensures words { FitsClientWords Program.Geostore (map string_bytes words.now) result }
     ensures blame { HasBlame result (H.faults host.old) (H.faults host.new) }
     ensures later { H.faults host.old ≤ H.faults host.new }
@@ -121,7 +121,7 @@ pub fn geostore<H: Host>(alloc: Global, words: &[String], host: &mut H) -> Outco
     run_client(alloc, Program::Geostore, words, host)
 }
 
-/// Runs `geostore` over a host without failures: no failure is ever answered.
+/// Runs `geostore` with a host that has no failures: no call returns a failure.
 pub fn quiet_geostore(alloc: Global, words: &[String], host: &mut QuietHost) -> Outcome
     ensures past { GrewSome (IsClientRun Program.Geostore (map string_bytes words.now) result)
         (quiet_past host.old) (quiet_past host.new) }

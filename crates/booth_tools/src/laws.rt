@@ -1,8 +1,8 @@
 //! What follows from the contracts, for all runs.
 ghost use Rattle.booth_tools.specs.ClientRun.{FaultlessTalks};
 
-/// Valid words, a valid file and key and an outside that does not fail have `booth` and `geostore` give Report,
-/// Refused, NoReply or OutOfMemory.
+/// With valid arguments, a valid file and key and an environment that does not fail, `booth` and `geostore` give
+/// Report, Refused, NoReply, NotRunning or OutOfMemory; a move may also give NotSite or Stranded.
 pub fn faultless_talks()
     ensures { FaultlessTalks }
 {}

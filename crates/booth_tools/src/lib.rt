@@ -1,4 +1,4 @@
-//! The programs `booth` and `geostore` over any host: words in, calls on the host, texts and outcome out.
+//! The programs `booth` and `geostore` over any host: arguments in, calls on the host, texts and an outcome out.
 #![tactic(auto)]
 
 mod client;

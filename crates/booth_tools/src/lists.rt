@@ -1,4 +1,4 @@
-//! How a list that is asked for ends: with its report, with a refusal, or without a whole list.
+//! How a request for a list ends: with its report, with a refusal, or without a whole list.
 ghost use Rattle.std.specs.Prelude.{◌≡◌, ◌≤◌, true, Ok};
 ghost use Rattle.booth_host.specs.Past.{GrewSome};
 ghost use Rattle.booth_talk.specs.Asking.{is_list};
@@ -15,7 +15,7 @@ use booth_outcomes::{Ended, ErrorLine, Outcome, texts};
 use booth_talk::{Asking, ListRoom, Listed, talk_list};
 use std::alloc::Global;
 
-// Prints the list whose parts are here.
+// Prints the list whose parts are in the room.
 fn print<H: Host>(alloc: Global, room: &ListRoom, host: &mut H) -> Ended
     ensures past { GrewSome (IsPrinted (IsListReport (text_of room.now.parts)) result.outcome result.said)
         (H.past host.old) (H.past host.new) }
@@ -38,7 +38,7 @@ fn print<H: Host>(alloc: Global, room: &ListRoom, host: &mut H) -> Ended
     }
 }
 
-// How a list ends whose request was sent.
+// Returns how a list ends whose request was sent.
 fn end<H: Host>(alloc: Global, listed: Listed, room: &ListRoom, host: &mut H) -> Ended
     ensures past { GrewSome (ListEndsWith (Ok listed) (text_of room.now.parts) result.outcome result.said)
         (H.past host.old) (H.past host.new) }
@@ -59,7 +59,7 @@ fn end<H: Host>(alloc: Global, listed: Listed, room: &ListRoom, host: &mut H) ->
     }
 }
 
-/// Asks this peer for the list, at this reading, and tells what came of it.
+/// Requests the list from this peer, at this reading, and prints the result.
 pub(crate) fn list_and_tell<H: Host>(
     alloc: Global,
     asking: &Asking,

@@ -1,21 +1,21 @@
-//! The memory of what a client asks for, which is taken before it asks.
+//! The memory of a client's request, which is allocated before the request.
 ghost use Rattle.std.specs.Prelude.{IfOk};
 ghost use Rattle.booth_tools.specs.Client.{IsMemoryFor};
 
 use booth_talk::{ListRoom, Order, Room};
 use std::alloc::{AllocError, Global};
 
-/// The memory of what is asked for.
+/// The memory of a request.
 #[derive(Drop)]
 pub(crate) enum Memory {
-    /// That of a list, which comes in parts.
+    /// The memory for a list, which comes in parts.
     List(ListRoom),
-    /// That of anything else.
+    /// The memory for any other request.
     Talk(Room),
 }
 
 impl Memory {
-    /// All memory that is taken until this order is answered.
+    /// Allocates all memory until this order is answered.
     pub(crate) fn new(alloc: Global, order: &Order) -> Result<Memory, AllocError>
         ensures { IfOk result (λ memory. IsMemoryFor order.now memory) }
     {

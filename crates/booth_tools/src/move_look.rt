@@ -31,7 +31,7 @@ fn held_text(asked: &MoveWords) -> Report
     text
 }
 
-// Where the site listens that is to have the ticket.
+// Returns the address of the target site.
 fn target_peer(asked: &MoveWords, config: &Config) -> Peer
     ensures { result ≡ target_peer asked.now config.now }
 {
@@ -41,7 +41,7 @@ fn target_peer(asked: &MoveWords, config: &Config) -> Peer
     }
 }
 
-// Tells how a move ends by the target's list, where it does.
+// Prints how a move ends after the target's list, if it ends.
 #[tactic(auto, using(crate::proofs::MoveLemmas::held_shown, crate::proofs::MoveLemmas::unread_list))]
 fn judged<H: Host>(
     alloc: Global,
@@ -73,7 +73,7 @@ fn judged<H: Host>(
     }
 }
 
-/// Asks the target for its list, and tells how the move ends by that, where it does.
+/// Requests the target's list, and prints how the move ends after it, if it ends.
 pub(crate) fn look<H: Host>(
     alloc: Global,
     asked: &MoveWords,

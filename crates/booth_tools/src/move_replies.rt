@@ -16,7 +16,7 @@ use booth_outcomes::{Ended, ErrorLine, Outcome, texts};
 /// The most bytes of a report of a move.
 const REPORT_BYTES: usize = 160;
 
-/// What is printed of a move.
+/// The output of a move.
 pub(crate) type Report = ArrayVec<u8, REPORT_BYTES>;
 
 fn moved_text(asked: &MoveWords) -> Report
@@ -61,7 +61,7 @@ pub(crate) fn show<H: Host>(text: &[u8], host: &mut H) -> Ended
     }
 }
 
-// Tells how a move ended whose requests were sent.
+// Returns how a move ended whose requests were sent.
 fn end<H: Host>(asked: &MoveWords, how: MoveEnd, host: &mut H) -> Ended
     ensures past { GrewSome (MoveEndsWith asked.now (Ok how) result.outcome result.said)
         (H.past host.old) (H.past host.new) }
@@ -87,7 +87,7 @@ fn end<H: Host>(asked: &MoveWords, how: MoveEnd, host: &mut H) -> Ended
     }
 }
 
-/// Carries a move out, from its start at this reading, and tells what came of it.
+/// Carries out a move, from its start at this reading, and prints the result.
 pub(crate) fn carry_and_tell<H: Host>(
     asked: &MoveWords,
     moving: &Moving,

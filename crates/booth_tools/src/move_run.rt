@@ -1,4 +1,4 @@
-//! A move that was asked for: its configuration, its target and key, its socket, and what it asks.
+//! A move: its configuration, its target and key, its socket, and its requests.
 ghost use Rattle.std.specs.Prelude.{◌≡◌, ◌≤◌, None, IfOk, IsSomeAnd, IsTrue, slice_get};
 ghost use Rattle.booth_conf.specs.Config.{file_fault};
 ghost use Rattle.booth_host.specs.Past.{GrewSome};
@@ -25,7 +25,7 @@ fn is_site_at(address: &Address, member: &Member) -> bool
     member.site && *address == member.address
 }
 
-// The place of the site with this address.
+// Returns the place of the site with this address.
 fn site_at(address: &Address, config: &Config) -> Option<usize>
     ensures { result ≡ site_at address.now config.now }
 {
@@ -35,7 +35,7 @@ fn site_at(address: &Address, config: &Config) -> Option<usize>
         .position(|member| is_site_at(address, member))
 }
 
-// What follows the look: the clock, and the move of the ticket to the member at this place.
+// Does what follows the look: reads the clock, and moves the ticket to the member at this place.
 fn start_move<H: Host>(
     asked: &MoveWords,
     asking: Asking,
@@ -82,8 +82,8 @@ impl MoveMemory {
     }
 }
 
-// What follows the key: the socket, the look at the target, and the move. All memory but that of the list's text is
-// taken before them.
+// Does what follows the key: opens the socket, looks at the target, and moves the ticket. All memory except that for
+// the list's text is allocated before these.
 fn set_out<H: Host>(
     alloc: Global,
     asked: MoveWords,
@@ -122,7 +122,7 @@ fn set_out<H: Host>(
     }
 }
 
-// What follows where the target is a site: the key, and all behind it.
+// Does what follows if the target is a site: reads the key, and goes on.
 fn move_to<H: Host>(
     alloc: Global,
     asked: MoveWords,
@@ -144,7 +144,7 @@ fn move_to<H: Host>(
     }
 }
 
-// What follows the configuration.
+// Does what follows the configuration.
 fn move_within<H: Host>(alloc: Global, asked: MoveWords, config: Config, host: &mut H) -> Ended
     requires { file_fault config.members config.tickets ≡ None }
     ensures past { GrewSome (FollowsConfig asked config result.outcome result.said)
@@ -162,7 +162,7 @@ fn move_within<H: Host>(alloc: Global, asked: MoveWords, config: Config, host: &
     }
 }
 
-/// The calls of the move that was asked for, up to where its outcome is decided.
+/// Makes the calls of the move, up to the one that decides its outcome.
 pub(crate) fn move_ticket<H: Host>(alloc: Global, asked: MoveWords, host: &mut H) -> Ended
     ensures past { GrewSome (IsMoveLog asked result.outcome result.said)
         (H.past host.old) (H.past host.new) }

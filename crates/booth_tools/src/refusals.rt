@@ -1,4 +1,4 @@
-//! What is said of a reply that refuses.
+//! The text for a reply that refuses.
 ghost use Rattle.std.specs.Prelude.{◌≡◌, ◌≤◌, ◌++◌, codes, length};
 ghost use Rattle.std.specs.Int.{to_be_bytes, w32};
 ghost use Rattle.hex.specs.Hex.{encode_lower};
@@ -10,7 +10,7 @@ use booth_outcomes::ErrorLine;
 use booth_outcomes::texts::line_of;
 use booth_wire::results;
 
-// Eight digits.
+// Returns eight digits.
 fn hexadecimal(number: u32) -> [u8; 8]
     ensures { result ≡ encode_lower (to_be_bytes w32 number) }
 {
@@ -20,7 +20,7 @@ fn hexadecimal(number: u32) -> [u8; 8]
     digits
 }
 
-// A result that has no text of its own.
+// Returns the text for a result that has no text of its own.
 fn other_text(code: u32) -> ErrorLine
     ensures text { result ≡ codes "result " ++ encode_lower (to_be_bytes w32 code) }
     ensures short { length result ≤ 40 }
@@ -31,7 +31,7 @@ fn other_text(code: u32) -> ErrorLine
     line
 }
 
-/// What is said of this result.
+/// Returns the text for this result.
 pub(crate) fn refused_text(code: u32) -> ErrorLine
     ensures text { result ≡ refused_text code }
     ensures short { length result ≤ 40 }
@@ -51,7 +51,7 @@ pub(crate) fn refused_text(code: u32) -> ErrorLine
     }
 }
 
-/// What is said of a ticket that was given back, and whose grant was answered by this result.
+/// Returns the text for a ticket that was released, and whose grant was answered with this result.
 pub(crate) fn stranded_text(ticket: &Name, code: u32) -> ErrorLine
     ensures { result ≡ stranded_text ticket.now code }
 {

@@ -5,7 +5,7 @@ ghost use Rattle.booth_talk.specs.Asking.{is_list};
 ghost use Rattle.booth_talk.specs.Report.{IsReportOf};
 ghost use Rattle.booth_talk.specs.Talk.{IsHeld, IsReplyIn};
 ghost use Rattle.booth_outcomes.specs.Outcomes.{HasBlame};
-ghost use Rattle.booth_tools.specs.Client.{EndsWith, IsMemoryFor, IsPrinted, IsReported, IsTalkTold, IsTold, is_good};
+ghost use Rattle.booth_tools.specs.Client.{EndsWith, IsMemoryFor, IsPrinted, IsReported, IsStopped, IsTalkTold, IsTold, IsUnanswered, is_good};
 ghost use Rattle.booth_tools.specs.ClientRun.{IsAnswered};
 
 use crate::lists::list_and_tell;
@@ -14,7 +14,7 @@ use crate::refusals::refused_text;
 use booth_base::Peer;
 use booth_host::{Failed, Host};
 use booth_outcomes::{Ended, ErrorLine, Outcome, texts};
-use booth_talk::{Asking, Reply, Room, Waited, is_begun, report_of, talk};
+use booth_talk::{Asking, Order, Reply, Room, Waited, is_begun, report_of, talk};
 use std::alloc::Global;
 
 fn is_good(reply: &Reply) -> bool
@@ -23,7 +23,7 @@ fn is_good(reply: &Reply) -> bool
     reply.result == 0 || is_begun(reply)
 }
 
-// Prints what a good reply says, whose bytes these are.
+// Prints the content of a good reply, which has these bytes.
 fn print<H: Host>(
     alloc: Global,
     asking: &Asking,
@@ -32,7 +32,7 @@ fn print<H: Host>(
     host: &mut H,
 ) -> Ended
     requires { IsReplyIn asking.now reply.now bytes.now }
-    ensures past { GrewSome (IsPrinted (IsReportOf asking.now.order bytes.now) result.outcome result.said)
+    ensures past { GrewSome (IsPrinted (IsReportOf asking.now bytes.now) result.outcome result.said)
         (H.past host.old) (H.past host.new) }
     ensures served { IsAnswered result.outcome }
     ensures blame { HasBlame result.outcome (H.faults host.old) (H.faults host.new) }
@@ -53,7 +53,7 @@ fn print<H: Host>(
     }
 }
 
-// Tells what a good reply says, whose bytes these are, where something is printed of it.
+// Reports a good reply, which has these bytes, if it has output.
 fn report<H: Host>(
     alloc: Global,
     asking: &Asking,
@@ -62,7 +62,7 @@ fn report<H: Host>(
     host: &mut H,
 ) -> Ended
     requires { IsReplyIn asking.now reply.now bytes.now }
-    ensures past { GrewSome (IsReported asking.now.order bytes.now result.outcome result.said)
+    ensures past { GrewSome (IsReported asking.now bytes.now result.outcome result.said)
         (H.past host.old) (H.past host.new) }
     ensures served { IsAnswered result.outcome }
     ensures blame { HasBlame result.outcome (H.faults host.old) (H.faults host.new) }
@@ -77,10 +77,46 @@ fn report<H: Host>(
     print(alloc, asking, reply, bytes, host)
 }
 
-// How a talk ends whose requests were sent; the bytes of the last reply are these.
+// Prints that the daemon does not run.
+fn print_stopped<H: Host>(host: &mut H) -> Ended
+    ensures past { GrewSome (IsStopped result.outcome result.said) (H.past host.old) (H.past host.new) }
+    ensures served { IsAnswered result.outcome }
+    ensures blame { HasBlame result.outcome (H.faults host.old) (H.faults host.new) }
+    ensures later { H.faults host.old ≤ H.faults host.new }
+{
+    match host.out(b"booth daemon is not running\n") {
+        Ok(()) => Ended {
+            outcome: Outcome::NotRunning,
+            said: ErrorLine::none(),
+        },
+        Err(Failed) => Ended {
+            outcome: Outcome::PrintFault,
+            said: texts::unprinted_text(),
+        },
+    }
+}
+
+// Returns how a talk ends without a reply.
+fn unanswered<H: Host>(order: &Order, host: &mut H) -> Ended
+    ensures past { GrewSome (IsUnanswered order.now result.outcome result.said)
+        (H.past host.old) (H.past host.new) }
+    ensures served { IsAnswered result.outcome }
+    ensures blame { HasBlame result.outcome (H.faults host.old) (H.faults host.new) }
+    ensures later { H.faults host.old ≤ H.faults host.new }
+{
+    if order.is_status() {
+        return print_stopped(host);
+    }
+    Ended {
+        outcome: Outcome::NoReply,
+        said: texts::line_of(b"no reply"),
+    }
+}
+
+// Returns how a talk ends whose requests were sent; the last reply has these bytes.
 fn end<H: Host>(alloc: Global, asking: &Asking, last: &Waited, bytes: &[u8], host: &mut H) -> Ended
     requires { IsHeld asking.now last.now bytes.now }
-    ensures past { GrewSome (EndsWith asking.now.order (Ok last.now) bytes.now result.outcome result.said)
+    ensures past { GrewSome (EndsWith asking.now (Ok last.now) bytes.now result.outcome result.said)
         (H.past host.old) (H.past host.new) }
     ensures served { IsAnswered result.outcome }
     ensures blame { HasBlame result.outcome (H.faults host.old) (H.faults host.new) }
@@ -97,14 +133,11 @@ fn end<H: Host>(alloc: Global, asking: &Asking, last: &Waited, bytes: &[u8], hos
                 }
             }
         }
-        Waited::Over => Ended {
-            outcome: Outcome::NoReply,
-            said: texts::line_of(b"no reply"),
-        },
+        Waited::Over => unanswered(&asking.order, host),
     }
 }
 
-// Asks this peer for what is no list, at this reading, and tells what came of it.
+// Sends this peer a request that is not for a list, at this reading, and prints the result.
 fn talk_and_tell<H: Host>(
     alloc: Global,
     asking: &Asking,
@@ -129,7 +162,7 @@ fn talk_and_tell<H: Host>(
     }
 }
 
-/// Asks this peer, at this reading, and tells what came of it. The memory is that of the order.
+/// Sends this peer the request, at this reading, and prints the result. The memory is that for the order.
 pub(crate) fn ask_and_tell<H: Host>(
     alloc: Global,
     asking: &Asking,

@@ -1,9 +1,10 @@
-//! The programs `booth` and `geostore`: their arguments over the real host, and links over TCP beside it.
+//! The programs `booth` and `geostore`: their arguments, over the real host and links over TCP.
 
 use crate::default_site::with_default_site;
 use crate::explaining::{Run, explain};
 use crate::heard::HearingHost;
 use crate::live_followers::has_follower;
+use crate::ticket_option::with_ticket;
 use crate::transport::{part, transport};
 use crate::unmade::Unmade;
 use booth_cli::{Asked, MoveWords, Program, ask};
@@ -15,19 +16,18 @@ use std::alloc::{AllocError, Global};
 use std::io::Write;
 use std::str;
 
-/// What is printed behind the help of a command.
+/// The text after the help of a command.
 const MORE_HELP: &[u8] = b"
 Before or behind the command:
       --udp      Asks by datagrams alone
       --tcp      Asks over TCP, and by a datagram if the member takes no link
                  [default: BOOTH_TRANSPORT of the environment, or else by a datagram, and after a second over TCP]
-Without -s the daemon at BOOTH_ADDRESS of the environment is asked, if that is set.
 ";
 
 /// The host of a client.
 type Hearing = HearingHost<ClientHost<RealHost>>;
 
-// Says that a follower lives here, and which command moves its ticket with its service.
+// Prints that a follower lives here, and which command moves its ticket with its service.
 fn warn(rt: HostRuntime, asked: &MoveWords) -> Result<(), AllocError> {
     let ticket = str::from_utf8(asked.ticket.bytes()).unwrap_or("");
     let target = asked.target.print();
@@ -40,7 +40,7 @@ fn warn(rt: HostRuntime, asked: &MoveWords) -> Result<(), AllocError> {
     Ok(())
 }
 
-// Whether a follower of the ticket lives here that is to be moved without force, which is said.
+// Returns whether a follower of the ticket lives here and the move is not forced, and prints that.
 fn is_refused(rt: HostRuntime, asked: &MoveWords) -> Result<bool, AllocError> {
     if asked.force || !has_follower(&rt, asked)? {
         return Ok(false);
@@ -49,7 +49,7 @@ fn is_refused(rt: HostRuntime, asked: &MoveWords) -> Result<bool, AllocError> {
     Ok(true)
 }
 
-// Whether the words of `booth` ask for such a move.
+// Returns whether the arguments of `booth` are those of such a move.
 fn moves_beside(rt: HostRuntime, alloc: Global, words: &[String]) -> Result<bool, AllocError> {
     let mut refused = Ok(false);
     if let Ok(Asked::Move(asked)) = &ask(alloc, Program::Booth, words) {
@@ -58,7 +58,7 @@ fn moves_beside(rt: HostRuntime, alloc: Global, words: &[String]) -> Result<bool
     refused
 }
 
-// The host of this program.
+// Returns the host of this program.
 fn client_host(
     rt: HostRuntime,
     alloc: Global,
@@ -71,14 +71,14 @@ fn client_host(
     Ok(HearingHost::new(host))
 }
 
-/// The arguments of a client, and by which transport it asks.
+/// The arguments of a client, and its transport.
 #[derive(Drop)]
 struct Client {
     words: Vec<String>,
     transport: Transport,
 }
 
-// What the arguments and the environment say.
+// Returns the client of these arguments and the environment.
 fn client_of(
     rt: HostRuntime,
     alloc: Global,
@@ -86,25 +86,31 @@ fn client_of(
     words: &[String],
 ) -> Result<Client, Unmade> {
     let parted = part(alloc, words)?;
+    let transport = transport(&rt, parted.transport)?;
+    let words = match program {
+        Program::Booth => with_ticket(rt, alloc, parted.words)?,
+        Program::Geostore | Program::Boothd | Program::BoothFollow => parted.words,
+    };
     Ok(Client {
-        transport: transport(&rt, parted.transport)?,
-        words: with_default_site(rt, alloc, program, parted.words)?,
+        transport,
+        words: with_default_site(rt, alloc, program, words)?,
     })
 }
 
-// Says what is known of why a run ended so, or prints what help has of the environment.
+// Prints the known cause of a run's outcome, or the part of the help about the environment.
 fn end(rt: HostRuntime, alloc: Global, run: Run<'_>, outcome: Outcome, host: &Hearing) -> u8 {
     match outcome {
-        Outcome::NoReply => host.inner().say_silence(),
+        Outcome::NoReply | Outcome::NotRunning => host.inner().say_silence(),
         Outcome::Usage(Some(ErrorKind::DisplayHelp)) => {
             let _ = rt.stdout().write_all(MORE_HELP);
         }
-        outcome => explain(rt, alloc, run, outcome, host.last()),
+        _ => {}
     }
+    explain(rt, alloc, run, outcome, host.last());
     outcome.status()
 }
 
-/// Runs `booth` with these arguments, unless that moves a ticket of which a follower lives here. Returns its status.
+/// Runs `booth` with these arguments, unless they move a ticket with a follower here. Returns its status.
 pub(crate) fn run_booth(rt: HostRuntime, alloc: Global, words: &[String]) -> Result<u8, Unmade> {
     let client = client_of(rt, alloc, Program::Booth, words)?;
     let words = &client.words;

@@ -1,5 +1,5 @@
-//! The program `boothd`: its arguments over the real host and the real links, whose calls a log tells on standard
-//! error, and a journal says if the environment names one.
+//! The program `boothd`: its arguments, over the real host and the real links. A log on standard error has its calls,
+//! and a journal does if the environment names one.
 
 use crate::error_lines::ErrorLines;
 use crate::journal_path::journal_path;
@@ -15,8 +15,8 @@ use booth_real::{JournalFile, RealHost};
 use booth_stream::StreamHost;
 use std::alloc::{AllocError, Global};
 
-// Has a daemon's first reading be one of the clock that its records keep, no write take longer than it may, and no more
-// links be served than there are open files for.
+// Sets up the host: the first reading of a daemon is one of the clock that its records have, no write takes longer
+// than it may, and no more links are served than there are open files for.
 fn prepare(
     rt: HostRuntime,
     alloc: Global,
@@ -31,7 +31,7 @@ fn prepare(
     }
 }
 
-// Runs the words over a host, whose calls the log tells.
+// Runs the arguments over a host, and logs its calls.
 fn serve<H: Host + Drop>(
     rt: HostRuntime,
     alloc: Global,

@@ -16,15 +16,15 @@ use std::env::VarError;
 /// The variable that names the address of this machine's member.
 const ADDRESS: &str = "BOOTH_ADDRESS";
 
-/// What is asked of a daemon that is not named.
+/// A request to a daemon that the arguments do not name.
 #[derive(Drop)]
 struct Question {
-    /// Whether every member answers it, and not a site alone.
+    /// Whether every member answers it, and not only a site.
     of_any: bool,
     conf: PathText,
 }
 
-// The address that the environment names. One that is no UTF-8 is no address.
+// Returns the address in the environment. One that is not UTF-8 is no address.
 fn named(rt: &HostRuntime) -> Result<Option<String>, AllocError> {
     match env::var(rt, ADDRESS) {
         Ok(text) if text.is_empty() => Ok(None),
@@ -35,14 +35,22 @@ fn named(rt: &HostRuntime) -> Result<Option<String>, AllocError> {
     }
 }
 
-// What these arguments ask of a daemon that they do not name.
+// Returns whether every member answers this, and not only a site.
+fn is_of_any(order: &Order) -> bool {
+    matches!(
+        order,
+        Order::List | Order::Show(_, _) | Order::Peers | Order::Status
+    )
+}
+
+// Returns the request of these arguments to a daemon that they do not name.
 fn question_in(alloc: Global, program: Program, words: &[String]) -> Option<Question> {
     let mut question = None;
     match &ask(alloc, program, words) {
         Ok(Asked::Client(asked)) => {
             if asked.site.is_none() {
                 question = Some(Question {
-                    of_any: matches!(asked.order, Order::List | Order::Peers),
+                    of_any: is_of_any(&asked.order),
                     conf: asked.conf.copy(),
                 });
             }
@@ -70,7 +78,7 @@ fn has(config: &Config, address: &Address, of_any: bool) -> bool {
     false
 }
 
-// Says that no such member has the address.
+// Prints that no such member has the address.
 fn refuse(
     rt: HostRuntime,
     program: Program,
@@ -94,8 +102,8 @@ fn refuse(
     say(rt, program, cause.bytes());
 }
 
-// Refuses an address that is none, or that no such member has. If the configuration cannot be read, the command says
-// why.
+// Refuses an address that is invalid or that no such member has. If the configuration cannot be read, the command
+// prints why.
 fn check(rt: HostRuntime, program: Program, text: &str, question: &Question) -> Result<(), Unmade> {
     let Ok(address) = Address::read(text.as_bytes()) else {
         say(rt, program, b"BOOTH_ADDRESS: bad site");
@@ -114,7 +122,7 @@ fn check(rt: HostRuntime, program: Program, text: &str, question: &Question) -> 
     Err(Unmade::Told)
 }
 
-// The arguments with this site behind the command, which follows so many others.
+// Returns the arguments with this site after the command, which follows this many others.
 fn with_site(
     alloc: Global,
     words: &[String],
@@ -130,8 +138,8 @@ fn with_site(
     Ok(all)
 }
 
-/// Returns the arguments of a client with the address of the environment as the daemon to ask, if they ask one and name
-/// none. An address that cannot be meant is refused, which is said.
+/// Returns the arguments of a client with the address in the environment as the daemon to ask, if they need one and
+/// name none. Refuses an address that cannot be meant, and prints that.
 pub(crate) fn with_default_site(
     rt: HostRuntime,
     alloc: Global,

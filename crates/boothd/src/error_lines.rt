@@ -4,17 +4,17 @@ use booth_log::Lines;
 use booth_real::{Priority, Speaker};
 use std::{env, str};
 
-/// The variable of the environment that turns the log off, where it is `off`.
+/// The variable of the environment that turns the log off if it is `off`.
 const SWITCH: &str = "BOOTH_LOG";
 
-/// Standard error as what takes lines. It tells none of them, and loses one that would have to wait for a reader.
+/// Standard error as a sink for log lines. It records no line, and loses one that would have to wait for a reader.
 #[derive(Drop)]
 pub(crate) struct ErrorLines {
     speaker: Speaker,
     is_on: bool,
 }
 
-// How much it matters what the log says of a ticket.
+// Returns the priority of a log text about a ticket.
 fn ticket_priority(text: &str) -> Priority {
     if text.starts_with("fails to ") || text.starts_with("its handler cannot ") {
         Priority::Failure
@@ -27,7 +27,7 @@ fn ticket_priority(text: &str) -> Priority {
     }
 }
 
-// How much it matters what a line of the log says.
+// Returns the priority of a log line.
 fn priority_of(line: &str) -> Priority {
     match line.strip_prefix("boothd: ticket ") {
         // (a ticket's name has no blank)
@@ -46,7 +46,7 @@ fn priority_of(line: &str) -> Priority {
 }
 
 impl ErrorLines {
-    /// Standard error, unless the environment turns the log off.
+    /// Returns standard error, unless the environment turns the log off.
     pub(crate) fn new(rt: HostRuntime) -> ErrorLines {
         let is_on = match env::var(&rt, SWITCH) {
             Ok(value) => value.as_str() != "off",

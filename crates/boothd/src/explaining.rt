@@ -1,11 +1,11 @@
-//! The line behind a refusal that says its cause, as far as it can be known: from the arguments, and from the files
-//! that they name, which are read once more. If there is none, the refusal stands alone.
+//! The line after a refusal with its cause, as far as the cause is known: from the arguments, and from the files that
+//! they name, which are read once more. If no cause is known, the refusal stands alone.
 
 use crate::heard::Heard;
 use booth_base::{Address, MemberId, Name, PathText};
 use booth_causes::{
     Answer, Cause, Refused, Request, bad_argument, bad_configuration, bad_key, members_of,
-    not_followed, refusal, sites_of,
+    not_followed, older_daemon, refusal, sites_of,
 };
 use booth_cli::{Asked, Program, ask};
 use booth_conf::{ConfFault, Config};
@@ -22,18 +22,18 @@ pub(crate) struct Run<'a> {
     pub words: &'a [String],
 }
 
-/// Says a line of this program.
+/// Prints a line of this program.
 pub(crate) fn say(rt: HostRuntime, program: Program, text: &[u8]) {
     Speaker::new(rt, program.name()).say(Priority::Failure, text);
 }
 
-/// The configuration at this path, if it can be read.
+/// Returns the configuration at this path, if it can be read.
 pub(crate) fn config_at(rt: &HostRuntime, alloc: Global, path: &str) -> Option<Config> {
     let text = contents(rt, alloc, path).ok()?;
     Config::parse(alloc, &text).ok()
 }
 
-/// What a run asked for, the path of its configuration, and what was heard in it.
+/// The request of a run, the path of its configuration, and the last answer that it received.
 #[derive(Clone, Copy)]
 struct Scene<'a> {
     rt: &'a HostRuntime,
@@ -43,7 +43,7 @@ struct Scene<'a> {
     heard: Option<Heard>,
 }
 
-// The path of the configuration that was asked for.
+// Returns the path of the requested configuration.
 fn conf_of(asked: &Asked) -> Option<&PathText> {
     match asked {
         Asked::Daemon(asked) => Some(&asked.conf),
@@ -56,7 +56,7 @@ fn conf_of(asked: &Asked) -> Option<&PathText> {
     }
 }
 
-// The member that is asked if no answer came.
+// Returns the member that is asked if no answer came.
 fn first_site(config: &Config) -> Option<Address> {
     for member in config.members() {
         if member.site {
@@ -66,7 +66,7 @@ fn first_site(config: &Config) -> Option<Address> {
     None
 }
 
-// The address of the member with this id.
+// Returns the address of the member with this id.
 fn address_of(config: &Config, id: MemberId) -> Option<Address> {
     let place = config.member(id)?;
     match config.members().get(place) {
@@ -75,7 +75,7 @@ fn address_of(config: &Config, id: MemberId) -> Option<Address> {
     }
 }
 
-// What a member answered, or the address of the one that was asked.
+// Returns what a member answered, or the address of the one that was asked.
 fn answer_of(config: &Config, site: Option<Address>, heard: Option<Heard>) -> Option<Answer> {
     let Some(heard) = heard else {
         let member = site.or(first_site(config))?;
@@ -92,7 +92,7 @@ fn answer_of(config: &Config, site: Option<Address>, heard: Option<Heard>) -> Op
     })
 }
 
-/// What a request was about.
+/// The subject of a request.
 #[derive(Clone, Copy)]
 struct About<'a> {
     request: Request,
@@ -101,10 +101,11 @@ struct About<'a> {
     site: Option<Address>,
 }
 
-// What an order was about, and whom it was given to.
+// Returns the subject of an order, and the member that it went to.
 fn about_order(order: &Order, site: Option<Address>) -> Option<About<'_>> {
     let (request, ticket, attribute) = match order {
-        Order::List | Order::Peers => return None,
+        Order::List | Order::Peers | Order::Status => return None,
+        Order::Show(ticket, _) => (Request::Show, ticket, None),
         Order::Grant(ticket, options) => {
             let immediate = options.immediate;
             (Request::Grant { immediate }, ticket, None)
@@ -123,7 +124,7 @@ fn about_order(order: &Order, site: Option<Address>) -> Option<About<'_>> {
     })
 }
 
-// What was refused: of a move the revoke, or the grant behind it.
+// Returns the request that was refused: for a move the revoke, or the grant after it.
 fn asked_about(asked: &Asked, is_stranded: bool) -> Option<About<'_>> {
     match asked {
         Asked::Client(asked) => about_order(&asked.order, asked.site),
@@ -151,20 +152,20 @@ impl<'a> Scene<'a> {
         config_at(self.rt, self.alloc, self.path)
     }
 
-    // The cause of a configuration's fault.
+    // Returns the cause of a configuration's fault.
     fn of_configuration(&self, fault: ConfFault) -> Option<Cause> {
         let text = contents(self.rt, self.alloc, self.path).ok()?;
         bad_configuration(&text, fault)
     }
 
-    // Why the file at this path has no key.
+    // Returns why the file at this path has no key.
     fn of_key(&self, path: Option<&PathText>) -> Option<Cause> {
         let path = path?.as_str();
         let bytes = contents(self.rt, self.alloc, path).ok()?;
         bad_key(path, &bytes)
     }
 
-    // Why the first of the key files that has no key has none.
+    // Returns why the first key file without a key has none.
     fn of_keys(&self) -> Option<Cause> {
         let config = self.config()?;
         match self.of_key(config.authfile()) {
@@ -173,19 +174,19 @@ impl<'a> Scene<'a> {
         }
     }
 
-    // The members that there are.
+    // Returns the members of the configuration.
     fn of_member(&self) -> Option<Cause> {
         let config = self.config()?;
         Some(members_of(self.path, &config))
     }
 
-    // The sites that there are.
+    // Returns the sites of the configuration.
     fn of_site(&self) -> Option<Cause> {
         let config = self.config()?;
         Some(sites_of(self.path, &config))
     }
 
-    // Why a ticket is not followed.
+    // Returns why a ticket is not followed.
     fn of_following(&self, fault: FollowFault) -> Option<Cause> {
         let config = self.config()?;
         match self.asked {
@@ -195,7 +196,7 @@ impl<'a> Scene<'a> {
         }
     }
 
-    // Why a member refused with this result: of a move the revoke, or the grant behind it.
+    // Returns why a member refused with this result: for a move the revoke, or the grant after it.
     fn of_refusal(&self, code: u32, is_stranded: bool) -> Option<Cause> {
         let about = asked_about(self.asked, is_stranded)?;
         let config = self.config()?;
@@ -210,7 +211,22 @@ impl<'a> Scene<'a> {
         refusal(&refused, code)
     }
 
-    // The cause of an outcome.
+    // Returns why a member may not have answered.
+    fn of_silence(&self) -> Option<Cause> {
+        match self.asked {
+            Asked::Client(asked) if matches!(asked.order, Order::Show(_, _)) => {
+                let site = match asked.site {
+                    Some(site) => site,
+                    None => first_site(&self.config()?)?,
+                };
+                Some(older_daemon(&site))
+            }
+            Asked::Client(_) | Asked::Move(_) | Asked::Follow(_) => None,
+            Asked::Daemon(_) | Asked::Status(_) | Asked::Simulation(_) | Asked::Audit(_) => None,
+        }
+    }
+
+    // Returns the cause of an outcome.
     fn of_outcome(&self, outcome: Outcome) -> Option<Cause> {
         match outcome {
             Outcome::ConfBad(fault) => self.of_configuration(fault),
@@ -221,7 +237,8 @@ impl<'a> Scene<'a> {
             Outcome::Refused(code) => self.of_refusal(code, false),
             Outcome::Stranded(code) => self.of_refusal(code, true),
             Outcome::Done | Outcome::Report | Outcome::NotRunning | Outcome::Running => None,
-            Outcome::NoReply | Outcome::SendFault | Outcome::Usage(_) | Outcome::BadWord(_) => None,
+            Outcome::NoReply => self.of_silence(),
+            Outcome::SendFault | Outcome::Usage(_) | Outcome::BadWord(_) => None,
             Outcome::ConfUnread | Outcome::KeyUnread | Outcome::JournalUnread => None,
             Outcome::AuditBad(_) | Outcome::LockFault | Outcome::OpenFault => None,
             Outcome::RecordUnread | Outcome::TurnsSpent => None,
@@ -230,7 +247,7 @@ impl<'a> Scene<'a> {
     }
 }
 
-// The cause of a run's outcome.
+// Returns the cause of a run's outcome.
 fn cause_of(
     rt: &HostRuntime,
     alloc: Global,
@@ -257,7 +274,7 @@ fn cause_of(
     cause
 }
 
-/// Says the cause of a run's outcome, if it is a refusal whose cause is known.
+/// Prints the cause of a run's outcome, if it is a refusal with a known cause.
 pub(crate) fn explain(
     rt: HostRuntime,
     alloc: Global,

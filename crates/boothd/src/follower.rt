@@ -1,4 +1,4 @@
-//! The program `booth-follow`: its arguments over the real host, and what it says of its turns.
+//! The program `booth-follow`: its arguments over the real host, and the lines about its turns.
 
 use crate::watcher::Watcher;
 use booth_cli::{Asked, Program, ask};
@@ -10,13 +10,13 @@ use std::alloc::{AllocError, Global};
 use std::env::Env;
 use std::{fs, str};
 
-/// The word with which a program runs beside the other ones of its ticket.
+/// The word of a program that runs at the same time as others of its ticket.
 const BESIDE: &str = "renew";
 
-/// The variable that names the file of the end until which an earlier follower left the service running.
+/// The variable that names the file with the end until which an earlier follower left the service running.
 const END_FILE: &str = "BOOTH_FOLLOW_END";
 
-// Has each reading be one of the clock that the daemon of this site keeps: an end that its list tells is one of that.
+// Has each reading be one of the clock of this site's daemon: an end from the daemon is a time of that clock.
 fn shares_clock(alloc: Global, words: &[String], host: &mut RealHost) -> bool {
     let mut is_shared = true;
     if let Ok(Asked::Follow(asked)) = &ask(alloc, Program::BoothFollow, words) {
@@ -25,7 +25,7 @@ fn shares_clock(alloc: Global, words: &[String], host: &mut RealHost) -> bool {
     is_shared
 }
 
-// The end in milliseconds that a text tells in whole seconds, before a line feed.
+// Returns the end in milliseconds for a text with whole seconds before a line feed.
 fn end_in(text: &[u8]) -> Option<u64> {
     let Ok(text) = str::from_utf8(text) else {
         return None;
@@ -34,7 +34,7 @@ fn end_in(text: &[u8]) -> Option<u64> {
     seconds.checked_mul(1000)
 }
 
-// The end until which an earlier follower left the service running, if a file tells one.
+// Returns the end until which an earlier follower left the service running, if a file has one.
 fn left_end(rt: &HostRuntime, alloc: Global, host: &mut RealHost) -> Option<u64> {
     let mut room = [0u8; 256];
     let Ok(count) = rt.var(END_FILE, &mut room) else {
@@ -43,7 +43,7 @@ fn left_end(rt: &HostRuntime, alloc: Global, host: &mut RealHost) -> Option<u64>
     let Ok(path) = str::from_utf8(&room[..count]) else {
         return None;
     };
-    // (the host says of each file why it is not read, and it is no fault that there is none)
+    // (the host prints for each file why it is not read, and a missing file is no fault)
     if fs::metadata(rt, path).is_err() {
         return None;
     }
@@ -53,7 +53,7 @@ fn left_end(rt: &HostRuntime, alloc: Global, host: &mut RealHost) -> Option<u64>
     }
 }
 
-/// Runs `booth-follow` with these arguments, of which the first is its name, and returns how that ended.
+/// Runs `booth-follow` with these arguments, the first of which is its name, and returns how that ended.
 pub(crate) fn run_follower(
     rt: HostRuntime,
     alloc: Global,

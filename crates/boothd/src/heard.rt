@@ -1,4 +1,4 @@
-//! The host of a client that remembers what it heard last: the member, and the holder that its answer names.
+//! The host of a client that remembers the last answer: its member, and the holder that it names.
 ghost use Rattle.std.specs.Prelude.{None};
 
 use booth_base::{Address, ByteText, MemberId, NO_ONE, Name, Peer};
@@ -7,26 +7,26 @@ use booth_rec::Record;
 use booth_wire::{Body, decode};
 use std::alloc::Global;
 
-/// What was heard last.
+/// The last answer.
 #[derive(Clone, Copy)]
 pub(crate) struct Heard {
     pub member: Address,
-    /// The holder that is named, or `NO_ONE`.
+    /// The holder in it, or `NO_ONE`.
     pub holder: MemberId,
-    /// How many seconds the holder's lease runs still.
+    /// How many seconds of the holder's lease are left.
     pub seconds: u32,
 }
 
-/// A host that remembers what it heard last. It tells nothing of its calls.
+/// A host that remembers the last answer. It does not record its calls.
 ///
-/// A client ends with the first datagram that it accepts, so that is the last one of its run.
+/// A client ends with the first datagram that it accepts, so that one is the last of its run.
 #[derive(Drop)]
 pub(crate) struct HearingHost<H> {
     host: H,
     last: Option<Heard>,
 }
 
-// What a datagram of this member says.
+// Returns the content of a datagram from this member.
 fn heard_of(member: &Peer, bytes: &[u8]) -> Heard {
     let mut holder = NO_ONE;
     let mut seconds = 0;
@@ -44,17 +44,17 @@ fn heard_of(member: &Peer, bytes: &[u8]) -> Heard {
 }
 
 impl<H: Host> HearingHost<H> {
-    /// This host, which has heard nothing.
+    /// Returns this host, before any answer.
     pub(crate) fn new(host: H) -> HearingHost<H> {
         HearingHost { host, last: None }
     }
 
-    /// What was heard last.
+    /// Returns the last answer.
     pub(crate) fn last(&self) -> Option<Heard> {
         self.last
     }
 
-    /// The host inside.
+    /// Returns the host inside.
     pub(crate) fn inner(&self) -> &H {
         &self.host
     }

@@ -1,4 +1,4 @@
-//! Where the journal goes.
+//! The file of the journal.
 
 use std::alloc::AllocError;
 use std::env;
@@ -7,7 +7,8 @@ use std::env::VarError;
 /// The variable of the environment that names the journal's file.
 const JOURNAL: &str = "BOOTH_JOURNAL";
 
-/// The path of the journal, or none where the environment names no file. A name that is no UTF-8 is none that opens.
+/// Returns the path of the journal, or none if the environment names no file. A name that is not UTF-8 cannot be
+/// opened.
 pub(crate) fn journal_path(rt: &HostRuntime) -> Result<Option<String>, AllocError> {
     match env::var(rt, JOURNAL) {
         Ok(path) if path.is_empty() => Ok(None),

@@ -1,11 +1,11 @@
-//! How many links over TCP the limit on open files leaves room for.
+//! How many links over TCP fit into the limit on open files.
 
 use booth_links::RealLinks;
 use booth_real::{Priority, Speaker, files_for_links};
 use booth_stream::LINKS;
 use std::alloc::Global;
 
-// Says for how many links there is room.
+// Prints how many links fit.
 fn tell(rt: HostRuntime, alloc: Global, count: usize) {
     let words = "the limit on open files (RLIMIT_NOFILE) leaves room for";
     let text = format!(in alloc; "{words} {count} links over TCP, and not for {LINKS}");
@@ -14,8 +14,8 @@ fn tell(rt: HostRuntime, alloc: Global, count: usize) {
     }
 }
 
-/// Has no more links be served, and no more peers wait for one, than this process may have open files for, and says so
-/// where fewer links are served.
+/// Limits the links that are served and the peers that wait for one to the open files of this process, and prints it
+/// if fewer links are served.
 pub(crate) fn limit_links(rt: HostRuntime, alloc: Global, links: &mut RealLinks) {
     let files = usize::try_from(files_for_links()).unwrap_or(usize::MAX);
     let count = links.serve_within(files);

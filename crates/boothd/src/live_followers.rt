@@ -1,4 +1,4 @@
-//! Whether a follower of a ticket lives on this machine: its files and its process say so.
+//! Whether a follower of a ticket lives on this machine, by its files and its process.
 
 ghost use Rattle.std.specs.Prelude.{◌≤◌, length, IfOk};
 
@@ -15,7 +15,7 @@ const FOLDER: &str = "/run/booth-follow";
 /// The variable of the environment that names another folder, for tests.
 const FOLDER_VARIABLE: &str = "BOOTH_FOLLOW_RUN";
 
-/// The most bytes of a command line that are looked at. The longest one of a follower has fewer.
+/// The most bytes of a command line that are read. The longest one of a follower has fewer.
 const LINE_BYTES: usize = 4_096;
 
 fn folder(rt: &HostRuntime) -> Result<String, AllocError> {
@@ -39,8 +39,8 @@ fn is_there(
     Ok(fs::exists(rt, path.as_str()).unwrap_or(false))
 }
 
-// Whether a service follows the ticket here, and is not paused. No file has the name of a ticket with a slash, or with
-// a point in front.
+// Returns whether a service follows the ticket here and is not paused. No file has the name of a ticket with a slash,
+// or with a dot in front.
 fn is_followed(rt: &HostRuntime, ticket: &str) -> Result<bool, AllocError> {
     if ticket.starts_with('.') || ticket.contains('/') {
         return Ok(false);
@@ -50,7 +50,7 @@ fn is_followed(rt: &HostRuntime, ticket: &str) -> Result<bool, AllocError> {
     Ok(is_there(rt, folder, ticket, "state")? && !is_there(rt, folder, ticket, "paused")?)
 }
 
-// The arguments of a command line as the system tells them. Those that are no UTF-8 are none that are taken.
+// Returns the arguments of a command line as the system has them. An argument that is not UTF-8 matches none.
 fn words_in(alloc: Global, line: &[u8]) -> Result<Vec<String>, AllocError> {
     let mut words = Vec::new(alloc);
     let Ok(line) = str::from_utf8(line) else {
@@ -66,7 +66,7 @@ fn is_booth_follow(name: &str) -> bool {
     name == "booth-follow" || name.ends_with("/booth-follow")
 }
 
-// Whether this command line is that of a follower of the ticket, in the same configuration.
+// Returns whether this command line is that of a follower of the ticket, with the same configuration.
 fn follows(alloc: Global, line: &[u8], asked: &MoveWords) -> Result<bool, AllocError> {
     let words = words_in(alloc, line)?;
     let [name, ..] = words.as_slice() else {
@@ -83,7 +83,7 @@ fn follows(alloc: Global, line: &[u8], asked: &MoveWords) -> Result<bool, AllocE
     Ok(is_same)
 }
 
-// Reads the command line of the process whose folder has this name. A process that ends has none.
+// Reads the command line of the process with this folder. A process that ends has none.
 fn read_line(rt: &HostRuntime, process: &str, line: &mut [u8]) -> Result<usize, AllocError>
     ensures { IfOk result (λ count. count ≤ length line.new) }
 {
@@ -97,8 +97,8 @@ fn read_line(rt: &HostRuntime, process: &str, line: &mut [u8]) -> Result<usize, 
     }
 }
 
-/// Returns whether a follower of the ticket that is to be moved lives on this machine, as far as this user sees its
-/// processes. A paused one, or one that is stopped, is none.
+/// Returns whether a follower of the ticket to move lives on this machine, as far as this user sees its processes. A
+/// follower that is paused or stopped does not count.
 pub(crate) fn has_follower(rt: &HostRuntime, asked: &MoveWords) -> Result<bool, AllocError> {
     let Ok(ticket) = str::from_utf8(asked.ticket.bytes()) else {
         return Ok(false);

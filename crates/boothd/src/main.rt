@@ -13,6 +13,7 @@ mod heard;
 mod journal_path;
 mod link_limit;
 mod live_followers;
+mod ticket_option;
 mod transport;
 mod unmade;
 mod watcher;
@@ -32,7 +33,7 @@ use std::env;
 use std::io::ErrorKind;
 use std::process::ExitCode;
 
-// The name of a file, whatever its directory is.
+// Returns the name of a file without its directory.
 fn file_name(path: &str) -> &str {
     match path.rsplit_once('/') {
         Some((_, name)) => name,
@@ -40,7 +41,7 @@ fn file_name(path: &str) -> &str {
     }
 }
 
-// The program that a file is run as.
+// Returns the program that a file is run as.
 fn program_of(path: &str) -> Program {
     match file_name(path) {
         "booth" => Program::Booth,
@@ -50,8 +51,8 @@ fn program_of(path: &str) -> Program {
     }
 }
 
-// All arguments, of which the first is the name that the file is run by. Those that are no UTF-8 are none that are
-// taken.
+// Returns all arguments, the first of which is the name of the file. An argument that is not UTF-8 is accepted as
+// none that any command has.
 fn words(rt: &HostRuntime, alloc: Global) -> Result<Vec<String>, AllocError> {
     match env::args(rt) {
         Ok(args) => args.collect(alloc),
@@ -60,7 +61,7 @@ fn words(rt: &HostRuntime, alloc: Global) -> Result<Vec<String>, AllocError> {
     }
 }
 
-// Says why a run ended so, as far as that is known, and returns its status.
+// Prints why a run ended like this, as far as that is known, and returns its status.
 fn end(rt: HostRuntime, alloc: Global, run: Run<'_>, outcome: Outcome) -> u8 {
     explain(rt, alloc, run, outcome, None);
     outcome.status()
@@ -84,7 +85,7 @@ fn run(rt: HostRuntime, alloc: Global, program: Program, words: &[String]) -> Re
     }
 }
 
-// Says why a program did not run, unless a line said it.
+// Prints why a program did not run, unless a line said it before.
 fn tell(rt: HostRuntime, program: Program, why: Unmade) -> u8 {
     if let Some(text) = why.text() {
         Speaker::new(rt, program.name()).say(Priority::Failure, text);

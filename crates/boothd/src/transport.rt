@@ -1,4 +1,4 @@
-//! By which transport a client asks: what its arguments say, or else its environment.
+//! The transport of a client's requests: from its arguments, or else from its environment.
 
 use crate::unmade::Unmade;
 use crate::word_lists::push_word;
@@ -10,7 +10,7 @@ use std::env::VarError;
 /// The variable that names the transport of requests.
 const TRANSPORT: &str = "BOOTH_TRANSPORT";
 
-// Which transport the environment names.
+// Returns the transport in the environment.
 fn transport_named(rt: &HostRuntime) -> Result<Transport, Unmade> {
     match env::var(rt, TRANSPORT) {
         Ok(name) => Transport::named(name.as_str()).ok_or(Unmade::UnknownTransport),
@@ -20,7 +20,7 @@ fn transport_named(rt: &HostRuntime) -> Result<Transport, Unmade> {
     }
 }
 
-// Which transport an argument names.
+// Returns the transport in an argument.
 fn option_in(word: &str) -> Option<Transport> {
     if word == "--tcp" {
         return Some(Transport::Tcp);
@@ -31,7 +31,7 @@ fn option_in(word: &str) -> Option<Transport> {
     None
 }
 
-/// The arguments of a client without those that name a transport, and the transport that they name.
+/// The arguments of a client without those for the transport, and the transport that they name.
 #[derive(Drop)]
 pub(crate) struct Parted {
     pub words: Vec<String>,
@@ -61,7 +61,7 @@ pub(crate) fn part(alloc: Global, words: &[String]) -> Result<Parted, Unmade> {
     })
 }
 
-/// Returns the transport that the arguments named, or else the one of the environment.
+/// Returns the transport in the arguments, or else the one in the environment.
 pub(crate) fn transport(rt: &HostRuntime, named: Option<Transport>) -> Result<Transport, Unmade> {
     match named {
         Some(transport) => Ok(transport),

@@ -6,16 +6,16 @@ use std::alloc::AllocError;
 #[derive(Clone, Copy)]
 pub(crate) enum Unmade {
     OutOfMemory,
-    /// The environment names a transport that there is not.
+    /// The environment names an unknown transport.
     UnknownTransport,
     /// The arguments name both transports.
     BothTransports,
-    /// A line said why.
+    /// A line said why before.
     Told,
 }
 
 impl Unmade {
-    /// What is said of it, behind the program's name, if no line said it.
+    /// Returns the text for it, without the program's name, if no line said it before.
     pub(crate) fn text(self) -> Option<&'static [u8]> {
         match self {
             Unmade::OutOfMemory => Some(b"out of memory"),

@@ -1,45 +1,45 @@
-//! What a follower says of its turns: a line for each decision, and what the service manager is told.
+//! The reports of a follower about its turns: a line for each decision, and the status for the service manager.
 
 use crate::follower_texts::{Text, put, put_seconds, put_status, put_time, put_times};
 use booth_follow_rule::{FollowDeed, News, RunEnd, Shown, Stage, Word};
 use booth_following::{Seen, Watch};
 use booth_real::{Notifier, Priority, Speaker};
 
-/// How long a daemon tells no list before a line says so, in milliseconds.
+/// How long a daemon may be silent before a line says so, in milliseconds.
 const SILENT_MS: u64 = 5_000;
 
-/// How often the service manager is told of an end that moved, in milliseconds.
+/// How often the service manager gets an end that moved, in milliseconds.
 const STATUS_MS: u64 = 1_000;
 
-/// What is known of the daemon's lists.
+/// What is known about the daemon's answers.
 #[derive(Clone, Copy)]
 enum Daemon {
-    /// It told none since this reading, at which the follower began.
+    /// There was none since this reading, at which the follower started.
     Unheard { since: u64 },
-    /// It told the last one at this reading.
+    /// The last one came at this reading.
     Heard { at: u64 },
-    /// It was silent for so long that a line said so; it told the last list at this reading.
+    /// The daemon was silent for so long that a line said so; the last answer came at this reading.
     Silent { since: u64 },
 }
 
-/// Says a line for each decision, and tells the service manager.
+/// Prints a line for each decision, and reports to the service manager.
 #[derive(Drop)]
 pub(crate) struct Watcher {
     speaker: Speaker,
     notifier: Notifier,
     daemon: Option<Daemon>,
-    /// Whether a line said that the keys were read again, since the last list.
+    /// Whether a line said that the keys were read again, since the last answer.
     keys_told: bool,
-    /// What the program was run for last, but for renewals.
+    /// The last word for which the program was run, except renewals.
     word: Option<Word>,
     /// How many runs for that word, and how many renewals, failed in a row.
     failed: u64,
     failed_renewals: u64,
-    /// The reading at which the service manager was told last, and what it was told is done.
+    /// The reading of the last report to the service manager, and the action in it.
     told: Option<(u64, &'static str)>,
 }
 
-// The word as it is run.
+// Returns the word as the program gets it.
 fn text_of(word: Word) -> &'static str {
     match word {
         Word::Check => "check",
@@ -50,7 +50,7 @@ fn text_of(word: Word) -> &'static str {
     }
 }
 
-// What a service does at a stage.
+// Returns what a service does at a stage.
 fn doing(seen: &Seen) -> &'static str {
     match seen.after.stage {
         Stage::Opening => "begins",
@@ -62,7 +62,7 @@ fn doing(seen: &Seen) -> &'static str {
     }
 }
 
-// Whether a run of this number ended, and how.
+// Returns how a run with this number ended, if it did.
 fn end_in(seen: &Seen, number: u64) -> Option<RunEnd> {
     match seen.heard {
         News::End { run, how } => { if run == number { Some(how) } else { None } }
@@ -88,7 +88,7 @@ impl Watcher {
         self.speaker.say(priority, text.as_bytes());
     }
 
-    // The times, and that the beginning is over.
+    // Prints the times, and reports that the start is over.
     fn begin(&mut self, seen: &Seen) {
         let mut text = Text::new();
         put(&mut text, "the service is stopped ");
@@ -102,7 +102,7 @@ impl Watcher {
         });
     }
 
-    // A list, or that none comes.
+    // Reports an answer, or that none comes.
     fn hear(&mut self, seen: &Seen) {
         let is_list = matches!(seen.heard, News::List(_));
         if is_list {
@@ -149,7 +149,7 @@ impl Watcher {
         self.say(Priority::Warning, &text);
     }
 
-    // How the runs ended that did.
+    // Reports how runs ended.
     fn end(&mut self, seen: &Seen) {
         if let Some(renewal) = seen.before.renewal {
             match end_in(seen, renewal.run) {
@@ -190,7 +190,7 @@ impl Watcher {
         self.say(Priority::Notice, &text);
     }
 
-    // That a run failed, and how often in a row.
+    // Prints that a run failed, and how often in a row.
     fn say_failed(&mut self, seen: &Seen, word: &str, times: u64) {
         let mut text = Text::new();
         put(&mut text, "the run for ");
@@ -205,7 +205,7 @@ impl Watcher {
         self.say(Priority::Failure, &text);
     }
 
-    // Why a service is ended.
+    // Appends why a service is ended.
     fn put_reason(&self, seen: &Seen, text: &mut Text) {
         if seen.before.asked || matches!(seen.heard, News::Stop) {
             put(text, "that was asked for");
@@ -231,7 +231,7 @@ impl Watcher {
         }
     }
 
-    // What is run, and why.
+    // Prints what is run, and why.
     fn run(&mut self, seen: &Seen, word: Word, until: u64) {
         let mut text = Text::new();
         match word {

@@ -1,22 +1,22 @@
-//! How long a write of a record may take, by the environment or by the times of the tickets.
+//! How long a write of a record may take, from the environment or from the times of the tickets.
 
 use booth_conf::{Config, TicketConf};
 use booth_real::{Priority, Speaker, contents};
 use std::alloc::Global;
 use std::env;
 
-/// The variable of the environment that names a limit in milliseconds; 0 for none.
+/// The variable of the environment with a limit in milliseconds; 0 for none.
 const LIMIT: &str = "BOOTH_WRITE_LIMIT";
 
 /// How many writes follow one another in a renewal: the holder's own promise, those of the others, and the lease.
 const WRITES: u64 = 3;
 
-// A third of the time between the renewal of a lease and its end.
+// Returns a third of the time between the renewal of a lease and its end.
 fn limit_of(ticket: &TicketConf) -> u64 {
     ticket.times.expire.saturating_sub(ticket.times.renewal) / WRITES
 }
 
-// The shortest limit of automatic tickets. A write holds up all tickets of a daemon.
+// Returns the shortest limit of automatic tickets. A write delays all tickets of a daemon.
 fn shortest_limit(config: &Config) -> Option<u64> {
     let mut shortest = None;
     for ticket in config.tickets() {
@@ -28,14 +28,14 @@ fn shortest_limit(config: &Config) -> Option<u64> {
     shortest
 }
 
-// The limit of this configuration, where one can be read. Where it cannot, the daemon says why when it reads it.
+// Returns the limit of this configuration, if it can be read. If it cannot, the daemon prints why when it reads it.
 fn limit_in(rt: &HostRuntime, alloc: Global, conf: &str) -> Option<u64> {
     let text = contents(rt, alloc, conf).ok()?;
     shortest_limit(&Config::parse(alloc, &text).ok()?)
 }
 
-/// How many milliseconds a write of a record may take in a daemon of this configuration, where that is limited. The
-/// environment overrides the times of its tickets.
+/// Returns how many milliseconds a write of a record may take in a daemon with this configuration, if there is a
+/// limit. The environment overrides the times of its tickets.
 pub(crate) fn write_limit(rt: &HostRuntime, alloc: Global, conf: &str) -> Option<u64> {
     let Ok(named) = env::var(rt, LIMIT) else {
         return limit_in(rt, alloc, conf);

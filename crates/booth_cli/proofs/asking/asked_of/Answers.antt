@@ -9,6 +9,14 @@ returns-in-List c = asks_client c.args.verb verbs.List c.args.read _ _ c.in-List
 pub returns-in-Peers : goal.returns-in-Peers
 returns-in-Peers c = asks_client c.args.verb verbs.Peers c.args.read _ _ c.in-Peers.is tt c.client_of-in-Peers.ensures
 
+pub returns-in-Show : goal.returns-in-Show
+returns-in-Show c =
+    asks_client c.args.verb verbs.Show c.args.read _ _ c.in-Show.is c.show.ensures c.client_of-in-Show.ensures
+
+pub returns-in-DaemonStatus : goal.returns-in-DaemonStatus
+returns-in-DaemonStatus c =
+    asks_client c.args.verb verbs.DaemonStatus c.args.read _ _ c.in-DaemonStatus.is tt c.client_of-in-DaemonStatus.ensures
+
 pub returns-in-Grant : goal.returns-in-Grant
 returns-in-Grant c =
     asks_client c.args.verb verbs.Grant c.args.read _ _ c.in-Grant.is
