@@ -84,7 +84,9 @@ def stops_in_time(services, site, until, margin=MARGIN):
 def key_and_a_holder_that_is_killed(cluster, services):
     """a holder's daemon that is killed"""
     one, two = begun(cluster, services)
-    passed("a service is started where its ticket is held, and nowhere else; each list is signed")
+    passed("a service is started where its ticket is held, and nowhere else; each answer is signed")
+    first = one.record().term
+    require(services.started_with(one) == first, f"term {first} is started with {services.started_with(one)}")
     one.kill()
     killed, until = now(), one.record().until
     left = stops_in_time(services, one, until)
@@ -92,6 +94,9 @@ def key_and_a_holder_that_is_killed(cluster, services):
     require(services.await_up(two, until - now() + PATIENCE), "the other site's service does not start")
     died, ended = now() - killed, now() - until
     passed(f"the other site's service is up {died:.2f} s after the holder's death, {ended:.2f} s after the lease's end")
+    term = services.started_with(two)
+    require(first < term == two.record().term, f"after term {first} term {two.record().term} is started with {term}")
+    passed(f"each program is handed the term of its site's lease: {first}, and then {term}")
     one.start(cluster.program, cluster.conf)
     time.sleep(2)
     require(not services.is_up(one), "it is started where the ticket is not held any more")

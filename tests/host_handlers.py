@@ -8,6 +8,15 @@ from typing import Callable, Iterator, Tuple
 from real_host import Host, Wrong, require
 
 CONF = "/etc/booth/cluster-a.conf"
+# the words of a job's program, and the arguments and the term that it then has beside others of its ticket
+TERMS = [
+    ("a renew 5 term=7", "a renew 5 7"),
+    ("start term=4294967295", "start 4294967295"),
+    ("term=3 start", "term=3 start 0"),
+    ("start term=", "start term= 0"),
+    ("start term=7x", "start term=7x 0"),
+    ("start", "start 0"),
+]
 # a program that notes its process under its arguments, and runs on
 RUNS_ON = 'echo $$ >"new" && mv new "$*.pid"; exec sleep 30'
 
@@ -169,6 +178,18 @@ def a_program_of_a_word_runs_beside_another(folder: str) -> None:
         require(host.start(6, "/bin/false") and over(host) == (6, 1) and ends(stop), "the other kind too")
 
 
+def a_program_beside_others_has_the_term_of_its_lease(folder: str) -> None:
+    """A last word with a term is no argument then, and without `run_beside` it is one."""
+    write_script(f"{folder}/program", 'echo "$* ${BOOTH_TICKET_TERM-none}" >said')
+    with opened(folder) as host:
+        require(host.start(1, "./program start term=7") and over(host) == (1, 0), "a handler")
+        require(content(f"{folder}/said") == "start term=7 none\n", f"a handler said {content(f'{folder}/said')}")
+        host.run_beside()
+        for number, (words, said) in enumerate(TERMS, 2):
+            require(host.start(number, f"./program {words}") and over(host) == (number, 0), words)
+            require(content(f"{folder}/said") == f"{said}\n", f"{words}: {content(f'{folder}/said')}")
+
+
 def without_such_a_word_each_ends_the_one_before(folder: str) -> None:
     """As a daemon's handlers do."""
     write_script(f"{folder}/program", RUNS_ON)
@@ -218,6 +239,7 @@ CHECKS: Tuple[Callable[[str], None], ...] = (
     a_program_knows_what_it_is_run_for,
     a_program_knows_how_long_its_lease_runs,
     a_program_of_a_word_runs_beside_another,
+    a_program_beside_others_has_the_term_of_its_lease,
     without_such_a_word_each_ends_the_one_before,
     a_program_is_not_waited_for,
     what_cannot_be_run_is_a_failure,

@@ -57,7 +57,12 @@ def units_are_checked_stopped_and_killed(room: Room) -> None:
     room.put("systemctl.fails")
     same(room.call("follow-unit", unit, "check").status, 1, "where systemd does not answer")
     room.drop("systemctl.fails")
-    same(room.call("follow-unit", unit, "start").status, 0, "a start")
+    lease = {"BOOTH_TICKET": TICKET, "BOOTH_TICKET_TERM": "7", "BOOTH_TICKET_EXPIRES": "90"}
+    same(room.call("follow-unit", unit, "start", **lease).status, 0, "a start")
+    told = "BOOTH_TICKET_TERM=7\nBOOTH_TICKET_EXPIRES=90\n"
+    same(room.text(f"run/{TICKET}.lease"), told, "what the unit may know of the lease")
+    done = room.call("follow-unit", unit, "start", **{**lease, "BOOTH_FOLLOW_RUN": "/dev/null"})
+    need(done.status == 1 and "is not started" in done.printed, f"a lease that cannot be written: {done}")
     same(room.call("follow-unit", unit, "stop").status, 0, "a stop")
     room.put("stop.fails")
     same(room.call("follow-unit", unit, "stop").status, 1, "a stop that fails")

@@ -13,13 +13,16 @@ from typing import NamedTuple
 from members import TICKET, wait_for
 from serving import written
 
-# A service: a line with its time, its site and its process, ten times a second, into a file of all sites. What is to go
-# wrong with it a file says: how long a stop takes, or that it never ends, or that no end can be armed, or that the next
-# one cannot. The end that is armed stands in a file until the service is over.
+# What a service does if nothing else is given: a line with its time, its site ($0) and its process, ten times a second,
+# into a file of all sites.
+WORK = 'while :; do echo "$(date +%s.%N) $0 $$"; sleep 0.1; done'
+# A service that does this work. What is to go wrong with it a file says: how long a stop takes, or that it never ends,
+# or that no end can be armed, or that the next one cannot. The end that is armed stands in a file until the service is
+# over.
 SERVICE = """#!/bin/sh
 cd {folder} || exit 1
 site=$BOOTH_LOCAL
-echo "$1 $BOOTH_TICKET $BOOTH_TICKET_EXPIRES" >>"runs.$site"
+echo "$1 $BOOTH_TICKET $BOOTH_TICKET_EXPIRES ${{BOOTH_TICKET_TERM:-0}}" >>"runs.$site"
 # (a process that is over and that nobody has waited for has no words; a stop and a kill may run at one time, so the
 # file may be gone)
 runs() {{ pid=$(cat "pid.$site" 2>/dev/null) && grep -q . "/proc/$pid/cmdline" 2>/dev/null; }}
@@ -33,7 +36,7 @@ case $1 in
   start)
     [ ! -e "fails.$site" ] || exit 1
     runs && exit 0
-    setsid sh -c 'echo $$ >"pid.$0"; while :; do echo "$(date +%s.%N) $0 $$"; sleep 0.1; done' "$site" \\
+    setsid sh -c 'echo $$ >"pid.$0"; {work}' "$site" \\
       </dev/null >>lines 2>&1 &
     n=0; while ! runs; do n=$((n + 1)); [ $n -lt 100 ] || exit 1; sleep 0.02; done
     ;;
@@ -59,7 +62,7 @@ class Spell(NamedTuple):
 class Services:
     """The services of a ticket at a cluster's sites, and what starts and stops them. All end with the `with` block."""
 
-    def __init__(self, program, cluster, options=(), ticket=TICKET):
+    def __init__(self, program, cluster, options=(), ticket=TICKET, work=WORK):
         self.ticket = ticket.decode()
         self.program = program
         self.cluster = cluster
@@ -68,7 +71,7 @@ class Services:
         os.makedirs(self.folder)
         self.script = os.path.join(self.folder, "service")
         with open(self.script, "w", encoding="ascii") as file:
-            file.write(SERVICE.format(folder=self.folder))
+            file.write(SERVICE.format(folder=self.folder, work=work))
         os.chmod(self.script, 0o755)
         self.followers = {}
         self.printed = tempfile.TemporaryFile()
@@ -104,14 +107,22 @@ class Services:
         told = {"BOOTH_LOCAL": member.address, "BOOTH_TICKET": self.ticket, "BOOTH_TICKET_EXPIRES": "0"}
         return subprocess.run([self.script, word], env={**os.environ, **told}, stdin=subprocess.DEVNULL).returncode
 
-    def runs(self, member):
-        """The words that the program was run with at a site, in order, and the end that each was told."""
+    def run_lines(self, member):
+        """The lines that the program has written at a site: its word, the ticket, the end and the term."""
         try:
             with open(self.path("runs", member), encoding="ascii") as file:
-                runs = [line.split() for line in file]
+                return [line.split() for line in file]
         except OSError:
-            runs = []
-        return [(word, int(expires)) for word, _, expires in runs]
+            return []
+
+    def runs(self, member):
+        """The words that the program was run with at a site, in order, and the end that each was told."""
+        return [(word, int(expires)) for word, _, expires, _ in self.run_lines(member)]
+
+    def started_with(self, member):
+        """The term that the last start at a site was handed, or None if there is none."""
+        terms = [int(term) for word, _, _, term in self.run_lines(member) if word == "start"]
+        return terms[-1] if terms else None
 
     def words(self, member):
         """The words that the program was run with at a site but for renewals, in order."""

@@ -1,4 +1,4 @@
--- What a run ends with where the outside does not fail.
+-- The outcomes of a run in which the environment does not fail.
 use Rattle.std.specs.Prelude.{◌≡◌, ◌++◌, Contains, ℕ, List, [], ◌∷◌, Option, Result, Ok, Err, Bool, true, false, T}
 use Rattle.booth_base.specs.declared.address.Address.{Address}
 use Rattle.booth_conf.specs.Config.{ConfigSays}
@@ -33,8 +33,9 @@ pub record IsReadFirst (entries : List Entry) (file : List ℕ) (answer : Result
   pub whole : entries ≡ before ++ ReadFile file answer ∷ after
   pub reads : AreReads before
 
--- No call up to the turns failed for another reason than want of memory, and what was read then is valid: each text of
--- the configuration says one in which the ticket can be followed so, and each key file that it names holds a key.
+-- No call before the turns failed for another reason than out of memory, and what was read then is valid: each text
+-- of the configuration spells one in which the ticket can be followed with these arguments, and each key file that it
+-- names holds a key.
 pub record IsUnhindered (asked : FollowWords) (entries : List Entry) : Type 0 where
   pub read : (file : List ℕ) → IsReadFirst entries file (Err reads.Failed) → ⊥
   pub valid : (text : List ℕ) → IsReadFirst entries asked.conf (Ok text)
@@ -46,7 +47,7 @@ pub record IsUnhindered (asked : FollowWords) (entries : List Entry) : Type 0 wh
   pub opened : (local : Option Address) (port : ℕ) (records conf_path : List ℕ) (failed : Failed)
       → Contains entries (Open local port records conf_path (Err failed)) → ⊥
 
--- the outcomes that are no one's fault here
+-- the outcomes without a fault
 abbrev pub is_followed_through : Outcome → Bool
 is_followed_through outs.Done = true
 is_followed_through outs.TurnsSpent = true
@@ -56,8 +57,8 @@ is_followed_through outcome = false
 abbrev pub IsFollowedThrough : Outcome → Type 0
 IsFollowedThrough outcome = T (is_followed_through outcome)
 
--- Valid words, a valid file and keys, a ticket that can be followed so, and an outside that does not fail before the
--- turns give Done, TurnsSpent or OutOfMemory, and no other outcome.
+-- Valid arguments, a valid file and keys, a ticket that can be followed with them, and an environment that does not
+-- fail before the turns give Done, TurnsSpent or OutOfMemory, and no other outcome.
 abbrev pub FaultlessServices : Type 0
 FaultlessServices =
     (left : Option ℕ) (words : List (List ℕ)) (outcome : Outcome) (entries : List Entry)

@@ -1,4 +1,4 @@
--- The rounds of a service: turns up to silence, after which the keys are read again.
+-- The rounds of a service: turns until the daemon is silent, after which the keys are read again.
 use Rattle.std.specs.Prelude.{◌≡◌, ◌++◌, ℕ, List, [], ◌∷◌, length, Option, Some, None, Result, Ok, Err, codes}
 use Rattle.booth_keys.specs.declared.ring.Ring.{Ring}
 use Rattle.booth_conf.specs.Config.{ConfigSays}
@@ -23,7 +23,7 @@ abbrev pub ring_in : Result (Option Ring) Ended → Option Ring
 ring_in (Ok ring) = ring
 ring_in (Err ended) = None
 
--- the configuration was read, and the key files that it names, up to the first that gives no key
+-- the configuration was read, and the key files that it names, up to the first without a key
 pub record AreFilesRead (conf : List ℕ) (found : Option Ring) (entries : List Entry) : Type 0 where
   pub config : ConfigSays
   pub answer : Result (Option Ring) Ended
@@ -34,7 +34,7 @@ pub record AreFilesRead (conf : List ℕ) (found : Option Ring) (entries : List 
   pub found_is : found ≡ ring_in answer
   pub whole : entries ≡ first ++ rest
 
--- no configuration was read, and no key file
+-- the configuration could not be read, and no key file was read
 pub record IsUnconfigured (conf : List ℕ) (found : Option Ring) (entries : List Entry) : Type 0 where
   pub ended : Ended
   pub unread : IsConfigRead conf (Err ended) entries
@@ -45,12 +45,12 @@ pub data AreKeysRead (conf : List ℕ) (found : Option Ring) (entries : List Ent
   Configured : AreFilesRead conf found entries → AreKeysRead conf found entries
   Unconfigured : IsUnconfigured conf found entries → AreKeysRead conf found entries
 
--- what is followed with the keys that were found: where none were, with those from before
+-- the following with the keys that were found: if there are none, with those from before
 abbrev pub rekeyed : Following → Option Ring → Following
 rekeyed f None = f
 rekeyed f (Some ring) = under f (Some ring)
 
--- the keys were read again, by which one following became another
+-- the keys were read again, and one following became another
 pub record IsReadAgain (conf : List ℕ) (f g : Following) (entries : List Entry) : Type 0 where
   pub found : Option Ring
   pub read : AreKeysRead conf found entries
@@ -58,7 +58,7 @@ pub record IsReadAgain (conf : List ℕ) (f g : Following) (entries : List Entry
 
 -- ---- one round
 
--- The calls of a round's turns and of its reads, and what is followed from which seat after it.
+-- The calls of a round's turns and of its reads, and the following and its seat after the round.
 pub record Round : Type 0 where
   pub turns : List Entry
   pub reads : List Entry
@@ -87,7 +87,7 @@ unfoldable pub calls_of : List Round → List Entry
 calls_of [] = []
 calls_of (r ∷ rs) = (r.turns ++ r.reads) ++ calls_of rs
 
--- so many rounds, after which this is followed from this seat
+-- this many rounds, after which this is the following, with this seat
 pub record AreMade (conf : List ℕ) (f g : Following) (from to : Seat) (count : ℕ) (entries : List Entry)
     : Type 0 where
   pub rounds : List Round
@@ -97,15 +97,15 @@ pub record AreMade (conf : List ℕ) (f g : Following) (from to : Seat) (count :
   pub stands : seat_behind from rounds ≡ to
   pub whole : entries ≡ calls_of rounds
 
--- ---- how it ends
+-- ---- the end
 
--- how a following ends is how the run does
+-- a run ends in the way that its following does
 abbrev pub EndsAs : FollowEnd → Outcome → List ℕ → Type 0
 EndsAs Left outs.Done said = said ≡ []
 EndsAs Spent outs.TurnsSpent said = said ≡ codes "turns spent"
 EndsAs end outcome said = ⊥
 
--- the last turns, behind the rounds
+-- the last turns, after the rounds
 pub record IsLastOf (f : Following) (from : Seat) (outcome : Outcome) (said : List ℕ) (entries : List Entry) : Type 0 where
   pub end : FollowEnd
   pub to : Seat
@@ -144,8 +144,8 @@ unfoldable pub turn_calls_of : List Round → List Entry
 turn_calls_of [] = []
 turn_calls_of (r ∷ rs) = r.turns ++ turn_calls_of rs
 
--- The turns of all rounds, one after the other, are turns of one following, whatever keys were read between them: what
--- holds of all turns of a following holds of them.
+-- The turns of all rounds, one after the other, are turns of one following, whatever keys were read between them:
+-- what holds for all turns of a following holds for them.
 abbrev pub RoundsAreTurns : Type 0
 RoundsAreTurns = (conf : List ℕ) (f : Following) (seat : Seat) (rounds : List Round)
     → AreRounds conf f seat rounds → AreTurnsTo f seat (seat_behind seat rounds) (turn_calls_of rounds)

@@ -11,14 +11,15 @@ use Rattle.booth_outcomes.specs.Texts.{IsText}
 use Rattle.booth_outcomes.specs.Unasked.{IsRequest, IsUnasked}
 use Rattle.booth_followers.specs.Service.{IsFollowAnswered, IsFollowLog}
 
--- the calls up to where the outcome is decided, by what the words ask for
+-- the calls up to the one that decides the outcome, for these arguments
 pub data IsFollowMade (left : Option ℕ) (words : List (List ℕ)) (outcome : Outcome) (said : List ℕ)
     (entries : List Entry) : Type 0 where
   Unasked : IsUnasked BoothFollow words outcome said entries → IsFollowMade left words outcome said entries
   Followed : (asked : FollowWords) → AsksFollow words asked → IsFollowLog left asked outcome said entries →
       IsFollowMade left words outcome said entries
 
--- All calls of a run on these words, to which an earlier one left such an end, the last of which says how it ended.
+-- All calls of a run with these arguments and an end that an earlier run left, the last of which reports how it
+-- ended.
 pub record IsFollowRun (left : Option ℕ) (words : List (List ℕ)) (outcome : Outcome)
     (entries : List Entry) : Type 0 where
   pub said : List ℕ
@@ -28,13 +29,13 @@ pub record IsFollowRun (left : Option ℕ) (words : List (List ℕ)) (outcome : 
   pub made : IsFollowMade left words outcome said body
   pub told : IsText BoothFollow said last
 
--- the words ask for a service that follows its ticket, whatever they say of it
+-- the arguments are those of a service that follows its ticket, with any options
 pub record AskToFollow (words : List (List ℕ)) : Type 0 where
   pub asked : FollowWords
   pub asks : AsksFollow words asked
 
--- Usage comes only for words that are not taken, BadWord exactly where that word is the first refused, PrintFault only
--- where help or the version was asked for, and want of memory only where there is a word.
+-- Usage comes only for invalid arguments, BadWord exactly if that argument is the first invalid one, PrintFault only
+-- if help or the version was requested, and out of memory only if there is an argument.
 abbrev pub FitsFollowWords : List (List ℕ) → Outcome → Type 0
 FitsFollowWords words (Usage None) = verb_in BoothFollow words ≡ None
 FitsFollowWords words (Usage (Some kind)) = IsUntaken BoothFollow words kind

@@ -1,4 +1,4 @@
--- The calls of a service that was asked for, up to where its outcome is decided, and what is then said.
+-- The calls of a service, up to the one that decides its outcome, and the text that is then printed.
 use Rattle.std.specs.Prelude.{◌≡◌, ◌++◌, ℕ, List, [], ◌∷◌, Option, None, Ok, Err, Bool, true, false, T}
 use Rattle.booth_keys.specs.declared.ring.Ring.{Ring}
 use Rattle.booth_base.specs.declared.address.Peer.{Peer}
@@ -27,7 +27,7 @@ IsSocketless conf outs.OpenFault said entries = (said ≡ unopened_text)
     × (failed : Failed) × (entries ≡ Open None 0 [] conf (Err failed) ∷ [])
 IsSocketless conf outcome said entries = ⊥
 
--- it was opened at any address and port, under this configuration, and then the service followed its ticket
+-- it was opened at any address and port, with this configuration, and then the service followed its ticket
 pub record IsServing (left : Option ℕ) (conf : List ℕ) (f : Following) (outcome : Outcome)
     (said : List ℕ) (entries : List Entry) : Type 0 where
   pub rest : List Entry
@@ -45,14 +45,14 @@ pub data IsStarted (left : Option ℕ) (conf : List ℕ) (f : Following) (outcom
 abbrev pub daemon_of : FollowWords → ConfigSays → Peer
 daemon_of asked config = record { address = asked.site; port = config.port }
 
--- a following of what was asked for, and its calls
+-- a following with these arguments, and its calls
 pub record IsSetOut (left : Option ℕ) (asked : FollowWords) (config : ConfigSays) (ring : Option Ring)
     (margins : Margins) (outcome : Outcome) (said : List ℕ) (entries : List Entry) : Type 0 where
   pub f : Following
   pub is : IsFollowing ring asked.ticket (daemon_of asked config) asked.program margins f
   pub starts : IsStarted left asked.conf f outcome said entries
 
--- there was no memory
+-- memory was out
 abbrev pub IsRoomless : Outcome → List ℕ → List Entry → Type 0
 IsRoomless outs.OutOfMemory said entries = (said ≡ out_of_memory_text) × (entries ≡ [])
 IsRoomless outcome said entries = ⊥
@@ -64,7 +64,7 @@ pub data FollowsKey (left : Option ℕ) (asked : FollowWords) (config : ConfigSa
   SetOut : IsSetOut left asked config ring margins outcome said entries →
       FollowsKey left asked config ring margins outcome said entries
 
--- the key was read, where one is set, and then these calls were made
+-- the key was read, if one is set, and then these calls were made
 pub record IsKeyed (left : Option ℕ) (asked : FollowWords) (config : ConfigSays) (margins : Margins)
     (outcome : Outcome) (said : List ℕ) (entries : List Entry) : Type 0 where
   pub ring : Option Ring
@@ -97,7 +97,7 @@ pub record IsFitted (left : Option ℕ) (asked : FollowWords) (config : ConfigSa
   pub chosen : IsChosen config asked.ticket asked.site asked.margin asked.kill margins
   pub here : FollowsMargins left asked config margins outcome said entries
 
--- What follows the configuration: NotFollowed without a call exactly where the ticket has that fault first.
+-- What follows the configuration: NotFollowed without a call exactly if this is the first fault of the ticket.
 pub data FollowsConfig (left : Option ℕ) (asked : FollowWords) (config : ConfigSays) (outcome : Outcome) (said : List ℕ)
     (entries : List Entry) : Type 0 where
   Unfollowed : IsUnfollowed asked config outcome said entries → FollowsConfig left asked config outcome said entries
@@ -115,15 +115,15 @@ pub record IsRead (left : Option ℕ) (asked : FollowWords) (outcome : Outcome) 
   pub whole : entries ≡ ReadFile asked.conf (Ok text) ∷ rest
   pub here : FollowsConfig left asked config outcome said rest
 
--- the first stage that did not go on, or the service
+-- the first stage that failed, or the service
 pub data IsFollowLog (left : Option ℕ) (asked : FollowWords) (outcome : Outcome) (said : List ℕ)
     (entries : List Entry) : Type 0 where
   Unread : IsUnread asked.conf outcome said entries → IsFollowLog left asked outcome said entries
   Read : IsRead left asked outcome said entries → IsFollowLog left asked outcome said entries
 
--- ---- over every host
+-- ---- for every host
 
--- an outcome of a service that was asked for
+-- an outcome of a service
 abbrev pub is_follow_answered : Outcome → Bool
 is_follow_answered outs.ConfUnread = true
 is_follow_answered (outs.ConfBad fault) = true

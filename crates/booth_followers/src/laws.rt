@@ -2,8 +2,8 @@
 ghost use Rattle.booth_followers.specs.Faultless.{FaultlessServices};
 ghost use Rattle.booth_followers.specs.Rounds.{RoundsAreTurns};
 
-/// Valid words, a valid file and keys, a ticket that can be followed so, and an outside that does not fail before the
-/// turns have `booth-follow` give Done, TurnsSpent or OutOfMemory.
+/// With valid arguments, a valid file and keys, a ticket that can be followed with them, and an environment that does
+/// not fail before the turns, `booth-follow` gives Done, TurnsSpent or OutOfMemory.
 pub fn faultless_services()
     ensures { FaultlessServices }
 {}

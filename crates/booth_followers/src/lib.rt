@@ -1,4 +1,4 @@
-//! The program `booth-follow` over any host: words in, calls on the host, outcome out.
+//! The program `booth-follow` over any host: arguments in, calls on the host, an outcome out.
 #![tactic(auto)]
 
 pub mod laws;

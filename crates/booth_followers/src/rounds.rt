@@ -1,4 +1,4 @@
-//! The rounds of a service: its turns, and the keys that are read again if this site's daemon is not heard.
+//! The rounds of a service: its turns, and the keys that are read again if this site's daemon is silent.
 ghost use Rattle.std.specs.Prelude.{◌≡◌, ◌≤◌};
 ghost use Rattle.booth_host.specs.Past.{GrewSome};
 ghost use Rattle.booth_outcomes.specs.Outcomes.{HasBlame};
@@ -16,7 +16,7 @@ use std::alloc::Global;
 /// How often the keys are read again at most.
 const MOST_ROUNDS: u64 = 1 << 62;
 
-/// A service that was asked for: the configuration that names its key files, and the ticket that it follows.
+/// A service: the configuration that names its key files, and the ticket that it follows.
 #[derive(Drop)]
 pub(crate) struct Service {
     pub conf: PathText,
@@ -43,7 +43,7 @@ fn spent() -> Ended
     }
 }
 
-// The keys of the files that the configuration names now, if they can be read.
+// Returns the keys in the files that the configuration names now, if they can be read.
 fn read_keys<H: Host>(alloc: Global, conf: &PathText, host: &mut H) -> Option<Ring>
     ensures past { GrewSome (AreKeysRead conf.now result) (H.past host.old) (H.past host.new) }
     ensures later { H.faults host.old ≤ H.faults host.new }
@@ -57,7 +57,7 @@ fn read_keys<H: Host>(alloc: Global, conf: &PathText, host: &mut H) -> Option<Ri
     }
 }
 
-// Reads the keys again. If there are none, or they cannot be read, those from before stay.
+// Reads the keys again. If there are none, or they cannot be read, those from before are used.
 fn read_again<H: Host, W: Watch>(alloc: Global, service: &mut Service, watch: &mut W, host: &mut H)
     ensures past { GrewSome (IsReadAgain service.old.conf service.old.following service.new.following)
         (H.past host.old) (H.past host.new) }
@@ -73,8 +73,8 @@ fn read_again<H: Host, W: Watch>(alloc: Global, service: &mut Service, watch: &m
     }
 }
 
-/// Has the service follow its ticket until the end is asked for. If this site's daemon is not heard, the keys are read
-/// again, and the service goes on from where it was.
+/// Has the service follow its ticket until the host asks for the end. If this site's daemon is silent, reads the keys
+/// again, and goes on from the same seat.
 pub(crate) fn serve<H: Host, W: Watch>(
     alloc: Global,
     service: &mut Service,

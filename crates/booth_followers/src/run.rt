@@ -12,7 +12,7 @@ use booth_host::{Host, QuietHost};
 use booth_outcomes::{Ended, Outcome, tell, tell_error, texts};
 use std::alloc::Global;
 
-// The calls of a run up to where its outcome is decided.
+// Makes the calls of a run, up to the one that decides its outcome.
 fn run_words<H: Host, W: Watch>(
     alloc: Global,
     words: &[String],
@@ -28,7 +28,7 @@ fn run_words<H: Host, W: Watch>(
     match ask(alloc, Program::BoothFollow, words) {
         Ok(Asked::Follow(asked)) => follow_ticket(alloc, asked, setting, host),
         Ok(Asked::Daemon(_)) | Ok(Asked::Status(_)) | Ok(Asked::Simulation(_)) => unreachable!(),
-        // (taken out of the words, since its journals own memory)
+        // (taken out of the arguments, since its journals own memory)
         Ok(Asked::Audit(_asked)) => unreachable!(),
         Ok(Asked::Client(_)) | Ok(Asked::Move(_)) => unreachable!(),
         Err(Refusal::Untaken(error)) => tell_error(alloc, Program::BoothFollow, &error, host),
@@ -43,24 +43,24 @@ fn run_words<H: Host, W: Watch>(
     }
 }
 
-/// Runs `booth-follow` with these words, of which the first is the name that it was run by, over this host.
+/// Runs `booth-follow` with these arguments, the first of which is the name that it was run by, with this host.
 ///
-/// It reads the configuration, sees that the ticket can be followed at this site with these margins, reads the key
-/// where `authfile` is set, and opens a socket. Then the service follows its ticket: the daemon of this site is asked
-/// for the list once a second, and the program is run with `check`, `renew`, `start`, `stop` or `kill` behind its
-/// arguments, until the host says `Stop`. The setting says whether an earlier follower left the service running until
-/// an end.
+/// It reads the configuration, checks that the ticket can be followed at this site with these margins, reads the key
+/// if `authfile` is set, and opens a socket. Then the service follows its ticket: the follower asks the daemon of
+/// this site about the ticket once a second, and runs the program with `check`, `renew`, `start`, `stop` or `kill`
+/// after its arguments, until the host returns `Stop`. The setting says whether an earlier follower left the service
+/// running until an end.
 pub fn booth_follow<H: Host, W: Watch>(
     alloc: Global,
     words: &[String],
     setting: &mut Setting<W>,
     host: &mut H,
 ) -> Outcome
-    // Where the host tells its calls: exactly these, by how the run ended.
+    // If the host records its calls, they are exactly these, by how the run ended.
     ensures past { GrewSome (IsFollowRun setting.old.left (map string_bytes words.now) result)
         (H.past host.old) (H.past host.new) }
 
-    // Over every host.
+    // For every host.
     ensures words { FitsFollowWords (map string_bytes words.now) result }
     ensures blame { HasBlame result (H.faults host.old) (H.faults host.new) }
     ensures later { H.faults host.old ≤ H.faults host.new }
@@ -70,7 +70,7 @@ pub fn booth_follow<H: Host, W: Watch>(
     ended.outcome
 }
 
-/// Runs `booth-follow` over a host without failures: no failure is ever answered.
+/// Runs `booth-follow` with a host that has no failures: no call returns a failure.
 pub fn quiet_booth_follow<W: Watch>(
     alloc: Global,
     words: &[String],

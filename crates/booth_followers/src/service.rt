@@ -1,4 +1,4 @@
-//! A service that was asked for: its configuration, its margins and key, its socket, and how it follows its ticket.
+//! A service: its configuration, its margins and key, its socket, and how it follows its ticket.
 ghost use Rattle.std.specs.Prelude.{◌≡◌, ◌≤◌, ◌∷◌, [], None};
 ghost use Rattle.booth_host.specs.Past.{GrewBy, GrewSome};
 ghost use Rattle.booth_host.specs.Causes.{HasCause};
@@ -26,7 +26,7 @@ fn no_path() -> PathText
     path
 }
 
-// Opens a socket at any address and port, and no directory. Programs are told of this configuration.
+// Opens a socket at any address and port, and no directory. Programs get this configuration's path.
 fn open_socket<H: Host>(conf: PathText, host: &mut H) -> Result<(), Failed>
     ensures past { GrewBy (H.past host.old) (H.past host.new) (Entry.Open None 0 [] conf result ∷ []) }
     ensures cause { HasCause (H.faults host.old) (H.faults host.new) result }
@@ -40,7 +40,7 @@ fn open_socket<H: Host>(conf: PathText, host: &mut H) -> Result<(), Failed>
     host.open(&place)
 }
 
-// What follows the memory: the socket, and the service.
+// Does what follows the memory: opens the socket, and starts the service.
 fn start<H: Host, W: Watch>(
     alloc: Global,
     service: &mut Service,
@@ -63,7 +63,7 @@ fn start<H: Host, W: Watch>(
     }
 }
 
-// What follows the key. All memory is taken before the socket.
+// Does what follows the key. All memory is allocated before the socket.
 fn set_out<H: Host, W: Watch>(
     alloc: Global,
     asked: FollowWords,
@@ -96,7 +96,7 @@ fn set_out<H: Host, W: Watch>(
     start(alloc, &mut service, setting, &mut room, host)
 }
 
-// What follows margins that fit: the key, and all behind it.
+// Does what follows margins that fit: reads the key, and goes on.
 fn follow_with<H: Host, W: Watch>(
     alloc: Global,
     asked: FollowWords,
@@ -117,7 +117,7 @@ fn follow_with<H: Host, W: Watch>(
     }
 }
 
-// What follows the configuration.
+// Does what follows the configuration.
 fn follow_within<H: Host, W: Watch>(
     alloc: Global,
     asked: FollowWords,
@@ -146,7 +146,7 @@ fn follow_within<H: Host, W: Watch>(
     }
 }
 
-/// The calls of the service that was asked for, up to where its outcome is decided.
+/// Makes the calls of the service, up to the one that decides its outcome.
 pub(crate) fn follow_ticket<H: Host, W: Watch>(
     alloc: Global,
     asked: FollowWords,

@@ -22,7 +22,9 @@ use Rattle.booth_follow_rule.specs.Rule.{deeds_from}
 use Rattle.booth_following.specs.declared.following.Following.{Following}
 use Rattle.booth_following.specs.declared.following.Seat.{Seat}
 use Rattle.booth_following.specs.Asking.{number_of}
-use Rattle.booth_following.specs.Hearing.{IsTold, is_answer, is_of_list, is_whole, part_in, part_of, part_read}
+use Rattle.booth_following.specs.declared.standing.Standing.{Standing}
+use Rattle.booth_following.specs.Standing.{standing_in}
+use Rattle.booth_following.specs.Hearing.{IsAnswered, IsTold, is_answer, is_of_list, is_whole, part_in, part_of, part_read}
 use Rattle.booth_following.specs.Laws.{EndsAreNoLater, IsAuthentic, ListsAreAuthentic, TurnsFollowTheRule}
 use Rattle.booth_following.specs.Lists.{IsShownIn, Part, TellsOf}
 use Rattle.booth_following.specs.Turns.{AreTurns, IsToldIn, Turn, deed_of, deeds_of, first_seat, moment_of, seat_after, seat_from}
@@ -129,12 +131,20 @@ no_news f part (news.End run how) told untold = absurd told
 no_news f part news.Stop told untold = absurd told
 no_news f part news.Nothing told untold = refl
 
+-- what is no answer about the ticket tells what a list does
+by_list : (f : Following) (stands : Option Standing) (read : Option Part) (heard : News) → stands ≡ None → IsAnswered f stands read heard → IsTold f read heard
+by_list f (Some standing) read heard none told = absurd cc
+by_list f None read heard none told = told
+
 pub lists : ListsAreAuthentic
 lists = record {
   only = only;
   all = all;
-  shows = λ f asked bytes shown heard. shown_by f (part_in f asked bytes) shown heard;
-  silent = λ f asked bytes part heard told is untold. no_news f part heard (subst (λ (read : Option Part). IsTold f read heard) is told) untold;
+  shows = λ f asked bytes shown none heard.
+      shown_by f (part_in f asked bytes) shown (by_list f (standing_in f asked bytes) (part_in f asked bytes) (news.List shown) none heard);
+  silent = λ f asked bytes part heard none told is untold.
+      no_news f part heard
+      (subst (λ (read : Option Part). IsTold f read heard) is (by_list f (standing_in f asked bytes) (part_in f asked bytes) heard none told)) untold;
 }
 
 pub no_later : EndsAreNoLater

@@ -39,7 +39,7 @@ fault_of margin_faults.KillTooShort = faults.KillTooShort
 abbrev pub margins_in : TicketConf → Option ℕ → Option ℕ → Margins
 margins_in conf margin kill = margins_of conf.times.expire conf.times.renewal margin kill
 
--- The ticket is there and automatic, a site has the address, and the margins fit.
+-- The ticket exists and is automatic, a site has the address, and the margins fit.
 pub record IsChosen (config : ConfigSays) (ticket : List ℕ) (site : Address) (margin kill : Option ℕ) (m : Margins)
     : Type 0 where
   pub conf : TicketConf
@@ -49,7 +49,7 @@ pub record IsChosen (config : ConfigSays) (ticket : List ℕ) (site : Address) (
   pub is : m ≡ margins_in conf margin kill
   pub fits : Fits conf.times.expire conf.times.renewal m
 
--- the margins of a ticket that is there and automatic, at a site, have this fault
+-- the margins for an automatic ticket at a site have this fault
 pub record IsUnfit (config : ConfigSays) (ticket : List ℕ) (site : Address) (margin kill : Option ℕ)
     (fault : MarginFault) : Type 0 where
   pub conf : TicketConf
@@ -64,7 +64,7 @@ pub record IsByHand (config : ConfigSays) (ticket : List ℕ) (site : Address) :
   pub at : has_site config site ≡ true
   pub by_hand : conf.manual ≡ true
 
--- the first cause for which it is not followed
+-- the first reason why it cannot be followed
 abbrev pub HasFault : ConfigSays → List ℕ → Address → Option ℕ → Option ℕ → FollowFault → Type 0
 HasFault config ticket site margin kill faults.NoTicket = ticket_called config ticket ≡ None
 HasFault config ticket site margin kill faults.NotSite =

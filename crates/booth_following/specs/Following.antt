@@ -1,4 +1,4 @@
--- What is followed.
+-- The ticket that is followed, and the daemon that is asked.
 use Rattle.std.specs.Prelude.{◌≡◌, ℕ, List, Option}
 use Rattle.booth_keys.specs.declared.ring.Ring.{Ring}
 use Rattle.booth_base.specs.declared.address.Peer.{Peer}
@@ -8,7 +8,7 @@ use Rattle.booth_following.specs.declared.following.Following.{Following}
 use Rattle.booth_following.specs.declared.programs.Programs.{Programs}
 use Rattle.booth_following.specs.Lists.{line_start}
 
--- made of these, for the site at the address at which its daemon listens
+-- the following consists of these parts, for the site at the address where its daemon listens
 pub record IsFollowing (ring : Option Ring) (ticket : List ℕ) (to : Peer) (programs : Programs) (margins : Margins)
     (f : Following) : Type 0 where
   pub key_is : f.ring ≡ ring

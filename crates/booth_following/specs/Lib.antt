@@ -3,6 +3,7 @@ pub mod Lists
 pub mod Choosing
 pub mod Following
 pub mod Asking
+pub mod Standing
 pub mod Hearing
 pub mod Turns
 pub mod Laws

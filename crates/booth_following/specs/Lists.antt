@@ -6,12 +6,12 @@ use Rattle.booth_base.specs.Address.{printed}
 use Rattle.booth_follow_rule.specs.declared.news.Shown.{Shown}
 use Rattle.booth_follow_rule.specs.declared.news.Shown.TheVariants.{Here, Elsewhere}
 
--- what the line of a ticket begins with while the site at this address holds it
+-- the beginning of the ticket's line while the site at this address holds the ticket
 abbrev pub line_start : List ℕ → Address → List ℕ
 line_start ticket local = ticket ++ (codes " " ++ (printed local ++ codes " "))
 
--- The line that begins so tells an end in whole seconds, which are left out below a second: so it is no later than
--- that.
+-- A line with this beginning reports an end in whole seconds, without the fraction of a second: so it is no later
+-- than that.
 pub record IsLine (start line : List ℕ) (until : ℕ) : Type 0 where
   pub seconds : ℕ
   pub spelled : line ≡ start ++ decimal seconds
@@ -22,14 +22,14 @@ pub record IsLine (start line : List ℕ) (until : ℕ) : Type 0 where
 abbrev pub lines_of : List ℕ → List (List ℕ)
 lines_of text = slice_split (λ b. b == 0x0A) text
 
--- The text shows this site until an end, where one of its lines tells it; and where none does, another or nobody.
+-- The text shows this site until an end if one of its lines reports one. Otherwise it shows another site or nobody.
 abbrev pub IsShownIn : List ℕ → List ℕ → Shown → Type 0
 IsShownIn start text (Here until) =
     (place : ℕ) × (place < length (lines_of text)) × IsLine start (get_or (lines_of text) place []) until
 IsShownIn start text Elsewhere =
     (place until : ℕ) → place < length (lines_of text) → IsLine start (get_or (lines_of text) place []) until → ⊥
 
--- a line of the ticket, whoever holds it: first its name and a blank
+-- a line of the ticket, whoever holds it: it begins with the ticket's name and a space
 abbrev pub IsOf : List ℕ → List ℕ → Type 0
 IsOf ticket line = (rest : List ℕ) × (line ≡ ticket ++ (codes " " ++ rest))
 
@@ -43,8 +43,8 @@ pub record Part : Type 0 where
   pub whole : Bool
   pub text : List ℕ
 
--- It tells of the ticket: the whole list does, also where it has no line of the ticket, and another part where it has
--- one.
+-- It covers the ticket: the whole list does, even without a line of the ticket, and another part does if it has such
+-- a line.
 abbrev pub TellsOf : List ℕ → Part → Type 0
 TellsOf ticket part = (part.whole ≡ true) ⊎ HasLine ticket part.text
 

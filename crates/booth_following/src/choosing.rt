@@ -7,7 +7,7 @@ use booth_conf::{Config, Member, TicketConf};
 use booth_follow_rule::{MarginFault, Margins};
 use thiserror::Error;
 
-/// Why a ticket is not followed.
+/// Why a ticket cannot be followed.
 #[derive(Clone, Copy, Debug, PartialEq, Eq, Drop, Error)]
 pub enum FollowFault {
     #[error("there is no such ticket")]
@@ -40,7 +40,7 @@ fn is_site_at(site: &Address, member: &Member) -> bool
     member.site && *site == member.address
 }
 
-// The place of the site with this address.
+// Returns the place of the site with this address.
 fn site_at(config: &Config, site: &Address) -> Option<usize>
     ensures { result ≡ site_at config.now site.now }
 {
@@ -56,7 +56,7 @@ fn has_site(config: &Config, site: &Address) -> bool
     site_at(config, site).is_some()
 }
 
-// The ticket of this name.
+// Returns the ticket with this name.
 fn ticket_called<'a>(config: &'a Config, ticket: &Name) -> Option<&'a TicketConf>
     ensures { option_copied result ≡ ticket_called config.now ticket.now }
 {
@@ -66,7 +66,8 @@ fn ticket_called<'a>(config: &'a Config, ticket: &Name) -> Option<&'a TicketConf
     }
 }
 
-/// The margins with which the ticket is followed at the site of this address, where they are given or not.
+/// Returns the margins for the ticket at the site with this address: those that are given, or margins that suit its
+/// times.
 pub fn margins_for(
     config: &Config,
     ticket: &Name,

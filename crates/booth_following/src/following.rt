@@ -1,4 +1,4 @@
-//! What is followed, and what is taken along from turn to turn.
+//! The ticket that is followed, and the state that is kept from turn to turn.
 ghost use Rattle.std.specs.Prelude.{◌≡◌, [], IfOk, None};
 ghost use Rattle.booth_base.specs.Address.{id_of};
 ghost use Rattle.booth_following.specs.Lists.{line_start};
@@ -23,14 +23,14 @@ pub struct Following {
     pub(crate) to: Peer,
     /// The id of this site.
     pub(crate) me: MemberId,
-    /// What the ticket's line begins with while this site holds it.
+    /// The beginning of the ticket's line while this site holds the ticket.
     pub(crate) line: TicketLine,
     pub(crate) programs: Programs,
     pub(crate) margins: Margins,
 }
 
 impl Following {
-    /// The service of these programs follows the ticket at the site whose daemon listens there.
+    /// Returns a following of the ticket by these programs, at the site whose daemon listens at this address.
     pub fn new(
         alloc: Global,
         ring: Option<Ring>,
@@ -53,7 +53,7 @@ impl Following {
         })
     }
 
-    /// What is asked and heard from now on has these keys.
+    /// Uses these keys for all later requests and answers.
     pub fn set_ring(&mut self, ring: Option<Ring>)
         ensures { self.new ≡ under self.old ring }
     {
@@ -69,7 +69,7 @@ pub struct Room {
 }
 
 impl Room {
-    /// All memory that it takes but for what it is about.
+    /// Allocates all memory that a following needs, except for the following itself.
     pub fn new(alloc: Global) -> Result<Room, AllocError>
         ensures { IfOk result (λ room. room.datagram ≡ []) }
     {
@@ -79,24 +79,30 @@ impl Room {
     }
 }
 
-/// What is taken along from turn to turn.
+/// The state that is kept from turn to turn.
 #[derive(Clone, Copy)]
 pub struct Seat {
     pub(crate) follower: Follower,
-    /// The reading at which the list was asked for last.
+    /// The reading at which the ticket was requested last.
     pub(crate) asked: Option<u64>,
-    /// The number of a run that could not be begun, until the follower is told.
+    /// Whether an answer about the ticket has arrived since then.
+    pub(crate) told: bool,
+    /// The term of this site's lease by the last such answer, or 0.
+    pub(crate) term: u32,
+    /// The number of a run that could not be started, until the follower learns of it.
     pub(crate) failed: Option<u64>,
 }
 
 impl Seat {
-    /// Where a following begins to which an earlier one left such an end, in milliseconds.
+    /// Returns the seat at which a following begins after an earlier one left this end, in milliseconds.
     pub fn first(f: &Following, left: Option<u64>) -> Seat
         ensures { result ≡ first_seat f.now left }
     {
         Seat {
             follower: Follower::new(f.margins, left),
             asked: None,
+            told: false,
+            term: 0,
             failed: None,
         }
     }

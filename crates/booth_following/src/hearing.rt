@@ -1,4 +1,4 @@
-//! What an arrival tells a follower.
+//! What a follower learns from an arrival.
 ghost use Rattle.std.specs.Prelude.{◌≡◌, MatchBool};
 ghost use Rattle.booth_wire.specs.PlainMessage.{content_of, plain_of};
 ghost use Rattle.booth_follow_rule.specs.declared.news.News.{News};
@@ -8,6 +8,7 @@ ghost use Rattle.booth_following.specs.Lists.{TellsOf};
 use crate::asking::number_of;
 use crate::following::{Following, Seat};
 use crate::lines::has_line;
+use crate::standing::standing_in;
 use booth_auth::is_signed;
 use booth_base::Name;
 use booth_follow_rule::{News, RunEnd};
@@ -31,14 +32,14 @@ impl<'a> Model for Part<'a> {
     ghost view = { λ part. record { whole = part.whole; text = part.text.now } };
 }
 
-// Whether an answer of this result is a part of a list.
+// Returns whether an answer with this result is a part of a list.
 fn is_of_list(code: u32) -> bool
     ensures { result ≡ is_of_list code }
 {
     code == results::SUCCESS || code == results::MORE
 }
 
-// Whether a message is a part that this site answers to the request that was sent at a reading.
+// Returns whether a message is a part with which this site answers the request that was sent at a reading.
 fn is_answer(f: &Following, asked: u64, message: &Message<'_>) -> bool
     ensures { result ≡ is_answer f.now asked (plain_of message.now) }
 {
@@ -49,7 +50,7 @@ fn is_answer(f: &Following, asked: u64, message: &Message<'_>) -> bool
         && is_of_list(head.result)
 }
 
-// Whether it is the first part and the last.
+// Returns whether this is the first part and the last.
 fn is_whole(message: &Message<'_>) -> bool
     ensures { result ≡ is_whole (plain_of message.now) }
 {
@@ -65,7 +66,7 @@ fn part_of<'a>(whole: bool, body: &Body<'a>) -> Option<Part<'a>>
     }
 }
 
-// The part of a list that these bytes are, if they are this site's answer.
+// Returns the part of a list in these bytes, if they are this site's answer.
 #[tactic(auto, unfolding(crate::specs::Hearing::part_in))]
 fn part_in<'a>(f: &Following, asked: u64, bytes: &'a [u8]) -> Option<Part<'a>>
     ensures { result ≡ part_in f.now asked bytes.now }
@@ -84,20 +85,23 @@ fn part_in<'a>(f: &Following, asked: u64, bytes: &'a [u8]) -> Option<Part<'a>>
     }
 }
 
-// Whether a part tells of this ticket.
+// Returns whether a part covers this ticket.
 fn tells_of(ticket: &Name, part: &Part<'_>) -> bool
     ensures { MatchBool result (TellsOf ticket.now part.now) (TellsOf ticket.now part.now → ⊥) }
 {
     part.whole || has_line(ticket.bytes(), part.text)
 }
 
-// What a datagram tells.
+// Returns what a datagram says.
 fn heard_in(f: &Following, asked: Option<u64>, bytes: &[u8]) -> News
     ensures { IsHeard f.now asked bytes.now result }
 {
     let Some(asked) = asked else {
         return News::Nothing;
     };
+    if let Some(standing) = standing_in(f, asked, bytes) {
+        return News::List(standing.shown);
+    }
     let Some(part) = part_in(f, asked, bytes) else {
         return News::Nothing;
     };
@@ -118,7 +122,7 @@ fn how_of(status: i32) -> RunEnd
     }
 }
 
-// What an arrival tells, where every run was begun.
+// Returns what an arrival says, if every run was started.
 fn arrived(
     f: &Following,
     asked: Option<u64>,
@@ -139,7 +143,8 @@ fn arrived(
     }
 }
 
-/// What an arrival tells. A run that could not be begun is told in its place, but not in that of the end.
+/// Returns what an arrival says. The failure of a run that could not be started is returned in place of an arrival,
+/// but not in place of the end.
 pub(crate) fn news_of(
     f: &Following,
     seat: &Seat,
@@ -161,7 +166,7 @@ pub(crate) fn news_of(
     }
 }
 
-/// The run that is still to be told.
+/// Returns the failed run that remains to be reported.
 pub(crate) fn failed_left(failed: Option<u64>, answer: &Result<Arrival, Failed>) -> Option<u64>
     ensures { result ≡ failed_left failed answer.now }
 {

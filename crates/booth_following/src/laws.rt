@@ -1,22 +1,33 @@
-//! What holds of all calls of a following.
-ghost use Rattle.booth_following.specs.Laws.{EndsAreNoLater, ListsAreAuthentic, TurnsFollowTheRule, TurnsGoOn};
+//! What holds for all calls of a following.
+ghost use Rattle.booth_following.specs.Laws.{AnswersAreAuthentic, AnswersEndNoLater, EndsAreNoLater, ListsAreAuthentic, TurnsFollowTheRule, TurnsGoOn};
 
-/// The deeds of turns are the rule's for their moments, and so hold what the rule's do.
+/// The actions of turns are the rule's for their moments, and so the rule's laws hold for them.
 pub fn turns_follow_the_rule()
     ensures { TurnsFollowTheRule }
 {}
 
-/// Just the bytes of authentic answers of this site are lists.
+/// Exactly the bytes of this site's authentic answers about the ticket report its state.
+pub fn answers_are_authentic()
+    ensures { AnswersAreAuthentic }
+{}
+
+/// The end in such an answer is no later than the daemon's own.
+pub fn answers_end_no_later()
+    ensures { AnswersEndNoLater }
+{}
+
+/// Exactly the bytes of this site's authentic list answers are lists.
 pub fn lists_are_authentic()
     ensures { ListsAreAuthentic }
 {}
 
-/// The end that a line tells is no later than the one that the daemon has.
+/// The end in a line is no later than the daemon's own.
 pub fn ends_are_no_later()
     ensures { EndsAreNoLater }
 {}
 
-/// Turns up to silence are turns of the following, whatever keys it has next, and so are turns behind others.
+/// The turns up to silence are turns of the following, whatever keys it has afterwards; so are turns after other
+/// turns.
 pub fn turns_go_on()
     ensures { TurnsGoOn }
 {}

@@ -1,4 +1,4 @@
-//! A service that follows its ticket, over any host: what is asked, what is heard, what is run.
+//! A service that follows its ticket, with any host: its requests, what it learns, and what it runs.
 #![tactic(auto)]
 
 mod asking;
@@ -8,6 +8,7 @@ mod hearing;
 pub mod laws;
 mod lines;
 mod programs;
+mod standing;
 mod turns;
 mod watching;
 

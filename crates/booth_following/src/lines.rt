@@ -1,4 +1,4 @@
-//! The line of a ticket in a daemon's list: whether it is there, and whether it shows this site.
+//! The line of a ticket in a daemon's list: whether the list has one, and whether it shows this site.
 ghost use Rattle.std.specs.Prelude.{◌≡◌, ◌<◌, ◌≤◌, ◌++◌, ◌*◌, ◌^◌, ℕ, decimal, option_map, IfOk, MatchBool, MatchOption};
 ghost use Rattle.booth_base.specs.Address.{printed};
 ghost use Rattle.booth_following.specs.Lists.{BeginsLine, HasLine, IsLine, IsOf, IsShownIn, IsUntil, line_start};
@@ -9,7 +9,7 @@ use itoa::Buffer;
 use std::alloc::{AllocError, Global};
 use std::marker::Model;
 
-/// What the line of a ticket begins with while one site holds it. Contracts see these bytes.
+/// The beginning of a ticket's line while one site holds the ticket. Contracts see these bytes.
 #[derive(Drop)]
 pub struct TicketLine {
     start: Vec<u8>,
@@ -23,7 +23,7 @@ impl Model for TicketLine {
     ghost view = { λ line. line.start.items };
 }
 
-// The number that is printed so, if this is one.
+// Returns the number with this text, if the text is a number.
 fn number(text: &[u8]) -> Option<u64>
     ensures { MatchOption result ((n : ℕ) → n < 2 ^ 64 → text.now ≡ decimal n → ⊥)
         (λ n. text.now ≡ decimal n) }
@@ -42,7 +42,7 @@ fn number(text: &[u8]) -> Option<u64>
     }
 }
 
-// The bytes behind these, where the line begins with them.
+// Returns the bytes after this beginning, if the line has it.
 fn behind<'a>(start: &[u8], line: &'a [u8]) -> Option<&'a [u8]>
     ensures { BeginsLine start.now line.now (option_map (λ rest. rest.now) result) }
 {
@@ -53,7 +53,7 @@ fn behind<'a>(start: &[u8], line: &'a [u8]) -> Option<&'a [u8]>
     if first == start { Some(rest) } else { None }
 }
 
-// The end that a line tells, in milliseconds, where it is the ticket's and this site holds it.
+// Returns the end in a line, in milliseconds, if it is the ticket's line and this site holds the ticket.
 fn until_in(start: &[u8], line: &[u8]) -> Option<u64>
     ensures { IsUntil start.now line.now result }
 {
@@ -66,7 +66,7 @@ fn until_in(start: &[u8], line: &[u8]) -> Option<u64>
     seconds.checked_mul(1000)
 }
 
-// What a text shows, by the first line that begins so and tells an end.
+// Returns what a text shows, by the first line that has the beginning and an end.
 fn shown_in(start: &[u8], text: &[u8]) -> Shown
     ensures { IsShownIn start.now text.now result }
 {
@@ -79,7 +79,7 @@ fn shown_in(start: &[u8], text: &[u8]) -> Shown
     Shown::Elsewhere
 }
 
-// Whether a line is of this ticket.
+// Returns whether a line is of this ticket.
 fn is_of(ticket: &[u8], line: &[u8]) -> bool
     ensures { MatchBool result (IsOf ticket.now line.now) (IsOf ticket.now line.now → ⊥) }
 {
@@ -92,7 +92,7 @@ fn is_of(ticket: &[u8], line: &[u8]) -> bool
     }
 }
 
-/// Whether a text has a line of this ticket.
+/// Returns whether a text has a line of this ticket.
 pub(crate) fn has_line(ticket: &[u8], text: &[u8]) -> bool
     ensures { MatchBool result (HasLine ticket.now text.now) (HasLine ticket.now text.now → ⊥) }
 {
@@ -105,7 +105,7 @@ pub(crate) fn has_line(ticket: &[u8], text: &[u8]) -> bool
 }
 
 impl TicketLine {
-    /// The line of this ticket while the site at this address holds it.
+    /// Returns the beginning of this ticket's line while the site at this address holds the ticket.
     pub fn new(alloc: Global, ticket: &Name, local: &Address) -> Result<TicketLine, AllocError>
         ensures { IfOk result (λ line. line ≡ line_start ticket.now local.now) }
     {
@@ -117,7 +117,7 @@ impl TicketLine {
         Ok(TicketLine { start })
     }
 
-    /// What a list shows of the ticket.
+    /// Returns what a list shows of the ticket.
     pub(crate) fn shown_in(&self, text: &[u8]) -> Shown
         ensures { IsShownIn self.now text.now result }
     {

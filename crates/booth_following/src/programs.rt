@@ -1,6 +1,6 @@
 //! The program of a service, with each word that it is run with.
 ghost use Rattle.std.specs.Prelude.{◌≡◌, ◌+◌, ◌<◌, ◌≤◌, ◌↔◌, ◌++◌, codes, length, IfOk, IsErr};
-ghost use Rattle.booth_following.specs.Programs.{program_for, programs_of, renewal_of};
+ghost use Rattle.booth_following.specs.Programs.{program_for, programs_of, renewal_of, termed};
 
 use arrayvec::ArrayString;
 use booth_base::{PathFault, PathText};
@@ -10,11 +10,11 @@ use itoa::Buffer;
 /// The most bytes of a path.
 pub const PATH_BYTES: usize = 255;
 
-/// The most bytes of a program with its arguments: a path has them, a blank and the longest word, and a blank and the
-/// longest number.
+/// The most bytes of a program with its arguments: a path has room for them, a space and the longest word, and a
+/// space and the longest number.
 pub const PROGRAM_BYTES: usize = PATH_BYTES - 27;
 
-/// A program with its arguments, between blanks, and behind them one word.
+/// A program with its arguments, separated by spaces, and followed by one word.
 #[derive(Drop)]
 pub struct Programs {
     pub check: PathText,
@@ -24,7 +24,7 @@ pub struct Programs {
     pub kill: PathText,
 }
 
-// A text and another behind it.
+// Joins two texts.
 fn joined(text: &str, more: &str) -> Result<PathText, PathFault>
     requires { length more.now ≤ PATH_BYTES }
     ensures same { IfOk result (λ path. path ≡ text.now ++ more.now) }
@@ -39,7 +39,7 @@ fn joined(text: &str, more: &str) -> Result<PathText, PathFault>
     PathText::read(whole.as_str())
 }
 
-// A renewal with the time of a kill behind it, where there is room for that.
+// Returns a renewal followed by the time of a kill, if there is room for it.
 fn renewal_of(renew: &PathText, kill: u64) -> PathText
     ensures { result ≡ renewal_of renew.now kill }
 {
@@ -53,9 +53,26 @@ fn renewal_of(renew: &PathText, kill: u64) -> PathText
     }
 }
 
+/// Returns the program followed by the term of the lease, if a term is known and there is room for it. The host
+/// passes the term to the program.
+pub(crate) fn termed(path: PathText, term: u32) -> PathText
+    ensures { result ≡ termed path term }
+{
+    if term == 0 {
+        return path;
+    }
+    let mut digits = Buffer::new();
+    let Ok(begun) = joined(path.as_str(), " term=") else {
+        return path;
+    };
+    match joined(begun.as_str(), digits.format(term)) {
+        Ok(whole) => whole,
+        Err(_) => path,
+    }
+}
+
 impl Programs {
-    /// What is run for a service with this program. It is refused exactly where it has more than
-    /// `PROGRAM_BYTES` bytes.
+    /// Returns the programs of a service. Refuses a program if and only if it has more than `PROGRAM_BYTES` bytes.
     pub fn read(program: &str) -> Result<Programs, PathFault>
         ensures same { IfOk result (λ programs. programs ≡ programs_of program.now) }
         ensures too_long { IsErr result ↔ (PROGRAM_BYTES < length program.now) }
@@ -72,7 +89,7 @@ impl Programs {
         })
     }
 
-    /// What is run for this word. A renewal is told the time of a kill, in milliseconds.
+    /// Returns the program for this word. A renewal is followed by the time of a kill, in milliseconds.
     pub(crate) fn program_for(&self, kill: u64, word: Word) -> PathText
         ensures { result ≡ program_for self.now kill word }
     {

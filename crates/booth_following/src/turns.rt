@@ -1,31 +1,53 @@
-//! The turns of a following: what comes, what is done for it, and what is asked.
-ghost use Rattle.std.specs.Prelude.{◌≡◌, ◌≤◌, ◌/◌};
-ghost use Rattle.booth_following.specs.Programs.{program_for};
+//! The turns of a following: what arrives, what is done about it, and what is requested.
+ghost use Rattle.std.specs.Prelude.{◌≡◌, ◌≤◌, ◌/◌, ◌∷◌, []};
+ghost use Rattle.booth_following.specs.Asking.{list_bytes, request_bytes};
+ghost use Rattle.booth_following.specs.Programs.{program_for, termed};
+ghost use Rattle.booth_host.specs.declared.entry.Entry.{Entry};
 ghost use Rattle.booth_host.specs.Past.{GrewBy, GrewSome};
-ghost use Rattle.booth_following.specs.Turns.{IsFollowed, IsTurn, ask_calls, asked_after, asks, awaited_after, failed_after, is_due, is_over, is_unheard, run_calls};
+ghost use Rattle.booth_following.specs.Turns.{IsFollowed, IsTurn, ask_calls, asked_after, asks, asks_due, awaited_after, failed_after, is_due, is_over, is_told, is_unheard, run_calls, term_after, term_heard, told_after};
 
-use crate::asking::put_request;
+use crate::asking::{put_list_request, put_request};
 use crate::following::{Following, Room, Seat};
 use crate::hearing::{failed_left, news_of};
+use crate::programs::termed;
+use crate::standing::{Standing, standing_at};
 use crate::watching::{Seen, Watch};
 use booth_follow_rule::{FollowDeed, News, Word};
 use booth_host::{Arrival, Failed, Host, Job};
 
-/// How long a list is not asked for again, in milliseconds.
+/// How long the ticket is not requested again, in milliseconds.
 const ASK_EVERY: u64 = 1_000;
 
-/// How long a list is awaited behind one before a following ends, in milliseconds: a request was not answered.
+/// How long a following waits for the next answer before it ends, in milliseconds: a request was not answered.
 const SILENT_FOR: u64 = 1_500;
 
-/// How long the first list is awaited before a following ends, in milliseconds.
+/// How long a following waits for the first answer before it ends, in milliseconds.
 const UNHEARD_FOR: u64 = 10_000;
 
-/// How many turns a following makes at most.
+/// The most turns of a following.
 const MOST_TURNS: u64 = 1 << 62;
 
-// The program is run for a word, where that is to be done.
-fn run<H: Host>(f: &Following, deed: FollowDeed, host: &mut H) -> Result<(), Failed>
-    ensures past { GrewBy (H.past host.old) (H.past host.new) (run_calls f.now deed result) }
+fn term_heard(standing: Option<Standing>, term: u32) -> u32
+    ensures { result ≡ term_heard standing term }
+{
+    match standing {
+        Some(standing) => standing.term,
+        None => term,
+    }
+}
+
+fn is_told(standing: Option<Standing>, told: bool) -> bool
+    ensures { result ≡ is_told standing told }
+{
+    match standing {
+        Some(_) => true,
+        None => told,
+    }
+}
+
+// Runs the program for a word, if the action says so.
+fn run<H: Host>(f: &Following, term: u32, deed: FollowDeed, host: &mut H) -> Result<(), Failed>
+    ensures past { GrewBy (H.past host.old) (H.past host.new) (run_calls f.now term deed result) }
     ensures later { H.faults host.old ≤ H.faults host.new }
 {
     match deed {
@@ -33,22 +55,22 @@ fn run<H: Host>(f: &Following, deed: FollowDeed, host: &mut H) -> Result<(), Fai
             word,
             number,
             until,
-        } => host.start(&job_of(f, word, number, until)),
+        } => host.start(&job_of(f, term, word, number, until)),
         FollowDeed::Nothing | FollowDeed::Leave => Ok(()),
     }
 }
 
-fn job_of(f: &Following, word: Word, number: u64, until: u64) -> Job
+fn job_of(f: &Following, term: u32, word: Word, number: u64, until: u64) -> Job
     ensures number { result.number ≡ number }
     ensures ticket { result.ticket ≡ f.now.ticket }
-    ensures handler { result.handler ≡ program_for f.now.programs f.now.margins.kill word }
+    ensures handler { result.handler ≡ termed (program_for f.now.programs f.now.margins.kill word) term }
     ensures local { result.local ≡ f.now.to.address }
     ensures expires { result.expires ≡ until / 1000 }
 {
     Job {
         number,
         ticket: f.ticket.copy(),
-        handler: f.programs.program_for(f.margins.kill, word),
+        handler: termed(f.programs.program_for(f.margins.kill, word), term),
         local: f.to.address,
         expires: until / 1000,
     }
@@ -78,40 +100,131 @@ fn is_due(asked: Option<u64>, reading: u64) -> bool
     }
 }
 
-fn asks(deed: FollowDeed, asked: Option<u64>, reading: u64) -> bool
-    ensures { result ≡ asks deed asked reading }
+/// The requests of a turn.
+#[derive(Clone, Copy)]
+pub(crate) enum Ask {
+    Nothing,
+    /// The ticket's state.
+    Ticket,
+    /// The ticket's state and the list: the last request had no answer.
+    TicketAndList,
+}
+
+/// The results of a turn's requests. A request that was not made counts as sent.
+#[derive(Clone, Copy)]
+pub(crate) struct Sent {
+    pub ticket: Result<(), Failed>,
+    pub list: Result<(), Failed>,
+}
+
+fn asks_due(asked: Option<u64>, told: bool) -> Ask
+    ensures { result ≡ asks_due asked told }
 {
-    match deed {
-        FollowDeed::Leave => false,
-        FollowDeed::Nothing | FollowDeed::Run { .. } => is_due(asked, reading),
+    match asked {
+        Some(_) => {
+            if told {
+                Ask::Ticket
+            } else {
+                Ask::TicketAndList
+            }
+        }
+        None => Ask::Ticket,
     }
 }
 
-fn asked_after(asks: bool, reading: u64, asked: Option<u64>) -> Option<u64>
-    ensures { result ≡ asked_after asks reading asked }
+fn asks(deed: FollowDeed, asked: Option<u64>, told: bool, reading: u64) -> Ask
+    ensures { result ≡ asks deed asked told reading }
 {
-    if asks { Some(reading) } else { asked }
+    match deed {
+        FollowDeed::Leave => Ask::Nothing,
+        FollowDeed::Nothing | FollowDeed::Run { .. } => {
+            if is_due(asked, reading) {
+                asks_due(asked, told)
+            } else {
+                Ask::Nothing
+            }
+        }
+    }
 }
 
-// Asks for a list at this reading, where that is to be done.
-fn ask<H: Host>(
+fn asked_after(ask: Ask, reading: u64, asked: Option<u64>) -> Option<u64>
+    ensures { result ≡ asked_after ask reading asked }
+{
+    match ask {
+        Ask::Nothing => asked,
+        Ask::Ticket | Ask::TicketAndList => Some(reading),
+    }
+}
+
+fn told_after(ask: Ask, told: bool) -> bool
+    ensures { result ≡ told_after ask told }
+{
+    match ask {
+        Ask::Nothing => told,
+        Ask::Ticket | Ask::TicketAndList => false,
+    }
+}
+
+fn term_after(ask: Ask, term: u32) -> u32
+    ensures { result ≡ term_after ask term }
+{
+    match ask {
+        Ask::Nothing | Ask::Ticket => term,
+        Ask::TicketAndList => 0,
+    }
+}
+
+fn send_request<H: Host>(
     f: &Following,
-    asks: bool,
     reading: u64,
     room: &mut Room,
     host: &mut H,
 ) -> Result<(), Failed>
-    ensures past { GrewBy (H.past host.old) (H.past host.new) (ask_calls f.now asks reading result) }
+    ensures past { GrewBy (H.past host.old) (H.past host.new)
+        (Entry.Send f.now.to (request_bytes f.now reading) result ∷ []) }
     ensures later { H.faults host.old ≤ H.faults host.new }
 {
-    if !asks {
-        return Ok(());
-    }
     put_request(f, reading, &mut room.frame);
     host.send(&f.to, room.frame.bytes())
 }
 
-// The status of a run that ended.
+fn send_list_request<H: Host>(
+    f: &Following,
+    reading: u64,
+    room: &mut Room,
+    host: &mut H,
+) -> Result<(), Failed>
+    ensures past { GrewBy (H.past host.old) (H.past host.new)
+        (Entry.Send f.now.to (list_bytes f.now reading) result ∷ []) }
+    ensures later { H.faults host.old ≤ H.faults host.new }
+{
+    put_list_request(f, reading, &mut room.frame);
+    host.send(&f.to, room.frame.bytes())
+}
+
+// Sends the requests at this reading.
+fn send_asked<H: Host>(f: &Following, ask: Ask, reading: u64, room: &mut Room, host: &mut H) -> Sent
+    ensures past { GrewBy (H.past host.old) (H.past host.new) (ask_calls f.now ask reading result) }
+    ensures later { H.faults host.old ≤ H.faults host.new }
+{
+    match ask {
+        Ask::Nothing => Sent {
+            ticket: Ok(()),
+            list: Ok(()),
+        },
+        Ask::Ticket => Sent {
+            ticket: send_request(f, reading, room, host),
+            list: Ok(()),
+        },
+        Ask::TicketAndList => {
+            let ticket = send_request(f, reading, room, host);
+            let list = send_list_request(f, reading, room, host);
+            Sent { ticket, list }
+        }
+    }
+}
+
+// Returns the status of a run that ended.
 fn status_of(answer: &Result<Arrival, Failed>) -> Option<i32> {
     match answer {
         Ok(Arrival::Handler { status, .. }) => Some(*status),
@@ -119,18 +232,18 @@ fn status_of(answer: &Result<Arrival, Failed>) -> Option<i32> {
     }
 }
 
-/// What became of a turn.
+/// The result of a turn.
 #[derive(Clone, Copy)]
 pub(crate) struct Made {
     pub deed: FollowDeed,
     /// The reading of the turn, in milliseconds.
     pub reading: u64,
-    /// What came before it.
+    /// What was learnt before the reading.
     pub heard: News,
 }
 
-/// One turn: what comes and a reading, the run of what is to be done, and the request for a list where one is due. A
-/// request that cannot be sent is passed over, and a run that cannot be begun is told at the next turn.
+/// Makes one turn: an arrival and a reading, the run of the action, and the requests if they are due. A request that
+/// cannot be sent is ignored, and a run that cannot be started is reported in the next turn.
 pub(crate) fn turn<H: Host, W: Watch>(
     f: &Following,
     seat: &mut Seat,
@@ -143,15 +256,20 @@ pub(crate) fn turn<H: Host, W: Watch>(
 {
     let answer = host.next(100, &mut room.datagram);
     let reading = host.now();
+    let standing = standing_at(f, seat.asked, &answer, &room.datagram);
     let heard = news_of(f, seat, &answer, &room.datagram);
     let left = failed_left(seat.failed, &answer);
+    let term = term_heard(standing, seat.term);
+    let told = is_told(standing, seat.told);
     let before = seat.follower.state();
     let deed = seat.follower.step(reading, heard);
-    let started = run(f, deed, host);
-    let is_asking = asks(deed, seat.asked, reading);
-    let _sent = ask(f, is_asking, reading, room, host);
+    let started = run(f, term, deed, host);
+    let asking = asks(deed, seat.asked, told, reading);
+    let _sent = send_asked(f, asking, reading, room, host);
     seat.failed = failed_after(left, deed, &started);
-    seat.asked = asked_after(is_asking, reading, seat.asked);
+    seat.asked = asked_after(asking, reading, seat.asked);
+    seat.told = told_after(asking, told);
+    seat.term = term_after(asking, term);
     watch.see(&Seen {
         margins: f.margins,
         reading,
@@ -169,12 +287,12 @@ pub(crate) fn turn<H: Host, W: Watch>(
     }
 }
 
-/// Since which reading a list is awaited, in milliseconds.
+/// Since when an answer is awaited, in milliseconds.
 #[derive(Clone, Copy)]
 pub(crate) enum Awaited {
-    /// None was told since the first turn.
+    /// None has arrived since the first turn.
     Begun(u64),
-    /// One was told then.
+    /// One arrived then.
     Told(u64),
 }
 
@@ -212,16 +330,16 @@ fn is_unheard(awaited: Option<Awaited>, reading: u64) -> bool
 /// How a following ended.
 #[derive(Clone, Copy, PartialEq, Eq)]
 pub enum FollowEnd {
-    /// The end was asked for, and the service is stopped.
+    /// The end was requested, and the service is stopped.
     Left,
-    /// This site's daemon told no authentic list for too long: it may have another key by now.
+    /// This site's daemon sent no authentic answer for too long: it may have another key by now.
     Unheard,
     /// All its turns were made.
     Spent,
 }
 
-/// Has the service follow its ticket from this seat, until the end is asked for, or no list is told for 1.5 s behind one
-/// or for 10 s from the first turn on.
+/// Makes the service follow its ticket from this seat, until the end is requested, or no answer arrives for 1.5 s
+/// after another one or for 10 s after the first turn.
 pub fn follow<H: Host, W: Watch>(
     f: &Following,
     seat: &mut Seat,

@@ -1,36 +1,36 @@
-//! Who is told what a follower does, and what it begins with.
+//! Who observes a follower, and what a follower begins with.
 
 use booth_follow_rule::{FollowDeed, Margins, News, State};
 
-/// What a turn did.
+/// The record of a turn.
 #[derive(Clone, Copy)]
 pub struct Seen {
     pub margins: Margins,
     /// The reading of the turn, in milliseconds.
     pub reading: u64,
-    /// What came before the reading.
+    /// What was learnt before the reading.
     pub heard: News,
-    /// The status with which a run ended, if that came.
+    /// The status with which a run ended, if one did.
     pub status: Option<i32>,
-    /// What the follower knew before that.
+    /// What the follower knew before the turn.
     pub before: State,
     pub deed: FollowDeed,
-    /// What it knows after its deed.
+    /// What it knows after its action.
     pub after: State,
-    /// Whether what was to be run was begun.
+    /// Whether the run of the action was started.
     pub is_begun: bool,
 }
 
-/// Is told each turn of a follower. What it does changes nothing of what the follower does.
+/// Observes each turn of a follower. Nothing that it does changes the follower's actions.
 pub trait Watch {
     /// A turn was made.
     fn see(&mut self, seen: &Seen);
 
-    /// The keys were read again, since no list was told; or there were none to read, and those from before stay.
+    /// The keys were read again, since no answer had arrived. If they could not be read, the old keys stay.
     fn see_keys(&mut self, is_read: bool);
 }
 
-/// Nobody.
+/// An observer that does nothing.
 #[derive(Clone, Copy)]
 pub struct Unwatched;
 
@@ -40,7 +40,7 @@ impl Watch for Unwatched {
     fn see_keys(&mut self, _is_read: bool) {}
 }
 
-/// What a following begins with beside what it is asked for.
+/// What a following begins with, besides its command line.
 #[derive(Clone, Copy)]
 pub struct Setting<W> {
     /// The end in milliseconds until which an earlier follower left the service running, if it did.
@@ -49,7 +49,7 @@ pub struct Setting<W> {
 }
 
 impl Setting<Unwatched> {
-    /// No earlier follower left an end, and nobody watches.
+    /// Returns the setting in which no earlier follower left an end, and nobody observes.
     pub fn bare() -> Setting<Unwatched> {
         Setting {
             left: None,

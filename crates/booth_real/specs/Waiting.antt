@@ -1,11 +1,11 @@
--- Datagrams that were taken from the system and not given yet.
+-- Datagrams that were taken from the system and not returned yet.
 use Rattle.std.specs.Prelude.{◌≡◌, ◌≤◌, ◌<◌, ◌+◌, ℕ, List, [], ◌∷◌, Option, Some, None, drop, take}
 use Rattle.booth_base.specs.declared.address.Peer.{Peer}
 use Rattle.booth_host.specs.declared.datagram.TheConstants.{DATAGRAM_BYTES}
 use Rattle.booth_real.specs.declared.backlog.Held.{Held}
 use Rattle.booth_real.specs.declared.backlog.TheConstants.{BACKLOG_BYTES, BACKLOG_DATAGRAMS}
 
--- datagrams whose bytes stand one behind the other: each has its sender, and so many of the bytes
+-- datagrams whose bytes are stored one behind the other: each has its sender and its number of bytes
 abbrev pub cut_by : List Held → List ℕ → List (Peer × List ℕ)
 cut_by [] bytes = []
 cut_by (held ∷ rest) bytes = (held.from, take held.length bytes) ∷ cut_by rest (drop held.length bytes)
@@ -15,16 +15,16 @@ abbrev pub total : List Held → ℕ
 total [] = 0
 total (held ∷ rest) = held.length + total rest
 
--- what waits, in the order in which it came, where so many of the bytes were given
+-- what waits, in the order of arrival, after this number of bytes was returned
 abbrev pub waits : List Held → ℕ → List ℕ → List (Peer × List ℕ)
 waits held given bytes = cut_by held (drop given bytes)
 
--- there is room for one more, whatever its length, behind so many bytes and datagrams
+-- there is room for one more datagram of any length behind these bytes and datagrams
 pub record HasRoom (bytes datagrams : ℕ) : Type 0 where
   pub within : bytes + DATAGRAM_BYTES ≤ BACKLOG_BYTES
   pub place : datagrams < BACKLOG_DATAGRAMS
 
--- the first that waits is given, where one waits, and the others wait on
+-- if one waits, the first is returned and the others keep waiting
 abbrev pub GivesFirst : List (Peer × List ℕ) → Option Peer → List ℕ → List (Peer × List ℕ) → Type 0
 GivesFirst [] None bytes others = others ≡ []
 GivesFirst (first ∷ rest) (Some from) bytes others = (first ≡ (from, bytes)) × (others ≡ rest)

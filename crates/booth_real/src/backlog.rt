@@ -1,6 +1,7 @@
-//! Datagrams that were taken from the system before anybody asked for them, in the order in which they came.
+//! Datagrams that were taken from the system before anybody asked for them, in the order of arrival.
 //!
-//! While a turn keeps thousands of records, answers come faster than the system holds them for one socket.
+//! While a turn writes thousands of records, answers arrive faster than the system's queue of one socket can hold
+//! them.
 ghost use Rattle.std.specs.Prelude.{◌≡◌, ◌≤◌, ◌+◌, ◌++◌, [], ◌∷◌, length, IfOk, IsFalse, IsTrue, vec_capacity, vec_len};
 ghost use Rattle.std.specs.List.{All};
 ghost use Rattle.std.specs.VecDeque.{deque_capacity};
@@ -13,29 +14,29 @@ use booth_host::{DATAGRAM_BYTES, Datagram};
 use std::alloc::{AllocError, Global};
 use std::collections::VecDeque;
 
-/// The bytes for what waits.
+/// The capacity in bytes.
 pub(crate) const BACKLOG_BYTES: usize = 4_194_304;
 
 /// The most datagrams that wait.
 pub(crate) const BACKLOG_DATAGRAMS: usize = 16_384;
 
-/// Half of the bytes: so many that were given are let go.
+/// Half of the capacity: once so many bytes were returned, their room is freed.
 const GIVEN_BYTES: usize = 2_097_152;
 
-/// One that waits: its sender, and how many bytes it has.
+/// One datagram that waits: its sender, and how many bytes it has.
 #[derive(Clone, Copy)]
 struct Held {
     from: Peer,
     length: usize,
 }
 
-/// What waits. Its memory is taken once.
+/// The datagrams that wait. All memory is allocated at the start.
 #[derive(Drop)]
 pub(crate) struct Backlog {
     held: VecDeque<Held>,
-    /// The bytes of all that waits, behind those that were given.
+    /// The bytes of everything that waits, behind those that were returned.
     bytes: Vec<u8>,
-    /// How many bytes were given.
+    /// How many bytes were returned.
     given: usize,
     ghost places: { BACKLOG_DATAGRAMS ≤ deque_capacity held },
     ghost few: { length held.items ≤ BACKLOG_DATAGRAMS },
@@ -46,7 +47,7 @@ pub(crate) struct Backlog {
 }
 
 impl Backlog {
-    /// Nothing waits, and all memory is taken.
+    /// Returns an empty backlog with all its memory.
     pub(crate) fn new(alloc: Global) -> Result<Backlog, AllocError>
         ensures { IfOk result (λ backlog. waits backlog.held.items backlog.given backlog.bytes.items ≡ []) }
     {
@@ -57,7 +58,7 @@ impl Backlog {
         })
     }
 
-    /// Whether there is room for one more, whatever its length.
+    /// Returns whether there is room for one more datagram of any length.
     pub(crate) fn has_room(&self) -> bool
         ensures room { IsTrue result → HasRoom (vec_len self.now.bytes) (length self.now.held.items) }
         ensures full { IsFalse result → HasRoom (vec_len self.now.bytes) (length self.now.held.items) → ⊥ }
@@ -65,14 +66,14 @@ impl Backlog {
         self.bytes.len() <= BACKLOG_BYTES - DATAGRAM_BYTES && self.held.len() < BACKLOG_DATAGRAMS
     }
 
-    /// Whether nothing waits.
+    /// Returns whether nothing waits.
     pub(crate) fn is_empty(&self) -> bool
         ensures { IsTrue result → waits self.now.held.items self.now.given self.now.bytes.items ≡ [] }
     {
         self.held.is_empty()
     }
 
-    /// Adds one behind the others.
+    /// Appends a datagram.
     pub(crate) fn put(&mut self, from: &Peer, bytes: &[u8])
         requires room { HasRoom (vec_len self.old.bytes) (length self.old.held.items) }
         requires short { length bytes.now ≤ DATAGRAM_BYTES }
@@ -86,7 +87,7 @@ impl Backlog {
         });
     }
 
-    /// Puts the first that waits into `into`, where one waits, and says whose it is.
+    /// Puts the first datagram that waits into `into`, if one waits, and returns its sender.
     pub(crate) fn give(&mut self, into: &mut Datagram) -> Option<Peer>
         ensures { GivesFirst (waits self.old.held.items self.old.given self.old.bytes.items) result into.new
             (waits self.new.held.items self.new.given self.new.bytes.items) }
@@ -99,7 +100,7 @@ impl Backlog {
         Some(first.from)
     }
 
-    /// Forgets all that waits.
+    /// Drops everything that waits.
     pub(crate) fn clear(&mut self)
         ensures { waits self.new.held.items self.new.given self.new.bytes.items ≡ [] }
     {
@@ -108,7 +109,7 @@ impl Backlog {
         self.given = 0;
     }
 
-    // Lets go of the bytes that were given, where there are many or nothing waits.
+    // Frees the room of the returned bytes, if there are many or nothing waits.
     fn tidy(&mut self)
         ensures { waits self.new.held.items self.new.given self.new.bytes.items
             ≡ waits self.old.held.items self.old.given self.old.bytes.items }

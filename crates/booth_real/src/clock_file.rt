@@ -1,4 +1,4 @@
-//! The file of a directory that its clock is kept in, and the id of the boot.
+//! The file in a records directory that holds the directory's clock, and the id of the boot.
 
 use crate::files::{if_found, make_named, open_to_look};
 use crate::record_disk::fill;
@@ -10,21 +10,21 @@ use std::io::{Error, ErrorKind};
 use std::os::unix::fs::FileExt;
 use std::{fs, io};
 
-/// The file that the clock is kept in.
+/// The file that holds the clock.
 const CLOCK: &str = "booth.clock";
 
-/// The file that is written before it takes the place of that.
+/// The file that is written first, and then renamed to `booth.clock`.
 const NEXT: &str = "booth.clock.new";
 
-/// Where the kernel tells the id of the boot.
+/// Where the kernel reports the id of the boot.
 const BOOT_ID: &str = "/proc/sys/kernel/random/boot_id";
 
-// Reads what this file begins with.
+// Reads the beginning of this file.
 fn read_first(rt: &HostRuntime, path: &str, into: &mut [u8]) -> io::Result<usize> {
     fill(&File::open(rt, path)?, 0, into)
 }
 
-/// The id of this boot of the machine.
+/// Returns the id of this boot of the machine.
 pub(crate) fn boot_id(rt: &HostRuntime) -> io::Result<BootId> {
     let mut bytes = [0u8; 36];
     let count = read_first(rt, BOOT_ID, &mut bytes)?;
@@ -35,7 +35,7 @@ pub(crate) fn boot_id(rt: &HostRuntime) -> io::Result<BootId> {
     }
 }
 
-// The clock that this file keeps.
+// Returns the clock in this file.
 fn clock_of(file: &File) -> io::Result<KeptClock> {
     let mut bytes = [0u8; 64];
     let count = fill(file, 0, &mut bytes)?;
@@ -45,7 +45,7 @@ fn clock_of(file: &File) -> io::Result<KeptClock> {
     }
 }
 
-/// The clock that this directory keeps, if it keeps one.
+/// Returns the clock of this directory, if it holds one.
 pub(crate) fn read_clock(rt: &HostRuntime, directory: &PathText) -> io::Result<Option<KeptClock>> {
     let path = path_in(directory, CLOCK)?;
     match if_found(open_to_look(rt, path.as_str()))? {
@@ -54,19 +54,19 @@ pub(crate) fn read_clock(rt: &HostRuntime, directory: &PathText) -> io::Result<O
     }
 }
 
-// Puts a clock into an empty file: it is on the disk then.
+// Writes a clock into an empty file, and syncs it.
 fn put(file: &File, clock: &KeptClock) -> io::Result<()> {
     file.write_all_at(&clock.encode(), 0)?;
     file.sync_all()
 }
 
-// Makes a file of this clock, in the place of what a write that was cut short left.
+// Creates a file with this clock, and replaces what an interrupted write left.
 fn make_next(rt: &HostRuntime, path: &str, clock: &KeptClock) -> io::Result<()> {
     if_found(fs::remove_file(rt, path))?;
     put(&make_named(rt, path)?, clock)
 }
 
-/// Keeps this clock in a directory: it is on the disk then, or the one before is.
+/// Writes this clock to a directory. After an error the previous clock is still on the disk.
 pub(crate) fn write_clock(
     rt: &HostRuntime,
     directory: &PathText,

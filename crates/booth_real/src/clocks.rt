@@ -1,4 +1,4 @@
-//! The clocks of the system, and the one that a host tells time by.
+//! The system's clocks, and the clock by which a host tells the time.
 
 use crate::clock_file::{boot_id, read_clock, write_clock};
 use booth_base::PathText;
@@ -8,60 +8,60 @@ use libc::types::timespec;
 use std::io;
 use std::io::{Error, ErrorKind};
 
-/// Linux's clock of the time since the boot, also while the machine slept.
+/// Linux's clock of the time since the boot, which also counts while the machine sleeps.
 const CLOCK_BOOTTIME: i32 = 7;
 
-/// How often both clocks are read, at most, until they are read at one moment.
+/// How often both clocks are read, at most, until both readings belong to one moment.
 const TRIES: u32 = 100;
 
-/// How often a reading that was reached is kept, in milliseconds.
+/// How often the current reading is written to disk, in milliseconds.
 const KEEP_EVERY_MS: u64 = 60_000;
 
-/// How often a step of the wall clock is looked for, in milliseconds.
+/// How often the wall clock is checked for a step, in milliseconds.
 const LOOK_EVERY_MS: u64 = 100;
 
-/// What a host tells time by.
+/// The source of a host's time.
 #[derive(Clone, Copy)]
 enum Source {
-    /// The wall clock; with the readings at which it was told last, if it was.
+    /// The wall clock, with the readings at which it was reported last, if it was.
     Wall(Option<Readings>),
-    /// The clock of a directory that is still to be opened; with the readings at which it began.
+    /// The clock of a directory that is not open yet, with the readings at which the clock began.
     Awaited(OwnClock, Readings),
     /// The clock of the open directory.
     Open(OwnClock),
-    /// Nothing: a reading was asked for and could not be had.
+    /// None: a reading was asked for and failed.
     Unread,
 }
 
 /// How the clock of an open directory began.
 #[derive(Clone, Copy)]
 pub(crate) enum Opening {
-    /// It is kept.
+    /// The clock is on the disk.
     Kept,
-    /// Its file system takes no writes.
+    /// The file system is read-only.
     ReadOnly,
 }
 
-/// What a host tells of time.
+/// The clocks of a host.
 #[derive(Drop)]
 pub(crate) struct Clocks {
     source: Source,
     /// Whether the offset of the open directory's clock is on the disk.
     is_kept: bool,
-    /// The reading at which the clock was to be kept last.
+    /// The reading at which the clock should have been written last.
     kept_at: u64,
-    /// The time since the boot at which a step of the wall clock was looked for last.
+    /// When the wall clock was last checked for a step, in milliseconds since the boot.
     looked_at: u64,
 }
 
-/// A reading that is told, and the step of the wall clock that is seen with it.
+/// A clock reading, and the step of the wall clock that was found with it.
 #[derive(Clone, Copy)]
 pub(crate) struct Told {
     pub(crate) reading: u64,
     pub(crate) step: Option<Step>,
 }
 
-// A clock's reading in milliseconds.
+// Returns a clock's reading in milliseconds.
 fn reading_of(clock: i32) -> io::Result<u64> {
     let mut time = timespec {
         tv_sec: 0,
@@ -80,12 +80,12 @@ fn reading_of(clock: i32) -> io::Result<u64> {
     )
 }
 
-/// The time since the boot, in milliseconds.
+/// Returns the time since the boot, in milliseconds.
 pub(crate) fn since_boot() -> io::Result<u64> {
     reading_of(CLOCK_BOOTTIME)
 }
 
-// Both clocks, where they were read within one millisecond.
+// Returns the readings of both clocks, if they were taken within one millisecond.
 fn read_both() -> io::Result<Option<Readings>> {
     let boot = since_boot()?;
     let wall = reading_of(CLOCK_REALTIME)?;
@@ -96,7 +96,8 @@ fn read_both() -> io::Result<Option<Readings>> {
     }
 }
 
-// Both clocks at one moment. They are read again where this process was held up between them.
+// Returns the readings of both clocks at one moment. If this process was held up between the two, they are read
+// again.
 fn readings() -> io::Result<Readings> {
     for _ in 0..TRIES {
         if let Some(readings) = read_both()? {
@@ -109,7 +110,7 @@ fn readings() -> io::Result<Readings> {
     ))
 }
 
-// Whether what was told before a directory was opened are readings of its clock.
+// Returns whether the readings that were reported before a directory was opened are readings of its clock.
 fn was_told(source: Source, clock: OwnClock) -> bool {
     match source {
         Source::Wall(None) | Source::Open(_) => true,
@@ -119,12 +120,13 @@ fn was_told(source: Source, clock: OwnClock) -> bool {
     }
 }
 
-// Why a clock does not begin.
+// Returns the error of a clock that cannot begin.
 fn unbegun(words: &str) -> Error {
     Error::new(ErrorKind::InvalidData, words)
 }
 
-// The clock of this boot, by what is kept and these readings. What was told before is to be readings of it.
+// Returns the clock of this boot from the stored clock and these readings. What was reported before must agree with
+// it.
 fn begun(
     source: Source,
     boot: BootId,
@@ -143,16 +145,16 @@ fn begun(
     }
 }
 
-// A step of the wall clock against this one.
+// Returns the wall clock's step against this clock, if it has one.
 fn look_for_step(clock: &mut OwnClock) -> Option<Step> {
-    // (where the two are not read at one moment, a later look tells of a step)
+    // (if the two readings do not belong to one moment, a later check finds the step)
     match read_both() {
         Ok(Some(readings)) => clock.step(readings),
         Ok(None) | Err(_) => None,
     }
 }
 
-// Reads the clock of an open directory, and looks for a step where none was looked for shortly before.
+// Reads the clock of an open directory, and checks for a step unless one was checked for shortly before.
 fn read_open(clock: &mut OwnClock, looked_at: &mut u64) -> io::Result<Told> {
     let boot = since_boot()?;
     let reading = clock.read(boot);
@@ -165,7 +167,7 @@ fn read_open(clock: &mut OwnClock, looked_at: &mut u64) -> io::Result<Told> {
 }
 
 impl Clocks {
-    /// The wall clock, which is not read yet.
+    /// Returns the wall clock, which has not been read yet.
     pub(crate) fn new() -> Clocks {
         Clocks {
             source: Source::Wall(None),
@@ -187,7 +189,8 @@ impl Clocks {
         }
     }
 
-    // Reads the wall clock. Once that fails before a directory is opened, none is: what was told was no reading.
+    // Reads the wall clock. After a failed reading no directory is opened later, since the reported time was no
+    // reading.
     fn read_wall(&mut self) -> io::Result<Told> {
         match readings() {
             Ok(readings) => {
@@ -206,7 +209,7 @@ impl Clocks {
         }
     }
 
-    /// The reading that was told last of the own clock; 0 where there is none.
+    /// Returns the last reading of the directory's clock, or 0 if there is none.
     pub(crate) fn last(&self) -> u64 {
         match self.source {
             Source::Wall(_) | Source::Unread => 0,
@@ -214,7 +217,7 @@ impl Clocks {
         }
     }
 
-    // The reading that would be told now. Nothing is noted of it.
+    // Returns the current reading. It changes nothing.
     fn reading(&self) -> io::Result<u64> {
         match self.source {
             Source::Wall(_) | Source::Unread => reading_of(CLOCK_REALTIME),
@@ -225,8 +228,8 @@ impl Clocks {
         }
     }
 
-    /// How many milliseconds are left until this second since 1970, by the clock that is told; 0 if it is over, or if
-    /// the clock cannot be read.
+    /// Returns how many milliseconds are left until this second since 1970, by the host's clock. It returns 0 if that
+    /// second is over or the clock cannot be read.
     pub(crate) fn left_until(&self, second: u64) -> u64 {
         match self.reading() {
             Ok(reading) => second.saturating_mul(1000).saturating_sub(reading),
@@ -234,7 +237,7 @@ impl Clocks {
         }
     }
 
-    // The readings at which a clock of a directory begins: those that were told by, where there are any.
+    // Returns the readings at which a directory's clock begins: those that were reported, if any were.
     fn begin_at(&self) -> io::Result<Readings> {
         match self.source {
             Source::Wall(Some(readings)) | Source::Awaited(_, readings) => Ok(readings),
@@ -246,7 +249,8 @@ impl Clocks {
         }
     }
 
-    /// Has `now` tell the clock that this directory keeps, before it is opened. Where that cannot be, none is opened.
+    /// Makes `now` report the clock of this directory before the directory is opened. If that fails, no directory is
+    /// opened.
     pub(crate) fn await_clock(&mut self, rt: &HostRuntime, directory: &PathText) -> io::Result<()> {
         match self.clock_in(rt, directory) {
             Ok((clock, readings)) => {
@@ -260,7 +264,7 @@ impl Clocks {
         }
     }
 
-    /// Has `now` tell the clock that this directory keeps of this boot. It fails where none was kept since the boot.
+    /// Makes `now` report the clock that a daemon writes to this directory. Fails if none was written since the boot.
     pub(crate) fn share_clock(&mut self, rt: &HostRuntime, directory: &PathText) -> io::Result<()> {
         let boot = boot_id(rt)?;
         match read_clock(rt, directory)? {
@@ -272,7 +276,7 @@ impl Clocks {
         }
     }
 
-    // The clock of this directory, and the readings at which it begins.
+    // Returns the clock of this directory, and the readings at which it begins.
     fn clock_in(&self, rt: &HostRuntime, directory: &PathText) -> io::Result<(OwnClock, Readings)> {
         let readings = self.begin_at()?;
         let kept = read_clock(rt, directory)?;
@@ -280,9 +284,10 @@ impl Clocks {
         Ok((clock, readings))
     }
 
-    /// Tells time from now on by the clock of this directory, which is open and locked. It is kept at once: nothing is
-    /// promised by a clock whose offset is not on the disk. Where it was kept in this boot, a keep that fails is passed
-    /// over; and where the file system takes no writes, which keeps no promise either.
+    /// Tells the time by the clock of this directory from now on. The directory is open and locked. The clock is
+    /// written at once, since the daemon promises nothing by a clock whose offset is not on the disk. A failed write
+    /// is ignored if the clock was written before in this boot, and also on a read-only file system, on which the
+    /// daemon makes no promise at all.
     pub(crate) fn begin(&mut self, rt: &HostRuntime, directory: &PathText) -> io::Result<Opening> {
         let (clock, _) = self.clock_in(rt, directory)?;
         let written = write_clock(rt, directory, &clock.kept());
@@ -293,7 +298,7 @@ impl Clocks {
         Ok(begun)
     }
 
-    /// Has the clock of this open directory be kept, where it could not be when it began.
+    /// Writes the clock of this open directory, if that failed when the clock began.
     pub(crate) fn settle(&mut self, rt: &HostRuntime, directory: &PathText) -> io::Result<()> {
         if self.is_kept {
             return Ok(());
@@ -305,14 +310,15 @@ impl Clocks {
         Ok(())
     }
 
-    /// Tells time by the wall clock, as where no directory is open.
+    /// Tells the time by the wall clock, as if no directory were open.
     pub(crate) fn leave(&mut self) {
         if let Source::Open(_) = self.source {
             self.source = Source::Wall(None);
         }
     }
 
-    /// Keeps what was reached in this directory, where a minute went by; says whether it did and how that ended.
+    /// Writes the current reading to this directory, if the last write was a minute ago. Returns whether it wrote,
+    /// and the result of the write.
     pub(crate) fn keep(
         &mut self,
         rt: &HostRuntime,
@@ -332,7 +338,7 @@ impl Clocks {
     }
 }
 
-// How a clock begins whose first keep ended so, and which is on the disk or not.
+// Returns how a clock begins after its first write had this result. The clock may be on the disk already.
 fn begun_by(written: io::Result<()>, is_kept: bool) -> io::Result<Opening> {
     match written {
         Ok(()) => Ok(Opening::Kept),
@@ -342,7 +348,7 @@ fn begun_by(written: io::Result<()>, is_kept: bool) -> io::Result<Opening> {
     }
 }
 
-// Whether a directory keeps this offset of this boot.
+// Returns whether a directory holds this offset of this boot.
 fn is_kept(rt: &HostRuntime, directory: &PathText, clock: &KeptClock) -> bool {
     match read_clock(rt, directory) {
         Ok(Some(kept)) => kept.boot == clock.boot && kept.offset == clock.offset,

@@ -1,4 +1,4 @@
-//! How long a write of a record may take.
+//! The time limit of a record's write.
 
 use crate::clocks::since_boot;
 use arrayvec::ArrayString;
@@ -6,15 +6,15 @@ use std::fmt::Write;
 use std::io;
 use std::io::{Error, ErrorKind};
 
-/// A write that has begun, and how long it may take, in milliseconds.
+/// A write that has begun, and its limit in milliseconds.
 #[derive(Clone, Copy)]
 pub(crate) struct Deadline {
-    /// When it began, since the boot.
+    /// When the write began, in milliseconds since the boot.
     began: u64,
     limit: u64,
 }
 
-// What is said of a write that takes longer.
+// Returns the error of a write that exceeded its limit.
 fn late(took: u64, limit: u64) -> Error {
     let mut words = ArrayString::<120>::new();
     let _ = write!(words, "it took {took} ms, and a write may take {limit} ms");
@@ -22,7 +22,8 @@ fn late(took: u64, limit: u64) -> Error {
 }
 
 impl Deadline {
-    /// The deadline of a write that begins now, where there is a limit. Without a clock there is none.
+    /// Returns the deadline of a write that begins now, if there is a limit. If the clock cannot be read, there is no
+    /// deadline.
     pub(crate) fn begin(limit: Option<u64>) -> Option<Deadline> {
         match (limit, since_boot()) {
             (Some(limit), Ok(began)) => Some(Deadline { began, limit }),
@@ -30,7 +31,7 @@ impl Deadline {
         }
     }
 
-    /// Fails where the time is over.
+    /// Fails if the deadline has passed.
     pub(crate) fn require(&self) -> io::Result<()> {
         let Ok(now) = since_boot() else {
             return Ok(());

@@ -1,14 +1,14 @@
-//! How many open files this process may have.
+//! How many files this process may have open.
 
 use libc::types::rlimit;
 
-/// The most open files that a daemon has beside its links over TCP: the standard streams, and two more for its lines;
-/// three locks; two sockets for datagrams; the journal; a record with its directory, or the clock; those of a program
-/// that is being started; and what links are waited for by, the listener, and a peer that was just taken.
+/// The most files that a daemon has open besides its TCP links: the standard streams, and two more for its lines;
+/// three locks; two UDP sockets; the journal; a record with its directory, or the clock; those of a program that is
+/// being started; and the descriptors to wait for links, the listener, and a peer that was just accepted.
 const WITHOUT_LINKS: u64 = 24;
 
-/// For how many links over TCP this process may have open files, beside those that a daemon needs itself: by its limit
-/// (getrlimit(2), RLIMIT_NOFILE). Where that cannot be read there is none.
+/// Returns how many TCP links this process may have open besides the files that a daemon needs itself, by its limit
+/// (getrlimit(2), RLIMIT_NOFILE). Returns 0 if the limit cannot be read.
 pub fn files_for_links() -> u64 {
     let mut limit = rlimit {
         rlim_cur: u64::MAX,

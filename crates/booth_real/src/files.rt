@@ -1,4 +1,4 @@
-//! The bytes of a regular file.
+//! The contents of regular files.
 
 use std::alloc::Global;
 use std::fs::{File, Metadata, OpenOptions};
@@ -9,10 +9,10 @@ use std::{fs, io};
 /// The most bytes of a file that is read.
 const FILE_BYTES: usize = 1 << 30;
 
-/// Who may open a file that is made here: its owner, who may read and write it.
+/// The mode of a new file: its owner alone may read and write it.
 pub(crate) const OWNERS_FILE: u32 = 0o600;
 
-/// Fails where this is no regular file.
+/// Fails if this is not a regular file.
 pub(crate) fn require_regular(metadata: &Metadata) -> io::Result<()> {
     if metadata.is_file() {
         Ok(())
@@ -21,20 +21,20 @@ pub(crate) fn require_regular(metadata: &Metadata) -> io::Result<()> {
     }
 }
 
-/// Whether these are one file, by whatever path each was found.
+/// Returns whether these are the same file, whatever path each was found by.
 pub(crate) fn is_same(one: &Metadata, other: &Metadata) -> bool {
     one.dev() == other.dev() && one.ino() == other.ino()
 }
 
-// What is known of a file, which has to be a regular one.
+// Returns the metadata of a file, which must be a regular file.
 fn regular(answer: io::Result<Metadata>) -> io::Result<Metadata> {
     let metadata = answer?;
     require_regular(&metadata)?;
     Ok(metadata)
 }
 
-/// Opens the regular file that has this name itself: a link to one is refused, and so is what is put in its place
-/// while it is opened. Nothing is opened that is no regular file, since to open a named pipe may wait for ever.
+/// Opens the regular file with this name. It refuses a symbolic link, and a file that replaced this one while it was
+/// being opened. It opens nothing but a regular file, since opening a named pipe may wait for ever.
 pub(crate) fn open_named(rt: &HostRuntime, path: &str, how: &OpenOptions) -> io::Result<File> {
     let named = regular(fs::symlink_metadata(rt, path))?;
     let file = how.open(rt, path)?;
@@ -45,12 +45,12 @@ pub(crate) fn open_named(rt: &HostRuntime, path: &str, how: &OpenOptions) -> io:
     }
 }
 
-/// The same, to read and to write: so no named pipe that takes the file's place has this wait.
+/// Opens the same to read and to write: then not even a named pipe that has replaced the file makes the call wait.
 pub(crate) fn open_to_change(rt: &HostRuntime, path: &str) -> io::Result<File> {
     open_named(rt, path, File::options().read(true).write(true))
 }
 
-/// The same, to read alone where the file system takes no writes.
+/// Opens the same, and only to read if the file system is read-only.
 pub(crate) fn open_to_look(rt: &HostRuntime, path: &str) -> io::Result<File> {
     match open_to_change(rt, path) {
         Err(error) if error.kind() == ErrorKind::ReadOnlyFilesystem => {
@@ -60,7 +60,7 @@ pub(crate) fn open_to_look(rt: &HostRuntime, path: &str) -> io::Result<File> {
     }
 }
 
-/// What was found, or none where the system says that there is nothing.
+/// Returns what was found, or `None` if the system says that there is nothing.
 pub(crate) fn if_found<T: Drop>(answer: io::Result<T>) -> io::Result<Option<T>> {
     match answer {
         Ok(value) => Ok(Some(value)),
@@ -69,7 +69,7 @@ pub(crate) fn if_found<T: Drop>(answer: io::Result<T>) -> io::Result<Option<T>> 
     }
 }
 
-/// Makes the file of this name, for its owner alone, and opens it to read and write. It fails where there is one.
+/// Creates the file with this name for its owner alone, and opens it to read and write. Fails if the file exists.
 pub(crate) fn make_named(rt: &HostRuntime, path: &str) -> io::Result<File> {
     File::options()
         .read(true)
@@ -79,12 +79,12 @@ pub(crate) fn make_named(rt: &HostRuntime, path: &str) -> io::Result<File> {
         .open(rt, path)
 }
 
-// What is said of a file that is too long.
+// Returns the error of a file that is too long.
 fn too_long() -> io::Error {
     io::Error::new(ErrorKind::InvalidInput, "it has more than 2^30 bytes")
 }
 
-// Fails where this is no regular file, or one that is too long.
+// Fails if this is not a regular file, or if it is too long.
 fn require_readable(answer: io::Result<Metadata>) -> io::Result<()> {
     if regular(answer)?.len() <= FILE_BYTES as u64 {
         Ok(())
@@ -93,8 +93,8 @@ fn require_readable(answer: io::Result<Metadata>) -> io::Result<()> {
     }
 }
 
-// Opens a regular file. It is looked at before it is opened, since to open a named pipe may wait for ever; and once
-// more, since another file may have taken its place.
+// Opens a regular file. It is checked before it is opened, since opening a named pipe may wait for ever, and again
+// after, since another file may have replaced it.
 fn open_regular(rt: &HostRuntime, path: &str) -> io::Result<File> {
     require_readable(fs::metadata(rt, path))?;
     let file = File::open(rt, path)?;
@@ -102,7 +102,7 @@ fn open_regular(rt: &HostRuntime, path: &str) -> io::Result<File> {
     Ok(file)
 }
 
-// Adds this piece, where the file is not too long: it may grow while it is read.
+// Appends this piece, unless the file becomes too long: it may grow while it is read.
 fn add_piece(bytes: &mut Vec<u8>, piece: &[u8]) -> io::Result<()> {
     if piece.len() > FILE_BYTES.saturating_sub(bytes.len()) {
         return Err(too_long());
@@ -111,7 +111,7 @@ fn add_piece(bytes: &mut Vec<u8>, piece: &[u8]) -> io::Result<()> {
     Ok(())
 }
 
-// Adds what is read next, and says whether there may be more.
+// Appends the next piece, and returns whether there may be more.
 fn has_more(file: &mut File, bytes: &mut Vec<u8>) -> io::Result<bool> {
     let mut piece = [0u8; 4096];
     match file.read(&mut piece) {
@@ -124,7 +124,7 @@ fn has_more(file: &mut File, bytes: &mut Vec<u8>) -> io::Result<bool> {
     }
 }
 
-// Adds all that is read of a file.
+// Appends the rest of a file.
 fn add_all(file: &mut File, bytes: &mut Vec<u8>) -> io::Result<()> {
     for _ in 0..u64::MAX {
         if !has_more(file, bytes)? {
@@ -134,7 +134,8 @@ fn add_all(file: &mut File, bytes: &mut Vec<u8>) -> io::Result<()> {
     Err(too_long())
 }
 
-/// All bytes of the regular file at this path, which has at most 2^30. No line says why it cannot be read.
+/// Returns the contents of the regular file at this path, which may have up to 2^30 bytes. On failure it logs
+/// nothing.
 pub fn contents(rt: &HostRuntime, alloc: Global, path: &str) -> io::Result<Vec<u8>> {
     let mut file = open_regular(rt, path)?;
     let mut bytes = Vec::new(alloc);

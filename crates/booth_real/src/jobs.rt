@@ -1,11 +1,12 @@
-//! The jobs of tickets' handlers: one in a lane of a ticket at a time, whose programs run one after the other.
+//! The jobs of the tickets' handlers. Each lane of a ticket has one job at a time, and a job runs its programs one
+//! after the other.
 //!
 //! Nothing here waits for a program.
 
 ghost use Rattle.std.specs.Prelude.{◌≡◌, ◌<◌, IfSome, vec_len};
 
 use crate::clocks::Clocks;
-use crate::programs::{FileName, is_directory, is_run_for, next_in_directory, start};
+use crate::programs::{FileName, Told, is_directory, is_run_for, next_in_directory, start};
 use crate::streams::ErrorStream;
 use booth_base::{Name, PathText};
 use booth_host::Job;
@@ -17,26 +18,28 @@ use std::process::Child;
 /// The status of a program that a signal ended.
 pub(crate) const SIGNALLED: i32 = 255;
 
-/// Which jobs of a ticket end one another: those of one lane.
+/// Jobs of a ticket in the same lane end one another; jobs in different lanes do not.
 #[derive(Clone, Copy, PartialEq, Eq)]
 enum Lane {
     /// The lane of every job, unless there are two lanes.
     Main,
-    /// The lane of jobs that run beside those of the first one.
+    /// The lane of jobs that run at the same time as those of the main lane.
     Beside,
 }
 
-// A job, and what runs of it.
+// A job, and its program that runs.
 #[derive(Drop)]
 struct Running {
     job: Job,
     lane: Lane,
-    /// The path of the configuration that the job was started under.
+    /// The path of the configuration when the job was started.
     conf_path: PathText,
+    /// Whether its programs get the term of the lease as a variable.
+    has_term: bool,
     error_stream: ErrorStream,
-    /// The program of the handler's directory that was started last, where it has one.
+    /// The program of the handler's directory that was started last, if the handler is a directory.
     program: Option<FileName>,
-    /// The program that runs; none where a directory has no programs.
+    /// The program that runs; none if a directory has no programs.
     child: Option<Child>,
 }
 
@@ -49,13 +52,13 @@ pub(crate) struct Ended {
     pub(crate) status: io::Result<i32>,
 }
 
-/// The jobs that run, at most one in a lane of a ticket, and programs that were ended and not yet seen to be over.
+/// The jobs that run, at most one per lane of a ticket, and killed programs that have not been seen to end yet.
 #[derive(Drop)]
 pub(crate) struct Jobs {
     running: Vec<Running>,
-    /// By their tickets and lanes, at most one of each.
+    /// By ticket and lane, at most one each.
     killed: Vec<(Name, Lane, Child)>,
-    /// The word of the programs whose jobs run beside others. There is one lane if there is no such word.
+    /// The argument of the programs that run in the second lane. Without it there is one lane.
     beside: Option<&'static str>,
     error_stream: ErrorStream,
 }
@@ -71,19 +74,26 @@ fn copy_of(job: &Job) -> Job {
 }
 
 impl Running {
-    // A job of which no program was started.
-    fn new(job: &Job, lane: Lane, conf_path: &PathText, error_stream: ErrorStream) -> Running {
+    // Returns a job of which no program was started.
+    fn new(
+        job: &Job,
+        lane: Lane,
+        conf_path: &PathText,
+        has_term: bool,
+        error_stream: ErrorStream,
+    ) -> Running {
         Running {
             job: copy_of(job),
             lane,
             conf_path: conf_path.copy(),
+            has_term,
             error_stream,
             program: None,
             child: None,
         }
     }
 
-    // Whether it is the job of this ticket in this lane.
+    // Returns whether this is the job of this ticket in this lane.
     fn is_in(&self, ticket: &Name, lane: Lane) -> bool {
         self.job.ticket == *ticket && self.lane == lane
     }
@@ -97,7 +107,7 @@ impl Running {
         }
     }
 
-    // Starts the next program of the handler's directory; none runs where none is left.
+    // Starts the next program of the handler's directory, if there is one.
     fn start_next(&mut self, rt: &HostRuntime, clocks: &Clocks) -> io::Result<()> {
         self.child = None;
         let next = next_in_directory(rt, &self.job.handler, self.program.as_ref())?;
@@ -108,25 +118,29 @@ impl Running {
         self.run(rt, clocks)
     }
 
-    // Starts the program of the handler's directory, where it has one, or else the handler itself.
+    // Starts the current program of the handler's directory, or the handler itself if it is a program.
     fn run(&mut self, rt: &HostRuntime, clocks: &Clocks) -> io::Result<()> {
         self.child = Some(self.started(rt, clocks)?);
         Ok(())
     }
 
-    // The same, as a child that was started. It is told how long the lease runs yet.
+    // Starts the same, and returns the child. The program is told how long the lease still lasts.
     fn started(&self, rt: &HostRuntime, clocks: &Clocks) -> io::Result<Child> {
+        let told = Told {
+            left_ms: clocks.left_until(self.job.expires),
+            conf_path: self.conf_path.as_str(),
+            has_term: self.has_term,
+        };
         start(
             rt,
             &self.job,
-            clocks.left_until(self.job.expires),
+            told,
             self.program.as_ref(),
-            self.conf_path.as_str(),
             self.error_stream,
         )
     }
 
-    // The status of the program that ran, once it is over; 0 where there is none.
+    // Returns the program's status once it has ended; 0 if no program runs.
     fn status(&mut self) -> io::Result<Option<i32>> {
         match &mut self.child {
             Some(child) => status_of(child),
@@ -134,13 +148,14 @@ impl Running {
         }
     }
 
-    // Starts the next program of a directory. Where none is left, the job ended with 0.
+    // Starts the next program of a directory. If there is none, the job ends with 0.
     fn go_on(&mut self, rt: &HostRuntime, clocks: &Clocks) -> io::Result<Option<i32>> {
         self.start_next(rt, clocks)?;
         Ok(if self.child.is_some() { None } else { Some(0) })
     }
 
-    // The status of the job, once it is over. Where a program of a directory ended with 0, the next one is started.
+    // Returns the job's status once the job is over. If a program of a directory ended with 0, the next one is
+    // started.
     fn poll(&mut self, rt: &HostRuntime, clocks: &Clocks) -> io::Result<Option<i32>> {
         match self.status() {
             Ok(Some(0)) if self.program.is_some() => self.go_on(rt, clocks),
@@ -149,7 +164,7 @@ impl Running {
     }
 }
 
-// The status of a program, once it is over.
+// Returns a program's status once it has ended.
 fn status_of(child: &mut Child) -> io::Result<Option<i32>> {
     match child.try_wait() {
         Ok(Some(status)) => Ok(Some(status.code().unwrap_or(SIGNALLED))),
@@ -168,12 +183,13 @@ impl Jobs {
         }
     }
 
-    /// Has the jobs of programs that are run for this word run beside the other ones of their tickets.
+    /// Makes the programs with this argument run in a lane of their own, as a follower's programs do. From then on
+    /// all programs get the term of the lease as a variable.
     pub(crate) fn run_beside(&mut self, word: &'static str) {
         self.beside = Some(word);
     }
 
-    // The lane of a job.
+    // Returns the lane of a job.
     fn lane_of(&self, job: &Job) -> Lane {
         match self.beside {
             Some(word) => {
@@ -187,18 +203,18 @@ impl Jobs {
         }
     }
 
-    /// Whether nothing runs, and each ended program was seen to be over.
+    /// Returns whether nothing runs and every killed program was seen to end.
     pub(crate) fn are_over(&self) -> bool {
         self.running.is_empty() && self.killed.is_empty()
     }
 
-    // Lets go of the ended programs that are over.
+    // Removes the killed programs that have ended.
     fn reap(&mut self) {
         self.killed
             .retain_mut(|(_, _, child)| matches!(child.try_wait(), Ok(None)));
     }
 
-    // Whether a program of this ticket's lane was ended and is not over.
+    // Returns whether a program in this ticket's lane was killed and has not ended yet.
     fn is_ending(&self, ticket: &Name, lane: Lane) -> bool {
         for (name, of, _) in &self.killed {
             if name == ticket && *of == lane {
@@ -208,7 +224,7 @@ impl Jobs {
         false
     }
 
-    // Forgets the job in a ticket's lane, and gives its program that runs, where there is one.
+    // Removes the job in a ticket's lane, and returns its program that runs, if there is one.
     fn take(&mut self, ticket: &Name, lane: Lane) -> Option<Child>
         ensures { self.new.killed ≡ self.old.killed }
     {
@@ -216,7 +232,7 @@ impl Jobs {
         self.running.remove(place).child
     }
 
-    // Ends the program of the job in a ticket's lane that runs on. The job is forgotten.
+    // Kills the program that runs in a ticket's lane, and removes its job.
     fn end(&mut self, ticket: &Name, lane: Lane) -> io::Result<()> {
         if self.is_ending(ticket, lane) {
             return Err(io::Error::from(ErrorKind::ResourceBusy));
@@ -224,7 +240,8 @@ impl Jobs {
         self.killed.reserve(1)?;
         match self.take(ticket, lane) {
             Some(mut child) => {
-                // One that became another user's, as by sudo, cannot be ended: it is kept in sight until it is over.
+                // A program that changed its user, for example by sudo, cannot be killed: it stays in the list until
+                // it has ended.
                 let ended = child.kill();
                 self.killed.push_reserved((ticket.copy(), lane, child));
                 ended
@@ -233,7 +250,7 @@ impl Jobs {
         }
     }
 
-    /// Starts a job. A program in its lane of its ticket that runs on is ended before.
+    /// Starts a job. It first kills the program that still runs in this lane of the ticket.
     pub(crate) fn start(
         &mut self,
         rt: &HostRuntime,
@@ -245,7 +262,8 @@ impl Jobs {
         let lane = self.lane_of(job);
         self.end(&job.ticket, lane)?;
         self.running.reserve(1)?;
-        let mut running = Running::new(job, lane, conf_path, self.error_stream);
+        let has_term = self.beside.is_some();
+        let mut running = Running::new(job, lane, conf_path, has_term, self.error_stream);
         let begun = running.begin(rt, clocks);
         if begun.is_ok() {
             self.running.push_reserved(running);
@@ -253,7 +271,7 @@ impl Jobs {
         begun
     }
 
-    // The first job that is over, by its place, and how it ended.
+    // Returns the place of the first job that is over, and how it ended.
     fn first_over(&mut self, rt: &HostRuntime, clocks: &Clocks) -> Option<(usize, io::Result<i32>)>
         ensures { IfSome result (λ over. over.0 < vec_len self.new.running) }
     {
@@ -266,7 +284,7 @@ impl Jobs {
         None
     }
 
-    /// Looks at each job once, up to the first that is over, which is forgotten.
+    /// Polls each job once, up to the first that is over, and removes that one.
     pub(crate) fn poll(&mut self, rt: &HostRuntime, clocks: &Clocks) -> Option<Ended> {
         self.reap();
         let (place, status) = self.first_over(rt, clocks)?;

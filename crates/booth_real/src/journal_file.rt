@@ -11,12 +11,13 @@ use std::fs::File;
 use std::io;
 use std::io::Write;
 
-/// What the line of a record's keep begins with.
+/// What a line about a record's write begins with.
 const KEEP: &[u8] = b"keep ";
 
-/// A file as the sink of a journal. It is opened by the first append, and made where it is missing, for its owner
-/// alone. A line that says a keep is on the disk, with all before it, when its append answers. It tells none of its
-/// bytes: what it does with them is the system's. An append that fails has a line on standard error.
+/// A file as the sink of a journal. The first append opens it, and creates it for its owner alone if it is missing.
+/// When the append of a line about a record's write returns, that line and all lines before it are on the disk. No
+/// contract says which bytes the file holds: that is the system's part. A failed append logs a line to standard
+/// error.
 #[derive(Drop)]
 pub struct JournalFile {
     rt: HostRuntime,
@@ -26,7 +27,7 @@ pub struct JournalFile {
     faults: u64,
 }
 
-// What is said of an append that failed, which may be cut.
+// Returns the line about a failed append, which may be truncated.
 fn failed_line(path: &str, error: &io::Error) -> Line {
     let mut line = line_of(&[b"the journal ", path.as_bytes()]);
     let _ = write!(line, " is not written any more: {error}");
@@ -42,7 +43,7 @@ fn write(file: &mut File, bytes: &[u8]) -> io::Result<()> {
 }
 
 impl JournalFile {
-    /// The file of this path, which is not opened yet.
+    /// Returns the sink for the file at this path, which is not opened yet.
     pub fn new(rt: HostRuntime, path: String) -> JournalFile
         ensures faultless { result.faults ≡ 0 }
     {
@@ -54,7 +55,7 @@ impl JournalFile {
         }
     }
 
-    // Puts bytes behind the file's others.
+    // Appends bytes to the file.
     fn put(&mut self, bytes: &[u8]) -> io::Result<()>
         ensures faults { self.new.faults ≡ self.old.faults }
     {

@@ -1,4 +1,4 @@
-//! How the file of a journal is opened: it is made for its owner alone, one process has it at a time, and it ends with
+//! How a journal's file is opened: it is created for its owner alone, one process has it at a time, and it ends with
 //! a whole line.
 
 use crate::files::{OWNERS_FILE, require_regular};
@@ -10,14 +10,14 @@ use std::io;
 use std::io::{Error, ErrorKind};
 use std::os::unix::fs::OpenOptionsExt;
 
-/// What a journal begins with: the first call that it says reads the clock.
+/// The beginning of every journal: the first call in it reads the clock.
 const FIRST_LINE: &[u8] = b"now\n";
 
-/// How much at the end of a file is looked at for its last line's end: more bytes than a line has.
+/// How many bytes at the end of a file are searched for the end of its last line: more bytes than a line has.
 const LAST_BYTES: usize = 65_536;
 
-// Opens the file, and makes it where it is missing. To append to it, and to read: so no named pipe at this path has
-// this wait.
+// Opens the file, and creates it if it is missing. It is opened to append and to read, so that a named pipe at this
+// path does not make the call wait.
 fn open_or_make(rt: &HostRuntime, path: &str) -> io::Result<File> {
     File::options()
         .read(true)
@@ -27,7 +27,7 @@ fn open_or_make(rt: &HostRuntime, path: &str) -> io::Result<File> {
         .open(rt, path)
 }
 
-// Fails where the file does not begin as a journal does: nothing is cut from another file.
+// Fails if the file does not begin like a journal: no other file is truncated.
 fn require_journal(file: &File) -> io::Result<()> {
     let mut first = [0u8; 4];
     let count = fill(file, 0, &mut first)?;
@@ -37,7 +37,7 @@ fn require_journal(file: &File) -> io::Result<()> {
     }
 }
 
-// Where the last line of so many bytes of the file ends, if one of the last bytes ends a line.
+// Returns where the last line of a file with this length ends, if one of the searched bytes ends a line.
 fn last_line_end(file: &File, len: u64) -> io::Result<Option<u64>> {
     let mut last = [0u8; LAST_BYTES];
     let begin = len.saturating_sub(LAST_BYTES as u64);
@@ -52,7 +52,7 @@ fn last_line_end(file: &File, len: u64) -> io::Result<Option<u64>> {
     }
 }
 
-// Cuts off what stands behind the last line: an append that was torn was none.
+// Truncates the file after its last whole line: a torn append counts as none.
 fn cut_torn(file: &File) -> io::Result<()> {
     let len = file.metadata()?.len();
     match last_line_end(file, len)? {
@@ -62,7 +62,7 @@ fn cut_torn(file: &File) -> io::Result<()> {
     }
 }
 
-// Has this process alone append to an open file, which ends with a whole line then.
+// Makes this process the only one that appends to an open file, and makes the file end with a whole line.
 fn begin(file: &File) -> io::Result<()> {
     require_regular(&file.metadata()?)?;
     require_lock(file, "another process writes it")?;
@@ -70,7 +70,7 @@ fn begin(file: &File) -> io::Result<()> {
     cut_torn(file)
 }
 
-/// The file at this path, to append lines to.
+/// Opens the file at this path to append lines.
 pub(crate) fn open(rt: &HostRuntime, path: &str) -> io::Result<File> {
     let file = open_or_make(rt, path)?;
     begin(&file)?;

@@ -1,4 +1,4 @@
-//! The texts of lines for standard error, which are cut where they are too long.
+//! Lines for standard error, truncated if they are too long.
 
 use arrayvec::ArrayVec;
 use std::io::Write;
@@ -9,7 +9,7 @@ const LINE_BYTES: usize = 400;
 /// The text of a line for standard error, without the program's name.
 pub(crate) type Line = ArrayVec<u8, LINE_BYTES>;
 
-/// A line that begins with these texts.
+/// Returns a line that consists of these texts.
 pub(crate) fn line_of(parts: &[&[u8]]) -> Line {
     let mut line = Line::new();
     for part in parts {
@@ -18,7 +18,7 @@ pub(crate) fn line_of(parts: &[&[u8]]) -> Line {
     line
 }
 
-/// Adds a number.
+/// Appends a number.
 pub(crate) fn put_number(line: &mut Line, number: u64) {
     let _ = write!(line, "{number}");
 }

@@ -1,14 +1,14 @@
-//! The lock of a file, which is the kernel's, and lasts while the file is open.
+//! File locks. The kernel holds them, and they last while the file is open.
 
 use crate::files::{is_same, make_named, open_named, open_to_change};
 use std::fs::{File, TryLockError};
 use std::io;
 use std::io::{Error, ErrorKind};
 
-/// What a directory is refused with whose lock another holds.
+/// The error text for a directory whose lock another process holds.
 const TAKEN: &str = "its lock is held";
 
-// Whether an error says that a file is there, and may only be read.
+// Returns whether an error says that the file exists and may only be read.
 fn is_for_reading(kind: ErrorKind) -> bool {
     matches!(
         kind,
@@ -16,8 +16,8 @@ fn is_for_reading(kind: ErrorKind) -> bool {
     )
 }
 
-// Opens the file. To read and to write where this user may: so no named pipe that takes its place has this wait
-// (fifo(7)). Nothing is written into it.
+// Opens the file to read and to write if this user may. Then not even a named pipe that has replaced the file makes
+// the call wait (fifo(7)). Nothing is written to it.
 fn open_lock(rt: &HostRuntime, path: &str) -> io::Result<File> {
     match open_to_change(rt, path) {
         Err(error) if is_for_reading(error.kind()) => {
@@ -27,7 +27,7 @@ fn open_lock(rt: &HostRuntime, path: &str) -> io::Result<File> {
     }
 }
 
-// The file, which is made where it is missing, for its owner alone, since whoever can open it can hold its lock.
+// Opens the file, and creates it for its owner alone if it is missing: whoever can open the file can hold its lock.
 fn open_or_make(rt: &HostRuntime, path: &str) -> io::Result<File> {
     match make_named(rt, path) {
         Err(error) if error.kind() != ErrorKind::AlreadyExists => Err(error),
@@ -35,7 +35,7 @@ fn open_or_make(rt: &HostRuntime, path: &str) -> io::Result<File> {
     }
 }
 
-// Takes the lock of an open file, and says whether it did; another may hold it.
+// Tries to take the lock of an open file, and returns whether it did. Another process may hold it.
 fn is_taken(file: &File) -> io::Result<bool> {
     match file.try_lock() {
         Ok(()) => Ok(true),
@@ -44,7 +44,7 @@ fn is_taken(file: &File) -> io::Result<bool> {
     }
 }
 
-/// Takes the lock of an open file. Where another holds it, it fails with these words.
+/// Takes the lock of an open file. Fails with these words if another process holds it.
 pub(crate) fn require_lock(file: &File, words: &str) -> io::Result<()> {
     if is_taken(file)? {
         Ok(())
@@ -53,22 +53,23 @@ pub(crate) fn require_lock(file: &File, words: &str) -> io::Result<()> {
     }
 }
 
-/// The file at this path with its lock, which lasts while the file is open. It fails where another holds it.
+/// Returns the file at this path with its lock, which lasts while the file is open. Fails if another process holds
+/// the lock.
 pub(crate) fn lock_file(rt: &HostRuntime, path: &str) -> io::Result<File> {
     let file = open_or_make(rt, path)?;
     require_lock(&file, TAKEN)?;
     Ok(file)
 }
 
-/// The directory at this path, which ends in `/.`, with its own lock, which lasts while it is open. It fails where
-/// another holds it.
+/// Returns the directory at this path, which ends in `/.`, with its own lock, which lasts while it is open. Fails if
+/// another process holds the lock.
 pub(crate) fn lock_directory(rt: &HostRuntime, path: &str) -> io::Result<File> {
     let directory = File::open(rt, path)?;
     require_lock(&directory, TAKEN)?;
     Ok(directory)
 }
 
-// Fails where these are two files.
+// Fails if these are two different files.
 fn require_same(one: &File, other: &File) -> io::Result<()> {
     if is_same(&one.metadata()?, &other.metadata()?) {
         Ok(())
@@ -77,7 +78,7 @@ fn require_same(one: &File, other: &File) -> io::Result<()> {
     }
 }
 
-// Takes the lock of this file beside the one that is held, of which there may be none.
+// Takes the lock of this file in addition to the one that is held, if any.
 fn hold(held: &mut Option<File>, file: File) -> io::Result<bool> {
     match held {
         Some(held) => {
@@ -94,7 +95,7 @@ fn hold(held: &mut Option<File>, file: File) -> io::Result<bool> {
     }
 }
 
-/// Takes the lock of a file, which stays open in `held`; false where another holds it.
+/// Takes the lock of a file, which stays open in `held`. Returns false if another process holds the lock.
 pub(crate) fn take_lock(rt: &HostRuntime, held: &mut Option<File>, path: &str) -> io::Result<bool> {
     hold(held, open_or_make(rt, path)?)
 }

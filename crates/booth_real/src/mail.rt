@@ -1,4 +1,4 @@
-//! The datagrams of a host: its socket, and what it took of it before anybody asked.
+//! The datagrams of a host: its socket, and what was taken from the socket before anybody asked.
 ghost use Rattle.std.specs.Prelude.{◌≡◌, ◌⊎◌, [], None, Some, IfOk, IfSome, IsTrue, MatchOption, OnErr, OnOk, vec_len};
 ghost use Rattle.booth_host.specs.declared.datagram.TheConstants.{DATAGRAM_BYTES};
 ghost use Rattle.booth_real.specs.Hearing.{BringsTo, hearing, turned_to};
@@ -16,28 +16,28 @@ use std::io::ErrorKind;
 use std::os::fd::RawFd;
 use std::rc::Rc;
 
-/// A socket once a place is open, and what waits.
+/// A socket once a place is open, and the datagrams that wait.
 #[derive(Drop)]
 pub(crate) struct Mail {
     socket: Option<Socket>,
-    /// The other file that ends the wait of a receive.
+    /// The other file that ends a receive's wait.
     wake: Wake,
     buffer: Vec<u8>,
-    /// What came before anybody asked for it.
+    /// The datagrams that arrived before anybody asked for them.
     backlog: Backlog,
-    /// What a receive failed with meanwhile.
+    /// The error of a receive that failed in the meantime.
     unreceived: Option<io::Error>,
     ghost size: { vec_len buffer ≡ DATAGRAM_BYTES },
     ghost heard: { WaitsFor (hearing socket) (waiting backlog) },
 }
 
-/// What is asked of a place that was not opened.
+/// Returns the error of a call at a place that was not opened.
 pub(crate) fn unopened() -> io::Error {
     io::Error::from(ErrorKind::NotConnected)
 }
 
 impl Mail {
-    /// No socket, and all memory for what waits.
+    /// Returns no socket, with all memory for the datagrams that wait.
     pub(crate) fn new(alloc: Global) -> Result<Mail, AllocError>
         ensures closed { IfOk result (λ mail. mail.socket ≡ None) }
         ensures nothing { IfOk result (λ mail. waiting mail.backlog ≡ []) }
@@ -53,7 +53,7 @@ impl Mail {
         })
     }
 
-    /// Has this file end a wait, and notes in the mark that it can be read.
+    /// Makes this file end a wait, and sets the mark when the file can be read.
     pub(crate) fn wake_on(&mut self, file: RawFd, mark: Rc<Cell<bool>>)
         ensures wake { self.new.wake.file ≡ file }
         ensures socket { self.new.socket ≡ self.old.socket }
@@ -62,7 +62,7 @@ impl Mail {
         self.wake = Wake::on(file, mark);
     }
 
-    /// Lets go of the socket, and forgets what waits.
+    /// Closes the socket, and drops the datagrams that wait.
     pub(crate) fn close(&mut self)
         ensures closed { self.new.socket ≡ None }
         ensures nothing { waiting self.new.backlog ≡ [] }
@@ -73,7 +73,7 @@ impl Mail {
         self.unreceived = None;
     }
 
-    /// Begins with this socket. Nothing of it waits.
+    /// Begins with this socket, from which nothing waits yet.
     pub(crate) fn begin(&mut self, socket: Socket)
         ensures hears { hearing self.new.socket ≡ Some socket.takes }
         ensures nothing { waiting self.new.backlog ≡ [] }
@@ -83,14 +83,14 @@ impl Mail {
         self.socket = Some(socket);
     }
 
-    // Whether nothing waits, and no receive failed.
+    // Returns whether nothing waits and no receive failed.
     fn is_empty(&self) -> bool
         ensures { IsTrue result → waiting self.now.backlog ≡ [] }
     {
         self.backlog.is_empty() && self.unreceived.is_none()
     }
 
-    // The first that waits, and what a receive failed with behind them.
+    // Returns the first datagram that waits, or the error of a receive that failed behind them.
     fn give(&mut self, into: &mut Datagram) -> Option<io::Result<Arrival>>
         ensures given { MatchOption result
             ((waiting self.old.backlog ≡ []) × (waiting self.new.backlog ≡ []))
@@ -104,7 +104,8 @@ impl Mail {
         }
     }
 
-    /// The first that waits; or what a receive failed with meanwhile; or what comes within this time.
+    /// Returns the first datagram that waits, or the error of a receive that failed in the meantime, or what arrives
+    /// within this time.
     pub(crate) fn receive(&mut self, wait_ms: u64, into: &mut Datagram) -> io::Result<Arrival>
         ensures given { IsGiven (waiting self.old.backlog) result into.new (waiting self.new.backlog) }
         ensures brings { IfOk result (λ arrival. BringsTo (hearing self.old.socket) arrival) }
@@ -125,7 +126,7 @@ impl Mail {
         }
     }
 
-    // What comes within this time, where nothing waits.
+    // Returns what arrives within this time, if nothing waits.
     fn receive_new(&mut self, wait_ms: u64, into: &mut Datagram) -> io::Result<Arrival>
         ensures brings { IfOk result (λ arrival. BringsTo (hearing self.old.socket) arrival) }
         ensures socket { self.new.socket ≡ self.old.socket }
@@ -137,8 +138,9 @@ impl Mail {
         }
     }
 
-    /// Takes what the system holds, as far as there is room: it holds a few hundred datagrams, and what is lost is sent
-    /// again only a time-out later. After a receive that failed nothing is taken before that was told.
+    /// Takes datagrams from the system as long as there is room. The system's queue holds a few hundred datagrams,
+    /// and a datagram that is lost there is sent again only after a time-out. After a failed receive it takes nothing
+    /// until that failure was reported.
     pub(crate) fn take_in(&mut self)
         ensures taken { TakesIn (hearing self.old.socket) (waiting self.old.backlog) (waiting self.new.backlog) }
         ensures socket { self.new.socket ≡ self.old.socket }
@@ -152,12 +154,12 @@ impl Mail {
         }
     }
 
-    /// Whether there is no room for one more datagram.
+    /// Returns whether there is no room for one more datagram.
     pub(crate) fn is_full(&self) -> bool {
         !self.backlog.has_room()
     }
 
-    /// Gives these bytes to the network.
+    /// Sends these bytes.
     pub(crate) fn send(&mut self, rt: &HostRuntime, to: &Peer, bytes: &[u8]) -> io::Result<()>
         ensures sent { OnOk result (hearing self.new.socket ≡ turned_to to.now (hearing self.old.socket)) }
         ensures unsent { OnErr result ((hearing self.new.socket ≡ hearing self.old.socket)

@@ -1,6 +1,6 @@
-//! What the service manager is told of this process, as sd_notify(3) tells it.
+//! Messages to the service manager about this process, in the format of sd_notify(3).
 //!
-//! It is a datagram to a Unix socket. No program is started for it, and no call waits.
+//! A message is a datagram to a Unix socket. No program is started for it, and no call waits.
 ghost use Rattle.std.specs.Prelude.{◌≤◌, ◌+◌, length};
 
 use crate::clocks::since_boot;
@@ -15,59 +15,59 @@ use std::io;
 use std::io::{Error, ErrorKind, Write};
 use std::os::fd::{AsRawFd, OwnedFd};
 
-/// The variable that names the service manager's socket.
+/// The variable with the service manager's socket.
 const SOCKET: &str = "NOTIFY_SOCKET";
 
-/// The variable that says within how many microseconds turns have to be told.
+/// The variable with the time within which the process must send a sign of life, in microseconds.
 const WATCHDOG: &str = "WATCHDOG_USEC";
 
-/// How often turns are told, in milliseconds, if nothing says that they have to be told more often.
+/// How often a sign of life is sent, in milliseconds, unless the environment asks for more.
 const BEAT_MS: u64 = 1_000;
 
 /// The most bytes of a socket's name.
 const NAME_BYTES: usize = 107;
 
-/// Where a name stands in an address: behind the two bytes of its family.
+/// Where the name begins in an address: behind the two bytes of the address family.
 const NAME_AT: usize = 2;
 
 /// The address of a Unix socket (unix(7)).
 #[derive(Drop)]
 struct UnixAddress {
     raw: [u8; 128],
-    /// How many bytes of it count.
+    /// The length of the address in bytes.
     counted: u32,
     ghost fits: { counted ≤ 128 },
 }
 
-/// The service manager.
+/// The connection to the service manager.
 #[derive(Drop)]
 struct Manager {
     socket: OwnedFd,
     address: UnixAddress,
 }
 
-/// Tells the service manager of this process, if the environment names one.
+/// Sends messages to the service manager, if the environment names one.
 #[derive(Drop)]
 pub struct Notifier {
     speaker: Speaker,
     manager: Option<Manager>,
-    /// How often turns are told, in milliseconds.
+    /// How often a sign of life is sent, in milliseconds.
     beat_ms: u64,
-    /// When a turn was told last, in milliseconds since the boot.
+    /// When a sign of life was sent last, in milliseconds since the boot.
     told_at: Option<u64>,
-    /// Whether a line said that the service manager could not be told.
+    /// Whether the failure of a message was logged.
     has_spoken: bool,
 }
 
-// Puts bytes at this place of an address.
+// Copies bytes to this place of an address.
 fn put(raw: &mut [u8; 128], at: usize, bytes: &[u8])
     requires { at + length bytes.now ≤ 128 }
 {
     raw[at..at + bytes.len()].copy_from_slice(bytes);
 }
 
-// The address of the socket of this path, behind which one byte more counts, a zero; or if the name begins with `@`, of
-// the abstract name behind that, before which a zero stands.
+// Returns the address of a socket's path with its final zero byte. If the name begins with `@`, it returns the
+// abstract name after that, with a zero byte in front.
 fn address_of(name: &[u8]) -> Option<UnixAddress> {
     if name.len() > NAME_BYTES {
         return None;
@@ -91,7 +91,7 @@ fn address_of(name: &[u8]) -> Option<UnixAddress> {
     }
 }
 
-// A socket for datagrams, on which no call waits, and which no program that is started has.
+// Opens a datagram socket that never waits and that no child program inherits.
 fn open_socket() -> io::Result<OwnedFd> {
     let kind = SOCK_DGRAM | SOCK_NONBLOCK | SOCK_CLOEXEC;
     let fd = unsafe { socket(AF_UNIX, kind, 0) };
@@ -101,7 +101,7 @@ fn open_socket() -> io::Result<OwnedFd> {
     Ok(unsafe { OwnedFd::from_raw_fd(fd) })
 }
 
-// How often turns are told: at least twice within the time that the environment says.
+// Returns how often to send a sign of life: at least twice within the time in the environment.
 fn beat_ms(rt: &HostRuntime) -> u64 {
     let Some(value) = variable(rt, WATCHDOG) else {
         return BEAT_MS;
@@ -113,7 +113,7 @@ fn beat_ms(rt: &HostRuntime) -> u64 {
 }
 
 impl Manager {
-    // The service manager whose socket has this name.
+    // Connects to the service manager at the socket with this name.
     fn open(name: &str) -> io::Result<Manager> {
         let Some(address) = address_of(name.as_bytes()) else {
             return Err(Error::new(ErrorKind::InvalidInput, "NOTIFY_SOCKET names no socket"));
@@ -134,7 +134,7 @@ impl Manager {
     }
 }
 
-// What is said if the service manager cannot be told.
+// Returns the line about a message that could not be sent.
 fn untold_line(error: &Error) -> Line {
     let mut line = line_of(&[b"cannot tell the service manager"]);
     let _ = write!(line, ": {error}");
@@ -142,8 +142,9 @@ fn untold_line(error: &Error) -> Line {
 }
 
 impl Notifier {
-    /// The service manager whose socket the environment names in `NOTIFY_SOCKET`, for the program of this name. If it
-    /// names none, nobody is told. Make it after the host, which fills the places of standard streams that were closed.
+    /// Returns a notifier for the service manager whose socket the environment names in `NOTIFY_SOCKET`, for the
+    /// program with this name. If the variable is not set, the notifier sends nothing. Create it after the host,
+    /// which fills the places of standard streams that were closed.
     pub fn new(rt: HostRuntime, name: &'static str) -> Notifier {
         let mut notifier = Notifier {
             speaker: Speaker::new(rt, name),
@@ -161,7 +162,7 @@ impl Notifier {
         notifier
     }
 
-    // Says once that the service manager cannot be told.
+    // Logs once that the service manager cannot be reached.
     fn speak(&mut self, error: &Error) {
         if !self.has_spoken {
             self.has_spoken = true;
@@ -169,8 +170,8 @@ impl Notifier {
         }
     }
 
-    /// Tells the service manager this text: assignments, one in a line, as `READY=1` or `STATUS=held until 11:20:31`.
-    /// It is lost if it cannot be sent at once. The first time that this happens a line on standard error says why.
+    /// Sends this text to the service manager: assignments, one per line, such as `READY=1` or `STATUS=held until
+    /// 11:20:31`. The message is lost if it cannot be sent at once. The first failure is logged to standard error.
     pub fn send(&mut self, text: &str) {
         let sent = match &self.manager {
             Some(manager) => manager.send(text),
@@ -181,8 +182,8 @@ impl Notifier {
         }
     }
 
-    /// Tells the service manager that turns go on: `WATCHDOG=1`. It does so once a second, or twice in the time that
-    /// `WATCHDOG_USEC` says, and else does nothing. Call it in each turn.
+    /// Sends the sign of life `WATCHDOG=1`: once a second, or twice within the time in `WATCHDOG_USEC`. Call it in
+    /// each turn; most calls do nothing.
     pub fn beat(&mut self) {
         let Ok(now) = since_boot() else {
             return;

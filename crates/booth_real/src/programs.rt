@@ -1,4 +1,4 @@
-//! The programs of a handler: which they are, in which order, and how one is started.
+//! The programs of a handler: which they are, in which order they run, and how one is started.
 
 use crate::streams::ErrorStream;
 use arrayvec::ArrayString;
@@ -19,12 +19,12 @@ type ProgramPath = ArrayString<520>;
 /// A number as text.
 type Digits = ArrayString<20>;
 
-// What is no handler, or no name that a program can have.
+// Returns the error of a text that is no handler, or of a name that a program cannot have.
 fn unfit() -> Error {
     Error::from(ErrorKind::InvalidInput)
 }
 
-// The path of a handler: its first word.
+// Returns the path of a handler, which is its first word.
 fn path_of(handler: &PathText) -> io::Result<&str> {
     handler
         .as_str()
@@ -33,7 +33,7 @@ fn path_of(handler: &PathText) -> io::Result<&str> {
         .ok_or(unfit())
 }
 
-// Whether a word is a number.
+// Returns whether a word is a number.
 fn is_number(word: &str) -> bool {
     for byte in word.as_bytes() {
         if !byte.is_ascii_digit() {
@@ -43,10 +43,25 @@ fn is_number(word: &str) -> bool {
     true
 }
 
-/// Whether a handler's program is run for this word: whether its last word that is no number is this one.
+/// The beginning of a last word that is a lease's term and no argument.
+const TERM: &str = "term=";
+
+// Returns a program's words without the term, and the digits of the term: those of a last word `term=NUMBER`, or 0.
+fn with_term(words: &str) -> (&str, &str) {
+    let Some((before, last)) = words.rsplit_once(' ') else {
+        return (words, "0");
+    };
+    match last.strip_prefix(TERM) {
+        Some(term) if !term.is_empty() && is_number(term) => (before, term),
+        Some(_) | None => (words, "0"),
+    }
+}
+
+/// Returns whether this is the last word of a program that is neither a number nor the term.
 pub(crate) fn is_run_for(handler: &PathText, word: &str) -> bool {
     let mut is_last = false;
-    for own in handler.as_str().split_ascii_whitespace() {
+    let (words, _term) = with_term(handler.as_str());
+    for own in words.split_ascii_whitespace() {
         if !is_number(own) {
             is_last = own == word;
         }
@@ -54,12 +69,12 @@ pub(crate) fn is_run_for(handler: &PathText, word: &str) -> bool {
     is_last
 }
 
-/// Whether a handler's path names a directory of programs.
+/// Returns whether a handler's path is a directory of programs.
 pub(crate) fn is_directory(rt: &HostRuntime, handler: &PathText) -> io::Result<bool> {
     Ok(fs::metadata(rt, path_of(handler)?)?.is_dir())
 }
 
-// Whether this name comes behind that of a program, where there is one.
+// Returns whether this name comes after that of a program, if there is one.
 fn is_behind(name: &str, program: Option<&FileName>) -> bool {
     match program {
         Some(program) => program.as_bytes() < name.as_bytes(),
@@ -67,7 +82,7 @@ fn is_behind(name: &str, program: Option<&FileName>) -> bool {
     }
 }
 
-// Whether it comes before.
+// Returns whether this name comes before it.
 fn is_before(name: &str, program: Option<&FileName>) -> bool {
     match program {
         Some(program) => name.as_bytes() < program.as_bytes(),
@@ -75,7 +90,7 @@ fn is_before(name: &str, program: Option<&FileName>) -> bool {
     }
 }
 
-// The file name of this text.
+// Returns this text as a file name.
 fn file_name(name: &str) -> io::Result<FileName> {
     let mut text = FileName::new();
     match text.try_push_str(name) {
@@ -84,7 +99,7 @@ fn file_name(name: &str) -> io::Result<FileName> {
     }
 }
 
-// Takes the name of this entry, where it is that of a program behind the one and before the least so far.
+// Takes the name of this entry, if it is a program's, comes after the last program and before the least found so far.
 fn take_least(
     least: &mut Option<FileName>,
     entry: io::Result<DirEntry>,
@@ -98,8 +113,8 @@ fn take_least(
     Ok(())
 }
 
-/// The first program of a handler's directory, or the next one behind a program, in byte order of their names. Names
-/// that begin with `.` are passed over.
+/// Returns the first program of a handler's directory, or the one after the given program, in byte order of their
+/// names. Names that begin with `.` are skipped.
 pub(crate) fn next_in_directory(
     rt: &HostRuntime,
     handler: &PathText,
@@ -112,12 +127,12 @@ pub(crate) fn next_in_directory(
     Ok(least)
 }
 
-// Adds a text to a path, and says whether it had room.
+// Appends a text to a path, and returns whether there was room.
 fn has_added(path: &mut ProgramPath, text: &str) -> bool {
     path.try_push_str(text).is_ok()
 }
 
-// Adds the name of a file in the directory of this path, where there is one.
+// Appends the name of a file in the directory at this path, if there is one.
 fn has_added_name(path: &mut ProgramPath, name: Option<&FileName>) -> bool {
     match name {
         Some(name) => has_added(path, "/") && has_added(path, name.as_str()),
@@ -125,8 +140,8 @@ fn has_added_name(path: &mut ProgramPath, name: Option<&FileName>) -> bool {
     }
 }
 
-// The path of a handler's program: it itself, or the one of this name in its directory. A path is never looked for
-// among the directories of PATH.
+// Returns the path of a handler's program: the handler itself, or the program with this name in its directory. PATH
+// is never searched.
 fn program_path(handler: &PathText, name: Option<&FileName>) -> io::Result<ProgramPath> {
     let first = path_of(handler)?;
     let mut path = ProgramPath::new();
@@ -138,37 +153,48 @@ fn program_path(handler: &PathText, name: Option<&FileName>) -> io::Result<Progr
     }
 }
 
-// The name of a configuration: the last part of its path, without `.conf`.
+// Returns the name of a configuration: the last part of its path without `.conf`.
 fn conf_name(conf_path: &str) -> &str {
     let last = conf_path.rsplit('/').next().unwrap_or(conf_path);
     last.strip_suffix(".conf").unwrap_or(last)
 }
 
-// The digits of a number.
+// Returns the decimal digits of a number.
 fn digits(number: u64) -> Digits {
     let mut text = Digits::new();
     let _ = write!(text, "{number}");
     text
 }
 
-// Sets a variable, and says whether there was memory for it.
+// Sets a variable, and returns whether there was memory for it.
 fn has_set(command: &mut Command, name: &str, value: &str) -> bool {
     command.env(name, value).is_ok()
 }
 
-// Says what a program is run for.
-fn tell(command: &mut Command, job: &Job, left_ms: u64, conf_path: &str) -> io::Result<()> {
+/// What a program gets besides its job.
+#[derive(Clone, Copy)]
+pub(crate) struct Told<'a> {
+    /// How many milliseconds the lease still lasts.
+    pub left_ms: u64,
+    /// The path of the configuration.
+    pub conf_path: &'a str,
+    /// Whether it is a follower's program, which gets the term of the lease.
+    pub has_term: bool,
+}
+
+// Sets the variables that describe a program's job.
+fn tell(command: &mut Command, job: &Job, told: Told<'_>) -> io::Result<()> {
     let ticket = str::from_utf8(job.ticket.bytes()).ok().ok_or(unfit())?;
     let is_told = has_set(command, "BOOTH_TICKET", ticket)
         && has_set(command, "BOOTH_LOCAL", job.local.print().as_str())
-        && has_set(command, "BOOTH_CONF_PATH", conf_path)
-        && has_set(command, "BOOTH_CONF_NAME", conf_name(conf_path))
+        && has_set(command, "BOOTH_CONF_PATH", told.conf_path)
+        && has_set(command, "BOOTH_CONF_NAME", conf_name(told.conf_path))
         && has_set(
             command,
             "BOOTH_TICKET_EXPIRES",
             digits(job.expires).as_str(),
         )
-        && has_set(command, "BOOTH_TICKET_LEFT", digits(left_ms).as_str());
+        && has_set(command, "BOOTH_TICKET_LEFT", digits(told.left_ms).as_str());
     if is_told {
         Ok(())
     } else {
@@ -176,22 +202,37 @@ fn tell(command: &mut Command, job: &Job, left_ms: u64, conf_path: &str) -> io::
     }
 }
 
-// Adds a handler's arguments.
-fn add_arguments(command: &mut Command, handler: &PathText) -> io::Result<()> {
-    for word in handler.as_str().split_ascii_whitespace().skip(1) {
+// Appends the arguments in these words.
+fn add_arguments(command: &mut Command, words: &str) -> io::Result<()> {
+    for word in words.split_ascii_whitespace().skip(1) {
         command.arg(word)?;
     }
     Ok(())
 }
 
-// Gives a program its arguments and variables, and says what it is run for.
-fn prepare(command: &mut Command, job: &Job, left_ms: u64, conf_path: &str) -> io::Result<()> {
-    add_arguments(command, &job.handler)?;
-    tell(command, job, left_ms, conf_path)
+// Sets a follower's program's arguments, and the term of the lease as a variable.
+fn hand_term(command: &mut Command, handler: &PathText) -> io::Result<()> {
+    let (words, term) = with_term(handler.as_str());
+    add_arguments(command, words)?;
+    if has_set(command, "BOOTH_TICKET_TERM", term) {
+        Ok(())
+    } else {
+        Err(Error::from(ErrorKind::OutOfMemory))
+    }
 }
 
-// What a program prints to: this process's standard error. Where that was closed it prints to nothing, since a write to
-// what stands in its place fails, and with it many a script.
+// Sets a program's arguments and the variables that describe its job.
+fn prepare(command: &mut Command, job: &Job, told: Told<'_>) -> io::Result<()> {
+    if told.has_term {
+        hand_term(command, &job.handler)?;
+    } else {
+        add_arguments(command, job.handler.as_str())?;
+    }
+    tell(command, job, told)
+}
+
+// Returns a program's output stream: this process's standard error. If standard error was closed, the program prints
+// to nothing, since many scripts stop when a write fails.
 fn printed_to(rt: &HostRuntime, error_stream: ErrorStream) -> Stdio {
     match error_stream {
         ErrorStream::Open => Stdio::from(rt.stderr()),
@@ -199,7 +240,7 @@ fn printed_to(rt: &HostRuntime, error_stream: ErrorStream) -> Stdio {
     }
 }
 
-// Gives a program its streams, and starts it.
+// Sets a program's streams, and starts it.
 fn launch(command: &mut Command, rt: &HostRuntime, error_stream: ErrorStream) -> io::Result<Child> {
     command.stdin(Stdio::null());
     command.stdout(printed_to(rt, error_stream));
@@ -207,20 +248,19 @@ fn launch(command: &mut Command, rt: &HostRuntime, error_stream: ErrorStream) ->
     command.spawn(rt)
 }
 
-/// Starts the handler itself, or the program of this name in its directory. It has the handler's arguments, this
-/// process's environment with six variables more, an empty standard input, and this process's standard error, or
-/// nothing where that was closed, for all that it prints; no other file of this process is open in it. The lease ends
-/// in so many milliseconds.
+/// Starts the handler itself, or the program with this name in its directory. The program gets the handler's
+/// arguments and an empty standard input. Its environment is this process's, with six variables more, or seven for a
+/// follower's program. Everything that it prints goes to this process's standard error, or to nothing if that was
+/// closed. No other file of this process is open in it.
 pub(crate) fn start(
     rt: &HostRuntime,
     job: &Job,
-    left_ms: u64,
+    told: Told<'_>,
     name: Option<&FileName>,
-    conf_path: &str,
     error_stream: ErrorStream,
 ) -> io::Result<Child> {
     let path = program_path(&job.handler, name)?;
     let mut command = Command::new(rt.alloc(), path.as_str())?;
-    prepare(&mut command, job, left_ms, conf_path)?;
+    prepare(&mut command, job, told)?;
     launch(&mut command, rt, error_stream)
 }

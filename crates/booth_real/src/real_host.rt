@@ -1,6 +1,6 @@
 //! The real host: a UDP socket, the system clock, files, child programs and the standard streams.
 //!
-//! It tells nothing of its calls, and it never answers `Stop`: a signal ends the process instead.
+//! No contract says what its calls do to the devices. It never returns `Stop`: a signal ends the process instead.
 ghost use Rattle.std.specs.Prelude.{◌≡◌, ◌≤◌, ◌⊎◌, ◌∷◌, [], None, IfOk, IfSome, OnErr, OnOk};
 ghost use Rattle.booth_host.specs.Causes.{raised, HasCause, HasReadCause, IsCounted};
 ghost use Rattle.booth_host.specs.Past.{GrewBy};
@@ -28,30 +28,30 @@ use std::rc::Rc;
 use std::time::Duration;
 use std::{io, thread};
 
-/// How many sends are made before what came meanwhile is taken.
+/// How many datagrams are sent before arrivals are taken from the system.
 const SENDS: u32 = 32;
 
-/// The devices of the system.
+/// The system's devices.
 #[derive(Drop)]
 pub struct RealHost {
     rt: HostRuntime,
     mail: Mail,
-    /// The directory of the kept records, once a place with one was opened, and what time is told by.
+    /// The records directory, once a place with one was opened, and the source of the time.
     store: Store,
     telling: Telling,
-    /// How many sends were made since what came was taken.
+    /// How many datagrams were sent since arrivals were last taken from the system.
     sends: u32,
     /// The path of the configuration, once a place was opened.
     conf_path: Option<PathText>,
     jobs: Jobs,
     /// The file whose lock this host holds.
     locked: Option<File>,
-    /// What stands in the places of standard streams that were closed.
+    /// The files in the places of standard streams that were closed.
     standing: Standing,
     faults: u64,
 }
 
-// Which fault of a reading an error is.
+// Returns the fault that an error of a read stands for.
 fn read_fault(error: &io::Error) -> ReadFault {
     match error.kind() {
         ErrorKind::OutOfMemory => ReadFault::NoMemory,
@@ -60,7 +60,7 @@ fn read_fault(error: &io::Error) -> ReadFault {
 }
 
 impl RealHost {
-    /// The devices of the system, before anything is opened.
+    /// Returns the system's devices before anything is opened.
     pub fn new(rt: HostRuntime, alloc: Global) -> Result<RealHost, AllocError>
         ensures unopened { IfOk result (λ host. host.mail.socket ≡ None) }
         ensures nothing { IfOk result (λ host. waiting host.mail.backlog ≡ []) }
@@ -84,9 +84,9 @@ impl RealHost {
         })
     }
 
-    /// From now on the wait of a `next` ends early, with `Quiet`, when this open file can be read, and then sets the
-    /// mark; where it is below 0, when a datagram is there alone. While the mark is set a `next` waits for nothing:
-    /// who reads the file unsets it. It opens nothing, and no fault comes of it.
+    /// From now on a `next` also ends its wait, with `Quiet`, when this open file can be read, and then sets the
+    /// mark. If `fd` is below 0, only a datagram ends the wait. While the mark is set, no `next` waits: the reader of
+    /// the file must clear the mark. The call opens nothing and cannot fail.
     pub fn wake_on(&mut self, fd: RawFd, mark: Rc<Cell<bool>>)
         ensures wake { self.new.mail.wake.file ≡ fd }
         ensures socket { self.new.mail.socket ≡ self.old.mail.socket }
@@ -96,8 +96,8 @@ impl RealHost {
         self.mail.wake_on(fd, mark);
     }
 
-    /// Has a keep fail that takes longer than so many milliseconds, where there is a limit, in directories that are
-    /// opened from now on. A keep that is late makes no further step.
+    /// Makes each write of a record fail that takes longer than this many milliseconds, in directories that are
+    /// opened from now on. A write that is late takes no further step.
     pub fn limit_writes(&mut self, limit: Option<u64>)
         ensures faults { self.new.faults ≡ self.old.faults }
         ensures mail { self.new.mail ≡ self.old.mail }
@@ -105,8 +105,8 @@ impl RealHost {
         self.store.limit_writes(limit);
     }
 
-    /// Has `now` tell the clock that this directory of records keeps, also before it is opened. Where that cannot be
-    /// had a line on standard error says why, and no place with a directory is opened. It is no fault.
+    /// Makes `now` report the clock of this records directory even before the directory is opened. If that fails, a
+    /// line on standard error says why, and no place with a directory is opened. That is no fault.
     pub fn await_clock(&mut self, directory: &PathText)
         ensures faults { self.new.faults ≡ self.old.faults }
         ensures mail { self.new.mail ≡ self.old.mail }
@@ -116,8 +116,8 @@ impl RealHost {
         }
     }
 
-    /// Has `now` tell the clock that a daemon keeps in this directory of records. Where none kept it since the boot,
-    /// or it cannot be read, the answer is false, and a line on standard error says why. It is no fault.
+    /// Makes `now` report the clock that a daemon writes to this records directory. Returns false if none was written
+    /// since the boot or it cannot be read; a line on standard error then says why. That is no fault.
     pub fn share_clock(&mut self, directory: &PathText) -> bool
         ensures faults { self.new.faults ≡ self.old.faults }
         ensures mail { self.new.mail ≡ self.old.mail }
@@ -131,7 +131,7 @@ impl RealHost {
         }
     }
 
-    /// Has each line on standard error begin with this name of a program, in place of that of the daemon.
+    /// Makes each line on standard error begin with this name instead of the daemon's.
     pub fn speak_as(&mut self, name: &'static str)
         ensures faults { self.new.faults ≡ self.old.faults }
         ensures mail { self.new.mail ≡ self.old.mail }
@@ -139,9 +139,9 @@ impl RealHost {
         self.telling.speak_as(name);
     }
 
-    /// From now on the programs that are run for this word, their last one that is no number, run beside the other
-    /// programs of their ticket: one ends a former one for this word, and no other. Without this call each program ends
-    /// the former one of its ticket.
+    /// From now on programs for this word (their last one that is not a number) run at the same time as the other
+    /// programs of their ticket: they end an earlier program for this word, and no other. Without this call each
+    /// program ends the earlier one of its ticket.
     pub fn run_beside(&mut self, word: &'static str)
         ensures faults { self.new.faults ≡ self.old.faults }
         ensures mail { self.new.mail ≡ self.old.mail }
@@ -149,7 +149,7 @@ impl RealHost {
         self.jobs.run_beside(word);
     }
 
-    // Counts a failure, once.
+    // Counts one failure.
     fn fail(&mut self) -> Failed
         ensures one { self.new.faults ≡ raised self.old.faults }
         ensures later { self.old.faults ≤ self.new.faults }
@@ -159,7 +159,7 @@ impl RealHost {
         Failed
     }
 
-    // Counts what failed.
+    // Counts the failure of a call that failed.
     fn checked<T: Drop>(&mut self, answer: io::Result<T>) -> Result<T, Failed>
         ensures cause { HasCause self.old.faults self.new.faults result }
         ensures counted { IsCounted self.old.faults self.new.faults result }
@@ -172,7 +172,7 @@ impl RealHost {
         }
     }
 
-    // Opens the socket, and then the directory and its clock where there is one. What was open before is let go first.
+    // Opens the socket, and then the directory and its clock, if there is one. It first closes what was open.
     fn open_place(&mut self, place: &Place) -> io::Result<()>
         ensures faults { self.new.faults ≡ self.old.faults }
         ensures opened { OnOk result (IsOpenAt place.now (hearing self.new.mail.socket)) }
@@ -190,7 +190,7 @@ impl RealHost {
         Ok(())
     }
 
-    // Opens this directory and its clock; none where the path is empty.
+    // Opens this directory and its clock, or none if the path is empty.
     fn open_store(&mut self, directory: &PathText) -> io::Result<()>
         ensures faults { self.new.faults ≡ self.old.faults }
         ensures mail { self.new.mail ≡ self.old.mail }
@@ -213,7 +213,7 @@ impl RealHost {
         }
     }
 
-    // How a job ended, where one did.
+    // Returns how a job ended, if one did.
     fn ended_job(&mut self) -> Option<Arrival>
         ensures handler { IfSome result IsHandler }
         ensures later { self.old.faults ≤ self.new.faults }
@@ -225,8 +225,8 @@ impl RealHost {
         self.look_at_jobs()
     }
 
-    // The same where one may have. Where the system does not tell, or a program could not be started behind another,
-    // it counts as one that a signal ended.
+    // Returns the same, if a job may have ended. If the system cannot say how, or the next program could not be
+    // started, the job counts as ended by a signal.
     fn look_at_jobs(&mut self) -> Option<Arrival>
         ensures handler { IfSome result IsHandler }
         ensures later { self.old.faults ≤ self.new.faults }
@@ -244,7 +244,7 @@ impl RealHost {
         Some(Arrival::Handler { job, status })
     }
 
-    // Says that a receive failed, at a place with records: clients say what they miss themselves.
+    // Logs that a receive failed, at a place with records. Clients report what they miss themselves.
     fn tell_unreceived(&mut self, error: &io::Error)
         ensures faults { self.new.faults ≡ self.old.faults }
         ensures mail { self.new.mail ≡ self.old.mail }
@@ -254,7 +254,7 @@ impl RealHost {
         }
     }
 
-    // Says that a send failed, at a place with records.
+    // Logs that a send failed, at a place with records.
     fn tell_unsent(&mut self, to: &Peer, error: &io::Error)
         ensures faults { self.new.faults ≡ self.old.faults }
         ensures mail { self.new.mail ≡ self.old.mail }
@@ -264,7 +264,7 @@ impl RealHost {
         }
     }
 
-    // Takes what came meanwhile, at a place with records.
+    // Takes arrivals from the system, at a place with records.
     fn take_in(&mut self)
         ensures faults { self.new.faults ≡ self.old.faults }
         ensures taken { TakesIn (hearing self.old.mail.socket) (waiting self.old.mail.backlog)
@@ -281,7 +281,7 @@ impl RealHost {
         }
     }
 
-    // The same once in many sends.
+    // Does the same after every 32 sends.
     fn take_in_behind(&mut self)
         ensures faults { self.new.faults ≡ self.old.faults }
         ensures taken { TakesIn (hearing self.old.mail.socket) (waiting self.old.mail.backlog)
@@ -300,10 +300,10 @@ impl Host for RealHost {
 
     ghost faults = { λ host. host.faults };
 
-    /// The directory of the records is made where it is missing, for its owner alone, in one that has to be there,
-    /// and is locked for this host until it opens another place or ends. It fails where another host holds the
-    /// directory. A place without a directory keeps no records. A place that has no address and no port either is
-    /// that of a client: datagrams come to it from the peer alone that it sent to last.
+    /// The directory of the records is created for its owner alone if it is missing; the directory above it must
+    /// exist. It is locked for this host until the host opens another place or ends. The call fails if another host
+    /// holds the directory. A place without a directory has no records. A place that has neither an address nor a
+    /// port nor records is a client's: it accepts datagrams only from the peer that it sent to last.
     fn open(&mut self, place: &Place) -> Result<(), Failed>
         ensures past { GrewBy None None
             (Entry.Open place.now.local place.now.port place.now.records place.now.conf_path result ∷ []) }
@@ -316,8 +316,8 @@ impl Host for RealHost {
         self.checked(answer)
     }
 
-    /// A job that is over comes before a datagram, and is not waited for. Then comes what was taken in, the oldest
-    /// first.
+    /// A job that is over is returned before any datagram, and nothing waits for it. Datagrams that were taken in
+    /// follow, the oldest first.
     fn next(&mut self, wait_ms: u64, into: &mut Datagram) -> Result<Arrival, Failed>
         ensures past { GrewBy None None (Entry.Next wait_ms result into.new ∷ []) }
         ensures cause { HasCause self.old.faults self.new.faults result }
@@ -333,15 +333,15 @@ impl Host for RealHost {
         let answer = self.mail.receive(wait_ms, into);
         if let Err(error) = &answer {
             self.tell_unreceived(error);
-            // A failure may come at once, and a caller that goes on must not take the whole processor.
+            // A failure may return at once, and a caller that continues must not use a whole processor.
             thread::sleep(&self.rt, Duration::from_millis(wait_ms));
         }
         self.checked(answer)
     }
 
-    /// At a place with records it is the clock that their directory keeps, which no step of the wall clock touches; a
-    /// line on standard error tells of such a step. Elsewhere it is the wall clock. A clock that cannot be read
-    /// stands still, and no place with records is opened behind a wall clock that could not be.
+    /// At a place with records it reads the clock that the records directory holds, which no step of the wall clock
+    /// changes; a line on standard error reports such a step. Elsewhere it reads the wall clock. A clock that cannot
+    /// be read stands still. After a failed reading of the wall clock no place with records is opened.
     fn now(&mut self) -> u64
         ensures past { GrewBy None None (Entry.Now result ∷ []) }
         ensures later { self.old.faults ≤ self.new.faults }
@@ -361,9 +361,8 @@ impl Host for RealHost {
         }
     }
 
-    /// It waits for no room: where the system has none, the send has failed. To a peer whose family is not that of
-    /// this host's address it goes by another socket, from another address of this machine, and fails where the
-    /// machine has none.
+    /// It never waits for room: if the system has none, the send fails. A peer of the other address family is reached
+    /// by another socket, from another address of this machine; the send fails if the machine has none.
     fn send(&mut self, to: &Peer, bytes: &[u8]) -> Result<(), Failed>
         ensures past { GrewBy None None (Entry.Send to.now bytes.now result ∷ []) }
         ensures cause { HasCause self.old.faults self.new.faults result }
@@ -393,8 +392,8 @@ impl Host for RealHost {
         self.checked(answer)
     }
 
-    /// Where it ends in another way than the ticket's keep before, a line on standard error says so. One that takes
-    /// longer than a keep may fails, and the record may be on the disk all the same.
+    /// If its result differs from that of the ticket's last write, a line on standard error says so. A write that
+    /// takes longer than the limit fails, and the record may be on the disk nevertheless.
     fn keep(&mut self, ticket: &Name, rec: &Record) -> Result<(), Failed>
         ensures past { GrewBy None None (Entry.Keep ticket.now rec.now result ∷ []) }
         ensures cause { HasCause self.old.faults self.new.faults result }
@@ -409,8 +408,8 @@ impl Host for RealHost {
         self.checked(answer)
     }
 
-    /// A program of the same ticket that runs on is ended first. It fails where no place is open, where the handler
-    /// cannot be started, and where that program cannot be ended, or one that was ended before is not yet over.
+    /// It first kills the program of the same ticket that still runs. It fails if no place is open, if the handler
+    /// cannot be started, if that program cannot be killed, or if one that was killed before has not ended yet.
     fn start(&mut self, job: &Job) -> Result<(), Failed>
         ensures past { GrewBy None None
             (Entry.Start job.now.number job.now.ticket job.now.handler job.now.local job.now.expires result ∷ []) }
@@ -424,7 +423,7 @@ impl Host for RealHost {
         self.checked(answer)
     }
 
-    /// A regular file of up to 2^30 bytes is read, and no other.
+    /// It reads a regular file of up to 2^30 bytes, and no other.
     fn read_file(&mut self, alloc: Global, path: &str) -> Result<ByteText, ReadFault>
         ensures past { GrewBy None None (Entry.ReadFile path.now result ∷ []) }
         ensures cause { HasReadCause self.old.faults self.new.faults result }
@@ -440,9 +439,9 @@ impl Host for RealHost {
         }
     }
 
-    /// The lock goes with the process, so a file that is left behind is no lock. The file is made where it is
-    /// missing, for its owner alone, and its directory is not; what is no regular file is not opened. The lock that
-    /// this host holds is given to it again; beside it, the lock of another file is a failure.
+    /// The lock ends with the process, so a file that is left behind is no lock. The file is created for its owner
+    /// alone if it is missing; its directory is not. A file that is not regular is not opened. A host may take the
+    /// lock that it already holds; a second file's lock is a failure.
     fn lock(&mut self, path: &str) -> Result<bool, Failed>
         ensures past { GrewBy None None (Entry.Lock path.now result ∷ []) }
         ensures cause { HasCause self.old.faults self.new.faults result }
@@ -462,7 +461,8 @@ impl Host for RealHost {
         self.checked(answer)
     }
 
-    /// Where the journal reads standard error, each line has the priority of a failure in place of the program's name.
+    /// If the journal reads standard error, each line begins with the priority of a failure instead of the program's
+    /// name.
     fn err(&mut self, bytes: &[u8]) -> Result<(), Failed>
         ensures past { GrewBy None None (Entry.Err bytes.now result ∷ []) }
         ensures cause { HasCause self.old.faults self.new.faults result }

@@ -1,4 +1,4 @@
-//! A record file as a disk. It tells nothing of its bytes: what it does with them is the system's.
+//! A record file as a disk. No contract says which bytes it holds: that is the system's part.
 ghost use Rattle.std.specs.Prelude.{◌≡◌, [], false, refl};
 ghost use Rattle.booth_rec.specs.Disk.{HasCause};
 
@@ -13,18 +13,18 @@ use std::os::unix::fs::FileExt;
 /// One byte more than the four slots of a record file have.
 const MOST_BYTES: usize = 337;
 
-/// Where a file that keeps no record has zeros, as far as its slots reach: the bytes of each slot before its number,
-/// and those behind its record. What stands between them may be of a write that was cut short.
+/// Where a file without a record has zeros, as far as its slots reach: in each slot the bytes before the number, and
+/// those behind the record. The bytes between may come from an interrupted write.
 const UNWRITTEN: [(usize, usize); 5] = [(0, 8), (48, 72), (112, 136), (208, 264), (336, 337)];
 
-/// What is known of the bytes that a read of a record file gives.
+/// What is known of the bytes that are read from a record file.
 #[derive(Clone, Copy)]
 pub(crate) enum Known {
-    /// All of them are on the disk: this process had the last ones be there.
+    /// All of them are on the disk: this process synced the last ones.
     Synced,
     /// Some may not be on the disk yet.
     Unsynced,
-    /// The system may have bytes of the file that the medium has not.
+    /// The system's bytes of the file may differ from those on the medium.
     Doubted,
 }
 
@@ -33,16 +33,16 @@ pub(crate) enum Known {
 pub(crate) struct FileDisk {
     file: File,
     known: Known,
-    /// Until when calls are made, where that is limited.
+    /// Until when calls may be made, if that is limited.
     deadline: Option<Deadline>,
-    /// Whether a call was refused since that time was over.
+    /// Whether a call was refused because the deadline had passed.
     is_late: bool,
-    /// Why the last call that failed did.
+    /// The error of the last call that failed.
     error: Option<io::Error>,
     faults: u64,
 }
 
-/// Reads until the bytes are full or the file ends.
+/// Reads until `into` is full or the file ends.
 pub(crate) fn fill(file: &File, at: u64, into: &mut [u8]) -> io::Result<usize> {
     let mut len = 0;
     for _ in 0..u64::MAX {
@@ -62,7 +62,7 @@ pub(crate) fn fill(file: &File, at: u64, into: &mut [u8]) -> io::Result<usize> {
     Ok(len)
 }
 
-// Whether a byte of this range is not 0.
+// Returns whether a byte of this range is not 0.
 fn has_bytes(bytes: &[u8], place: (usize, usize)) -> bool {
     let (first, end) = place;
     match bytes.get(first..end) {
@@ -71,8 +71,8 @@ fn has_bytes(bytes: &[u8], place: (usize, usize)) -> bool {
     }
 }
 
-// Has the system read the file from the medium again. After a sync that failed it may have other bytes of it, and a
-// later sync that succeeds says nothing of them.
+// Makes the system read the file from the medium again. After a failed sync the system may hold bytes that the medium
+// does not have, and a later successful sync says nothing about them.
 fn forget_bytes(file: &File) -> io::Result<()> {
     match libc::posix_fadvise(file.as_raw_fd(), 0, 0, libc::POSIX_FADV_DONTNEED) {
         0 => Ok(()),
@@ -81,8 +81,8 @@ fn forget_bytes(file: &File) -> io::Result<()> {
 }
 
 impl FileDisk {
-    /// The disk of an open file, of which so much is known. It is doubted where a call on a record file may have failed
-    /// before. From the deadline on no call is made, and each fails.
+    /// Returns the disk of an open file, of which this much is known. It is `Doubted` if a call on a record file may
+    /// have failed before. After the deadline each call fails without reaching the system.
     pub(crate) fn new(file: File, known: Known, deadline: Option<Deadline>) -> FileDisk {
         FileDisk {
             file,
@@ -94,7 +94,7 @@ impl FileDisk {
         }
     }
 
-    /// Why the last call that failed did.
+    /// Returns the error of the last call that failed.
     pub(crate) fn error(&self) -> io::Error {
         match self.error {
             Some(error) => error,
@@ -102,19 +102,20 @@ impl FileDisk {
         }
     }
 
-    /// Whether a call failed since its time was over. Then the system was not asked, so its bytes are not doubted.
+    /// Returns whether a call failed because the deadline had passed. The system was not asked then, so the bytes are
+    /// not doubted.
     pub(crate) fn is_late(&self) -> bool {
         self.is_late
     }
 
-    /// Whether the file has bytes that no write of a record leaves in a file that keeps none.
+    /// Returns whether the file has bytes that no write of a record leaves in a file without a record.
     pub(crate) fn is_strange(&self) -> io::Result<bool> {
         let mut bytes = [0u8; MOST_BYTES];
         let count = fill(&self.file, 0, &mut bytes)?;
         Ok(count == bytes.len() || UNWRITTEN.iter().any(|place| has_bytes(&bytes, *place)))
     }
 
-    // Counts what failed.
+    // Notes the error of a call that failed.
     fn checked<T: Drop>(&mut self, answer: io::Result<T>) -> Result<T, DiskFault>
         ensures { HasCause self.old.faults self.new.faults result }
     {
@@ -128,7 +129,7 @@ impl FileDisk {
         }
     }
 
-    // Fails where the time for calls is over.
+    // Fails if the deadline has passed.
     fn require_time(&mut self) -> io::Result<()>
         ensures { self.new.faults ≡ self.old.faults }
     {
@@ -158,8 +159,8 @@ impl FileDisk {
         self.file.write_all_at(bytes, at)
     }
 
-    // Has all bytes be on the disk. The system is not asked where they are: a sync that has nothing to write takes as
-    // long as another.
+    // Syncs all bytes unless they are known to be on the disk: a sync with nothing to write takes as long as any
+    // other.
     fn settle(&mut self) -> io::Result<()>
         ensures { self.new.faults ≡ self.old.faults }
     {

@@ -1,6 +1,6 @@
-//! Kept records as files: one of a ticket, in a directory that one host has at a time.
+//! Records as files: one for each ticket, in a directory that one host has at a time.
 //!
-//! A file is opened for a call alone, and holds four slots (`booth_rec`). A file that is missing keeps no record.
+//! A file is opened for one call only, and holds four slots (`booth_rec`). A missing file holds no record.
 ghost use Rattle.std.specs.Prelude.{◌≤◌, length};
 
 use crate::deadline::Deadline;
@@ -19,7 +19,7 @@ use std::io::ErrorKind;
 use std::os::unix::fs::{DirBuilderExt, MetadataExt};
 use std::path::Path;
 
-/// The file whose lock the directory's one host holds.
+/// The file whose lock belongs to the directory's host.
 const LOCK: &str = "booth.lock";
 
 /// The directory by a path below it, at which no named pipe can stand.
@@ -28,48 +28,48 @@ const ITSELF: &str = ".";
 /// A path below a directory.
 pub(crate) type FilePath = ArrayString<400>;
 
-/// Who may look into a directory that is made here, and write in it.
+/// The mode of a new directory.
 const OWNERS_DIRECTORY: u32 = 0o700;
 
-/// What this host knows of the directory's own name.
+/// What this host knows about the directory's own name.
 #[derive(Clone, Copy)]
 enum OwnName {
-    /// It made the directory, and the name may not be on the disk yet.
+    /// This host created the directory, and its name may not be on the disk yet.
     Made,
-    /// The directory was there, and its name may not be on the disk yet.
+    /// The directory existed, and its name may not be on the disk yet.
     Found,
-    /// The name is on the disk, as far as this host can have it there.
+    /// The name is on the disk, as far as this host can sync it.
     Settled,
 }
 
-/// The directory of kept records, which this host alone uses.
+/// The directory of the records, which this host alone uses.
 #[derive(Drop)]
 pub(crate) struct Records {
     directory: PathText,
     own_name: OwnName,
     /// Whether the names in the directory are on the disk.
     has_names: bool,
-    /// Whether a call on a record file has failed: from then on the system's bytes of such files are doubted.
+    /// Whether a call on a record file has failed: from then on the system's bytes of record files are doubted.
     has_failed: bool,
-    /// The numbers of the files whose bytes are all on the disk, as this process had them there last.
+    /// The numbers of the files whose bytes are all on the disk because this process synced them.
     synced: HashSet<u64>,
-    /// How many milliseconds a write may take, where that is limited.
+    /// How many milliseconds a write may take, if that is limited.
     limit: Option<u64>,
-    /// The file of the lock, which lasts while it is open.
+    /// The lock's file; the lock lasts while it is open.
     lock: File,
-    /// The directory, whose own lock lasts while it is open: a file can be taken away or replaced.
+    /// The directory, whose own lock lasts while it is open: the lock's file could be deleted or replaced.
     own_lock: File,
 }
 
-/// What a ticket's file keeps.
+/// The contents of a ticket's file.
 #[derive(Clone, Copy)]
 pub(crate) struct Found {
     pub(crate) record: Option<Record>,
-    /// Whether it keeps no record, and has bytes that no write leaves.
+    /// Whether it holds no record, and has bytes that no write leaves.
     pub(crate) is_strange: bool,
 }
 
-/// The path of a file in a directory.
+/// Returns the path of a file in a directory.
 pub(crate) fn path_in(directory: &PathText, name: &str) -> io::Result<FilePath> {
     let mut path = FilePath::new();
     path.push_str(directory.as_str());
@@ -80,7 +80,7 @@ pub(crate) fn path_in(directory: &PathText, name: &str) -> io::Result<FilePath> 
     }
 }
 
-// The name of a ticket's file: the ticket's in hexadecimal, and `.rec`.
+// Returns the name of a ticket's file: the ticket's name in hexadecimal, and `.rec`.
 fn file_name(ticket: &Name) -> io::Result<ArrayString<130>> {
     let mut name = ArrayString::<130>::new();
     for byte in ticket.bytes() {
@@ -92,7 +92,7 @@ fn file_name(ticket: &Name) -> io::Result<ArrayString<130>> {
     }
 }
 
-// Makes a directory where it is missing, for its owner alone: whoever may write in it could take a record away.
+// Creates a directory for its owner alone if it is missing: whoever may write to it could take a record away.
 fn make(rt: &HostRuntime, directory: &str) -> io::Result<OwnName> {
     let made = DirBuilder::new()
         .mode(OWNERS_DIRECTORY)
@@ -104,12 +104,12 @@ fn make(rt: &HostRuntime, directory: &str) -> io::Result<OwnName> {
     }
 }
 
-/// Has the names in a directory be on the disk.
+/// Syncs the names in a directory.
 pub(crate) fn sync_directory(rt: &HostRuntime, directory: &str) -> io::Result<()> {
     File::open(rt, directory)?.sync_all()
 }
 
-/// Has the name of a file or a directory be on the disk.
+/// Syncs the name of a file or a directory.
 pub(crate) fn sync_parent(rt: &HostRuntime, path: &str) -> io::Result<()> {
     match Path::new(path).parent() {
         Some(parent) if parent.as_os_str().is_empty() => sync_directory(rt, "."),
@@ -118,8 +118,9 @@ pub(crate) fn sync_parent(rt: &HostRuntime, path: &str) -> io::Result<()> {
     }
 }
 
-// The same of a directory that was there. Who made it answers for its name where this user may not open the one above,
-// or where that has no sync, as one that is only read and has the directory as a mount point.
+// Does the same for a directory that existed. If this user may not open the directory above, or if that one cannot be
+// synced, for example on a read-only file system with this directory as a mount point, then the name is the
+// responsibility of whoever created it.
 fn sync_parent_if_allowed(rt: &HostRuntime, directory: &str) -> io::Result<()> {
     let Err(error) = sync_parent(rt, directory) else {
         return Ok(());
@@ -130,7 +131,7 @@ fn sync_parent_if_allowed(rt: &HostRuntime, directory: &str) -> io::Result<()> {
     }
 }
 
-// The answer, where a failure has words that say what failed.
+// Returns the result, with words in front of an error that say what failed.
 fn within(words: &str, answer: io::Result<()>) -> io::Result<()> {
     let Err(error) = answer else {
         return Ok(());
@@ -140,14 +141,15 @@ fn within(words: &str, answer: io::Result<()>) -> io::Result<()> {
     Err(io::Error::new(error.kind(), text.as_str()))
 }
 
-// The error of a file that takes no record, with these words.
+// Returns the error of a file that accepts no record, with these words.
 fn damaged(words: &str) -> io::Error {
     io::Error::new(ErrorKind::InvalidData, words)
 }
 
 impl Records {
-    /// The directory at this path, made where it is missing in the one above, with its locks. It fails where another
-    /// holds one of them. A write in it fails that takes longer than the limit, in milliseconds, where there is one.
+    /// Opens the directory at this path with its locks, and creates it in the directory above if it is missing. Fails
+    /// if another process holds one of the locks. Each write in it fails that takes longer than the limit, in
+    /// milliseconds, if there is one.
     pub(crate) fn open(
         rt: &HostRuntime,
         alloc: Global,
@@ -173,7 +175,7 @@ impl Records {
         &self.directory
     }
 
-    // Why a call on this disk failed. From then on bytes are doubted, but where the system was not asked.
+    // Returns why a call on this disk failed. From then on bytes are doubted, unless the system was not asked.
     fn failure(&mut self, disk: &FileDisk) -> io::Error {
         if !disk.is_late() {
             self.has_failed = true;
@@ -181,7 +183,7 @@ impl Records {
         disk.error()
     }
 
-    // The slots of a file.
+    // Returns the slots of a file.
     fn slots(&mut self, disk: FileDisk) -> io::Result<Slots<FileDisk>> {
         match Slots::open(disk) {
             Ok(slots) => Ok(slots),
@@ -190,7 +192,7 @@ impl Records {
         }
     }
 
-    // What is known of the file of this number, which this host alone writes.
+    // Returns what is known of the file with this number, which this host alone writes.
     fn known_of(&self, number: u64) -> Known {
         if self.has_failed {
             Known::Doubted
@@ -201,13 +203,13 @@ impl Records {
         }
     }
 
-    // Notes that all bytes of the file of this number are on the disk. Where there is no memory for that, it is synced
-    // once more.
+    // Notes that all bytes of the file with this number are on the disk. If there is no memory for that, the file is
+    // synced once more later.
     fn note_synced(&mut self, number: u64) {
         let _ = self.synced.insert(number);
     }
 
-    // Has the directory's own name be on the disk, also where an earlier process made the directory and ended.
+    // Syncs the directory's own name, even if an earlier process created the directory and ended.
     fn keep_own_name(&mut self, rt: &HostRuntime) -> io::Result<()> {
         let synced = match self.own_name {
             OwnName::Settled => return Ok(()),
@@ -219,7 +221,7 @@ impl Records {
         Ok(())
     }
 
-    // Has the names in the directory be on the disk, and its own.
+    // Syncs the names in the directory, and its own.
     fn keep_names(&mut self, rt: &HostRuntime) -> io::Result<()> {
         if self.has_names {
             return Ok(());
@@ -231,13 +233,13 @@ impl Records {
         Ok(())
     }
 
-    // The path of a ticket's file.
+    // Returns the path of a ticket's file.
     fn path_of(&self, ticket: &Name) -> io::Result<FilePath> {
         path_in(&self.directory, file_name(ticket)?.as_str())
     }
 
-    /// What a ticket's file keeps; a file that is missing keeps nothing. Its bytes are doubted: of what failed before
-    /// this process nothing is known.
+    /// Returns the contents of a ticket's file; a missing file holds nothing. Its bytes are doubted, since nothing is
+    /// known of failures before this process.
     pub(crate) fn read(&mut self, rt: &HostRuntime, ticket: &Name) -> io::Result<Found> {
         let path = self.path_of(ticket)?;
         match if_found(open_to_look(rt, path.as_str()))? {
@@ -249,7 +251,7 @@ impl Records {
         }
     }
 
-    // What an open file keeps.
+    // Returns the contents of an open file.
     fn look(&mut self, file: File) -> io::Result<Found> {
         let number = file.metadata()?.ino();
         let slots = self.slots(FileDisk::new(file, Known::Doubted, None))?;
@@ -259,7 +261,7 @@ impl Records {
         Ok(Found { record, is_strange })
     }
 
-    // Opens the file at this path, which is made where it is missing. The names are to be kept then.
+    // Opens the file at this path, and creates it if it is missing. In that case its name must still be synced.
     fn open_or_make(&mut self, rt: &HostRuntime, path: &str) -> io::Result<File> {
         match if_found(open_to_change(rt, path))? {
             Some(file) => Ok(file),
@@ -270,11 +272,11 @@ impl Records {
         }
     }
 
-    // Puts this record into an open file, until the deadline.
+    // Writes this record to an open file before the deadline.
     fn put(&mut self, file: File, record: &Record, deadline: Option<Deadline>) -> io::Result<()> {
         let number = file.metadata()?.ino();
         let known = self.known_of(number);
-        // (what is on the disk is known again once all went well)
+        // (after a success the bytes are known to be on the disk again)
         self.synced.remove(&number);
         let mut slots = self.slots(FileDisk::new(file, known, deadline))?;
         match slots.put(record) {
@@ -287,8 +289,9 @@ impl Records {
         }
     }
 
-    /// Keeps this record in a ticket's file: it, the file's name, and that of the directory are on the disk then, and it
-    /// took no longer than a write may. A write that takes longer fails, and stops before its next step.
+    /// Writes this record to a ticket's file. On success the record, the file's name and the directory's name are on
+    /// the disk, and the write took no longer than the limit. A write that takes longer fails, and takes no further
+    /// step.
     pub(crate) fn write(
         &mut self,
         rt: &HostRuntime,

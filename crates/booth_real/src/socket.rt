@@ -1,4 +1,4 @@
-//! The UDP socket, and addresses as the system has them.
+//! The UDP socket, and addresses in the system's form.
 ghost use Rattle.std.specs.Prelude.{◌≡◌, ◌≤◌, ◌⊎◌, Some, None, IfOk, IsFalse, IsTrue, OnErr, OnOk, length};
 ghost use Rattle.booth_host.specs.declared.datagram.TheConstants.{DATAGRAM_BYTES};
 ghost use Rattle.booth_real.specs.Hearing.{BringsTo, Hears, HearsAt, IsToAsk, turned};
@@ -17,33 +17,33 @@ use std::io::ErrorKind;
 use std::net::{IpAddr, Ipv4Addr, Ipv6Addr, SocketAddr, UdpSocket};
 use std::os::fd::{AsRawFd, RawFd};
 
-/// The room that is asked for what was not sent and what was not received yet. The system gives as much of it as it
-/// allows (net.core.wmem_max and net.core.rmem_max), and twice that.
+/// The room that is requested for datagrams that were not sent or not received yet. The system grants as much as it
+/// allows (net.core.wmem_max and net.core.rmem_max), and doubles it.
 const ROOM: i32 = 1 << 30;
 
-/// Whom a socket reaches.
+/// Which peers a socket reaches.
 #[derive(Clone, Copy)]
 enum Reach {
-    /// Peers of IPv4.
+    /// IPv4 peers.
     V4,
-    /// Peers of IPv6.
+    /// IPv6 peers.
     V6,
-    /// Peers of both families: it is one of IPv6, in which an IPv4 address is written `::ffff:a.b.c.d`
-    /// (RFC 4291, section 2.5.5.2).
+    /// Peers of both families: an IPv6 socket, which writes an IPv4 address as `::ffff:a.b.c.d` (RFC 4291, section
+    /// 2.5.5.2).
     Both,
 }
 
-/// Whose datagrams a socket takes.
+/// Which senders a socket accepts datagrams from.
 #[derive(Clone, Copy)]
 enum Takes {
-    /// Anybody's.
+    /// All senders.
     All,
-    /// Those of the peer that was asked last, once one was: no other user of the machine answers in its place.
+    /// The peer that was asked last, once one was: no other user of the machine can answer in its place.
     Asked(Option<Peer>),
 }
 
 impl Takes {
-    // Whether it takes what this peer sent.
+    // Returns whether the socket accepts what this peer sent.
     fn hears(&self, from: &Peer) -> bool
         ensures { IsTrue result → Hears self.now from.now }
     {
@@ -60,11 +60,11 @@ pub(crate) struct Socket {
     udp: UdpSocket,
     reach: Reach,
     takes: Takes,
-    /// A socket of the other family, for sends alone, once there was one.
+    /// A socket of the other family, only to send, once one was needed.
     beside: Option<UdpSocket>,
 }
 
-// Any address of the family of this one.
+// Returns the wildcard address of the other family.
 fn any_beside(address: Address) -> IpAddr {
     match address {
         Address::V4(_) => IpAddr::V4(Ipv4Addr::UNSPECIFIED),
@@ -72,7 +72,7 @@ fn any_beside(address: Address) -> IpAddr {
     }
 }
 
-// An address as a socket of both families writes it.
+// Returns an address in the form of a socket of both families.
 fn widened(address: IpAddr) -> IpAddr {
     match address {
         IpAddr::V4(address) => IpAddr::V6(address.to_ipv6_mapped()),
@@ -86,17 +86,17 @@ fn room_bytes(room: i32) -> [u8; 16] {
     value
 }
 
-// Asks for so much room for what is sent. Where there is none to give, what the socket has stays.
+// Requests this much room for what is sent. If the system refuses, the room stays as it is.
 fn ask_to_send(udp: &UdpSocket, room: i32) {
     let _ = unsafe { setsockopt(udp.as_raw_fd(), SOL_SOCKET, SO_SNDBUF, &room_bytes(room), 4) };
 }
 
-// The same for what comes.
+// Does the same for what arrives.
 fn ask_to_receive(udp: &UdpSocket, room: i32) {
     let _ = unsafe { setsockopt(udp.as_raw_fd(), SOL_SOCKET, SO_RCVBUF, &room_bytes(room), 4) };
 }
 
-// A socket with room for all that is sent. Neither a send nor a receive waits: `Socket::wait` alone does.
+// Opens a socket with all the room that it can get. Neither a send nor a receive waits; only `Socket::wait` does.
 fn bind_udp(rt: &HostRuntime, address: IpAddr, port: u16) -> io::Result<UdpSocket> {
     let udp = UdpSocket::bind(rt, SocketAddr::new(address, port))?;
     udp.set_nonblocking(true)?;
@@ -117,7 +117,7 @@ fn bind(rt: &HostRuntime, address: IpAddr, port: u16, reach: Reach) -> io::Resul
     })
 }
 
-// A socket at any address, which reaches both families, or IPv4 alone where the machine has no other.
+// Opens a socket at any address that reaches both families, or IPv4 alone if the machine has no IPv6.
 fn bind_anywhere(rt: &HostRuntime, port: u16) -> io::Result<Socket>
     ensures { IfOk result (λ socket. socket.takes ≡ Takes.All) }
 {
@@ -127,7 +127,7 @@ fn bind_anywhere(rt: &HostRuntime, port: u16) -> io::Result<Socket>
     }
 }
 
-// Whom a socket at this address reaches.
+// Returns which peers a socket at this address reaches.
 fn reach_from(address: Address) -> Reach {
     match address {
         Address::V4(_) => Reach::V4,
@@ -135,7 +135,7 @@ fn reach_from(address: Address) -> Reach {
     }
 }
 
-// A socket to which the system gives datagrams of this peer alone.
+// Opens a socket that receives only this peer's datagrams.
 fn bind_to_ask(rt: &HostRuntime, peer: &Peer) -> io::Result<Socket>
     ensures { IfOk result (λ socket. socket.takes ≡ Takes.Asked (Some peer.now)) }
 {
@@ -147,7 +147,7 @@ fn bind_to_ask(rt: &HostRuntime, peer: &Peer) -> io::Result<Socket>
     Ok(socket)
 }
 
-// Whether a place is that of one who asks: it has no address, no port and no records, so nobody can know it before.
+// Returns whether a place is a client's: it has no address, no port and no records, so nobody can know it in advance.
 fn is_to_ask(place: &Place) -> bool
     ensures asks { IsTrue result → IsToAsk place.now }
     ensures others { IsToAsk place.now → IsTrue result }
@@ -155,15 +155,16 @@ fn is_to_ask(place: &Place) -> bool
     place.local.is_none() && place.port == 0 && place.records.as_str().is_empty()
 }
 
-// A socket for sends to peers of this one's family, at a port of the system's choice. Nothing is received by it, so
-// it has the least room that there is for what comes.
+// Opens a socket to send to peers of this one's family, at a port that the system chooses. Nothing is received by it,
+// so it gets the least room for arrivals.
 fn bind_to_send(rt: &HostRuntime, peer: &Peer) -> io::Result<UdpSocket> {
     let udp = bind_udp(rt, any_beside(peer.address), 0)?;
     ask_to_receive(&udp, 0);
     Ok(udp)
 }
 
-// Sends these bytes, again where a signal cut the call short, or it told of an earlier datagram that nobody took.
+// Sends these bytes, again if a signal interrupted the call or the call reported that an earlier datagram was
+// refused.
 fn send_by(udp: &UdpSocket, to: SocketAddr, bytes: &[u8]) -> io::Result<()> {
     for _ in 0..u64::MAX {
         match udp.send_to(bytes, to) {
@@ -177,8 +178,8 @@ fn send_by(udp: &UdpSocket, to: SocketAddr, bytes: &[u8]) -> io::Result<()> {
     Err(io::Error::from(ErrorKind::Interrupted))
 }
 
-// Whether an error is what the network told of an earlier datagram: where one peer is asked, that nobody listens there,
-// or that there is no way to it. Another one may arrive yet.
+// Returns whether an error is the network's answer to an earlier datagram: that nobody listens at the asked peer, or
+// that no network path leads there. Another answer may still arrive.
 fn is_told(kind: ErrorKind) -> bool {
     matches!(
         kind,
@@ -189,7 +190,7 @@ fn is_told(kind: ErrorKind) -> bool {
     )
 }
 
-// A file, as `poll` is asked whether it can be read. It passes over one below 0.
+// Returns a file in the form that `poll` takes. `poll` ignores a number below 0.
 fn asked(fd: RawFd) -> pollfd {
     pollfd {
         fd,
@@ -199,9 +200,9 @@ fn asked(fd: RawFd) -> pollfd {
 }
 
 impl Socket {
-    /// A socket at this place. Where it has no address, the socket reaches peers of both families, and on a machine
-    /// without IPv6 those of IPv4. Where it has no port and no records either, it takes datagrams of the peer alone
-    /// that it sent to last.
+    /// Opens a socket at this place. Without an address the socket reaches peers of both families, or IPv4 peers on a
+    /// machine without IPv6. Without an address, a port and records it accepts datagrams only from the peer that it
+    /// sent to last.
     pub(crate) fn open(rt: &HostRuntime, place: &Place) -> io::Result<Socket>
         ensures { IfOk result (λ socket. HearsAt place.now socket.takes) }
     {
@@ -216,8 +217,8 @@ impl Socket {
         Ok(socket)
     }
 
-    // Has it take datagrams of this peer, where it takes those of one alone. That is by another socket, since one
-    // that was connected keeps its own address, by which not every peer is reached.
+    // Makes a socket that accepts one sender alone accept this peer. It opens another socket for that, since a
+    // connected socket keeps its own address, from which not every peer can be reached.
     fn turn_to(&mut self, rt: &HostRuntime, peer: &Peer) -> io::Result<()>
         ensures ok { OnOk result (self.new.takes ≡ turned self.old.takes peer.now) }
         ensures err { OnErr result (self.new.takes ≡ self.old.takes) }
@@ -233,15 +234,15 @@ impl Socket {
         Ok(())
     }
 
-    // Waits for so many milliseconds, and no longer than until a datagram is there or the other file can be read,
-    // which is noted. It says whether a datagram may be there. One that a signal cuts short has ended.
+    // Waits for this many milliseconds, but no longer than until a datagram has arrived or the other file can be
+    // read, which is noted. Returns whether a datagram may have arrived. A signal also ends the wait.
     fn wait(&self, wait_ms: u64, wake: &Wake) -> bool {
         let mut asked = [asked(self.udp.as_raw_fd()), asked(wake.file())];
         let ready = poll(&mut asked, i32::try_from(wait_ms).unwrap_or(i32::MAX));
         if asked[1].revents != 0 {
             wake.note();
         }
-        // (what poll does not tell, a receive does)
+        // (what poll does not report, a receive does)
         let is_there = ready < 0 || asked[0].revents != 0;
         if is_there {
             wake.go_ahead();
@@ -262,7 +263,7 @@ impl Socket {
         }
     }
 
-    // A peer's address as the socket that sends to it writes it.
+    // Returns a peer's address in the form of the socket that sends to it.
     fn address_to(&self, to: &Peer) -> SocketAddr {
         let ip = to.address.to_ip();
         let ip = match self.reach {
@@ -272,7 +273,7 @@ impl Socket {
         SocketAddr::new(ip, to.port)
     }
 
-    // Whether it sends to this peer itself.
+    // Returns whether this socket itself reaches the peer.
     fn reaches(&self, to: &Peer) -> bool {
         match (self.reach, to.address) {
             (Reach::Both, _) => true,
@@ -281,7 +282,7 @@ impl Socket {
         }
     }
 
-    // Sends to a peer of the other family, by a socket that is made where there was none.
+    // Sends to a peer of the other family, by a second socket that is opened when it is first needed.
     fn send_beside(&mut self, rt: &HostRuntime, to: &Peer, bytes: &[u8]) -> io::Result<()>
         ensures { self.new.takes ≡ self.old.takes }
     {
@@ -297,7 +298,7 @@ impl Socket {
         }
     }
 
-    // What an error of a receive means.
+    // Returns the meaning of a receive's error.
     fn unreceived(&self, error: io::Error) -> io::Result<Arrival>
         ensures { IfOk result (λ arrival. arrival ≡ Arrival.Quiet) }
     {
@@ -313,7 +314,7 @@ impl Socket {
         }
     }
 
-    // Whether it takes datagrams of one peer alone.
+    // Returns whether the socket accepts one sender alone.
     fn asks(&self) -> bool
         ensures { IsFalse result → self.now.takes ≡ Takes.All }
     {
@@ -323,9 +324,9 @@ impl Socket {
         }
     }
 
-    /// What comes within this time, through the buffer. It is Quiet where nothing came that it takes, a signal cut
-    /// the call short, or the other file can be read. Where that file is known to have something, nobody waits. Behind
-    /// a datagram that came some receives ask for the next one before they wait.
+    /// Returns what arrives within this time, read through the buffer. Returns `Quiet` if nothing acceptable arrived,
+    /// if a signal interrupted the call, or if the other file can be read. It does not wait if that file is known to
+    /// be readable. After a datagram arrived, some receives ask for the next one before they wait.
     pub(crate) fn receive(
         &self,
         wait_ms: u64,
@@ -351,7 +352,8 @@ impl Socket {
         }
     }
 
-    // What is there, through the buffer. It is Quiet where nothing is that it takes, or a signal cut the call short.
+    // Returns what has arrived, read through the buffer. Returns `Quiet` if nothing acceptable has, or if a signal
+    // interrupted the call.
     fn take(&self, buffer: &mut [u8], into: &mut Datagram) -> io::Result<Arrival>
         ensures { IfOk result (λ arrival. BringsTo (Some self.now.takes) arrival) }
     {
@@ -368,8 +370,8 @@ impl Socket {
         }
     }
 
-    /// Looks at the other file, without a wait, and notes whether it can be read; not where it was looked at shortly
-    /// before.
+    /// Checks without a wait whether the other file can be read, and notes the result; it skips the check if one was
+    /// made shortly before.
     pub(crate) fn look_at(&self, wake: &Wake) {
         if !wake.goes_ahead() {
             self.wait(0, wake);
@@ -377,9 +379,8 @@ impl Socket {
         }
     }
 
-    /// Takes what the system holds for this socket into the backlog, as far as there is room, and waits for nothing:
-    /// what there is no room for stays with the system. It fails where a receive does. One who asks a peer takes
-    /// nothing in.
+    /// Moves the system's datagrams for this socket into the backlog, as long as there is room, without a wait. The
+    /// rest stays with the system. Fails if a receive fails. A client's socket moves nothing.
     #[tactic(auto, using(crate::proofs::WaitingLemmas::as_many))]
     pub(crate) fn drain(&self, buffer: &mut [u8], backlog: &mut Backlog) -> io::Result<()>
         requires { length buffer.old ≡ DATAGRAM_BYTES }
@@ -402,8 +403,8 @@ impl Socket {
         Ok(())
     }
 
-    /// Gives these bytes to the network. It fails where there is no room, and to a peer of the other family where the
-    /// system has no socket of that one.
+    /// Sends these bytes. Fails if there is no room, and for a peer of the other family if the system has no socket
+    /// of that family.
     pub(crate) fn send(&mut self, rt: &HostRuntime, to: &Peer, bytes: &[u8]) -> io::Result<()>
         ensures sent { OnOk result (self.new.takes ≡ turned self.old.takes to.now) }
         ensures unsent { OnErr result

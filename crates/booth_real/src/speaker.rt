@@ -1,7 +1,7 @@
-//! Standard error, for the lines of a program: with the program's name in front, or as the journal of systemd has them.
+//! Standard error for the lines of a program: with the program's name in front, or in the form of systemd's journal.
 //!
-//! The journal puts the program's name in front of a line itself, and takes a priority from the line's beginning, as
-//! `<4>` (sd-daemon(3)). Whether it reads standard error is told by the environment (systemd.exec(5)).
+//! The journal puts the program's name in front of a line itself, and takes a priority such as `<4>` from its
+//! beginning (sd-daemon(3)). The environment says whether the journal reads standard error (systemd.exec(5)).
 
 use crate::environment::variable;
 use crate::outlet::write_at_once;
@@ -12,32 +12,32 @@ use std::os::unix::fs::MetadataExt;
 use std::process::ChildStdin;
 use std::{fs, io};
 
-/// The variable that names the device and the number of the file that the journal reads, with a colon between.
+/// The variable with the device and inode number of the file that the journal reads, separated by a colon.
 const JOURNAL: &str = "JOURNAL_STREAM";
 
 /// Standard error as a file of this process.
 const STANDARD_ERROR: &str = "/proc/self/fd/2";
 
-/// The most bytes of a line, with its end.
+/// The most bytes of a line, with its line feed.
 const LINE_BYTES: usize = 1_024;
 
-/// A whole line.
+/// A complete line.
 type Line = ArrayVec<u8, LINE_BYTES>;
 
-/// How much a line matters.
+/// The priority of a line.
 #[derive(Clone, Copy)]
 pub enum Priority {
-    /// Something failed: `<3>`.
+    /// A failure: `<3>`.
     Failure,
-    /// Something is not as it should be, and the program goes on: `<4>`.
+    /// A warning: something is wrong, and the program continues: `<4>`.
     Warning,
-    /// Something happened that an operator looks for: `<5>`.
+    /// An event that an operator looks for: `<5>`.
     Notice,
     /// Anything else: `<6>`.
     Info,
 }
 
-/// Standard error, for the lines of a program.
+/// Standard error for the lines of a program.
 #[derive(Drop)]
 pub struct Speaker {
     rt: HostRuntime,
@@ -45,12 +45,12 @@ pub struct Speaker {
     name: &'static str,
     /// Whether the journal reads standard error.
     is_journal: bool,
-    /// Standard error, held: a line needs no descriptor when there is none left.
+    /// Standard error on a descriptor of its own, so that a line can be written when no descriptor is left.
     held: Option<ChildStdin>,
 }
 
 impl Priority {
-    // What a line of this priority begins with in the journal.
+    // Returns what a line of this priority begins with in the journal.
     fn mark(self) -> &'static str {
         match self {
             Priority::Failure => "<3>",
@@ -61,13 +61,13 @@ impl Priority {
     }
 }
 
-// The number in a text.
+// Returns the number in a text.
 fn number(text: &str) -> Option<u64> {
     text.parse().ok()
 }
 
-// Whether the journal reads standard error. A program that a service starts may have the service's environment, and
-// another standard error.
+// Returns whether the journal reads standard error. A program that a service starts may have the service's
+// environment but another standard error.
 fn is_journal(rt: &HostRuntime) -> bool {
     let Some(told) = variable(rt, JOURNAL) else {
         return false;
@@ -82,7 +82,7 @@ fn is_journal(rt: &HostRuntime) -> bool {
 }
 
 impl Speaker {
-    /// Standard error for the lines of the program of this name.
+    /// Returns standard error for the lines of the program with this name.
     pub fn new(rt: HostRuntime, name: &'static str) -> Speaker {
         let is_journal = is_journal(&rt);
         let held = hold_error(&rt);
@@ -94,12 +94,12 @@ impl Speaker {
         }
     }
 
-    /// Has each line begin with this name of a program.
+    /// Makes each line begin with this program name.
     pub(crate) fn speak_as(&mut self, name: &'static str) {
         self.name = name;
     }
 
-    // The line of this text, with its end, which stands in the place of its last byte where there is no room.
+    // Returns the line for this text with its line feed, which replaces the last byte if there is no room.
     fn line_of(&self, priority: Priority, text: &[u8]) -> Line {
         let mut line = Line::new();
         if self.is_journal {
@@ -114,7 +114,7 @@ impl Speaker {
         line
     }
 
-    // What a line says: without the program's name in front, and without its end.
+    // Returns the text of a line without the program's name in front and without the line feed.
     fn text_of<'a>(&self, line: &'a [u8]) -> &'a [u8] {
         let line = line.strip_suffix(b"\n").unwrap_or(line);
         match line.strip_prefix(self.name.as_bytes()) {
@@ -123,14 +123,14 @@ impl Speaker {
         }
     }
 
-    // Gives standard error a whole line, which is lost if it cannot be written at once.
+    // Writes a complete line to standard error. The line is lost if it cannot be written at once.
     fn give(&self, line: &[u8]) {
         if let Some(file) = &self.held {
             let _ = write_at_once(&mut HeldError { file }, line);
         }
     }
 
-    // Gives standard error these bytes, and waits for whoever reads them.
+    // Writes these bytes to standard error, and waits for its reader.
     fn give_all(&self, bytes: &[u8]) -> io::Result<()> {
         match &self.held {
             Some(file) => {
@@ -141,14 +141,14 @@ impl Speaker {
         }
     }
 
-    /// Says this text as a line. It is lost if it cannot be written at once.
+    /// Logs this text as a line. The line is lost if it cannot be written at once.
     pub fn say(&self, priority: Priority, text: &[u8]) {
         let line = self.line_of(priority, text);
         self.give(&line);
     }
 
-    /// Says a line that has the program's name in front and ends with a line feed. It is lost if it cannot be written
-    /// at once.
+    /// Logs a line that has the program's name in front and ends with a line feed. The line is lost if it cannot be
+    /// written at once.
     pub fn say_line(&self, priority: Priority, line: &[u8]) {
         if self.is_journal {
             self.say(priority, self.text_of(line));
@@ -157,7 +157,7 @@ impl Speaker {
         }
     }
 
-    /// Writes the lines of a failure, which may have the program's name in front, and waits for whoever reads them.
+    /// Writes the lines of a failure, which may have the program's name in front, and waits for their reader.
     pub(crate) fn write(&self, text: &[u8]) -> io::Result<()> {
         if !self.is_journal {
             return self.give_all(text);

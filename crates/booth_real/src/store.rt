@@ -1,4 +1,4 @@
-//! What a host keeps: the records of its directory, and the clock that stands beside them.
+//! What a host stores: the records of its directory, and the clock in the same directory.
 
 use crate::clocks::{Clocks, Opening, Told};
 use crate::mail::unopened;
@@ -12,15 +12,15 @@ use std::io;
 /// The records of a directory and its clock.
 #[derive(Drop)]
 pub(crate) struct Store {
-    /// The directory of the kept records, once a place with one was opened.
+    /// The directory of the records, once a place with one was opened.
     records: Option<Records>,
     clocks: Clocks,
-    /// How many milliseconds a write of a record may take, where that is limited.
+    /// How many milliseconds a write of a record may take, if that is limited.
     limit: Option<u64>,
 }
 
 impl Store {
-    /// No directory is open, and time is told by the wall clock.
+    /// Returns a store without an open directory, which tells the time by the wall clock.
     pub(crate) fn new() -> Store {
         Store {
             records: None,
@@ -29,27 +29,27 @@ impl Store {
         }
     }
 
-    /// Has each write of a record in directories that are opened from now on take no longer than so many milliseconds.
+    /// Limits each write of a record to this many milliseconds, in directories that are opened from now on.
     pub(crate) fn limit_writes(&mut self, limit: Option<u64>) {
         self.limit = limit;
     }
 
-    /// What time is told by.
+    /// Returns the source of the time.
     pub(crate) fn clocks(&self) -> &Clocks {
         &self.clocks
     }
 
-    /// Whether a directory is open.
+    /// Returns whether a directory is open.
     pub(crate) fn has_records(&self) -> bool {
         self.records.is_some()
     }
 
-    /// Has time be told by the clock of this directory, before it is opened.
+    /// Makes the host tell the time by the clock of this directory even before the directory is opened.
     pub(crate) fn await_clock(&mut self, rt: &HostRuntime, directory: &PathText) -> io::Result<()> {
         self.clocks.await_clock(rt, directory)
     }
 
-    /// Has time be told by the clock that a daemon keeps in this directory.
+    /// Makes the host tell the time by the clock that a daemon writes to this directory.
     pub(crate) fn share_clock(&mut self, rt: &HostRuntime, directory: &PathText) -> io::Result<()> {
         self.clocks.share_clock(rt, directory)
     }
@@ -59,13 +59,13 @@ impl Store {
         self.clocks.now()
     }
 
-    /// Lets go of the directory and its clock.
+    /// Closes the directory and its clock.
     pub(crate) fn leave(&mut self) {
         self.records = None;
         self.clocks.leave();
     }
 
-    /// Opens this directory and its clock; none where the path is empty.
+    /// Opens this directory and its clock, or none if the path is empty.
     pub(crate) fn open(
         &mut self,
         rt: &HostRuntime,
@@ -82,7 +82,7 @@ impl Store {
         self.begin_clock(rt, directory, telling)
     }
 
-    // Tells time by the clock of this directory, which is locked.
+    // Tells the time by the clock of this directory, which is locked.
     fn begin_clock(
         &mut self,
         rt: &HostRuntime,
@@ -103,7 +103,7 @@ impl Store {
         }
     }
 
-    /// Keeps what the clock has reached, once a minute.
+    /// Writes the clock's current reading to disk, once a minute.
     pub(crate) fn keep_clock(&mut self, rt: &HostRuntime, telling: &mut Telling) {
         let Some(records) = &self.records else {
             return;
@@ -113,7 +113,7 @@ impl Store {
         }
     }
 
-    /// The record that a ticket's file keeps, if it keeps one.
+    /// Returns the record in a ticket's file, if there is one.
     pub(crate) fn read(
         &mut self,
         rt: &HostRuntime,
@@ -130,7 +130,7 @@ impl Store {
         Ok(found.record)
     }
 
-    /// Keeps this record in a ticket's file, and the clock first where it is not on the disk.
+    /// Writes this record to a ticket's file; if the clock is not on the disk yet, it writes that first.
     pub(crate) fn write(
         &mut self,
         rt: &HostRuntime,

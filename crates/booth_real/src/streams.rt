@@ -9,7 +9,7 @@ use std::io::Write;
 use std::os::fd::{AsFd, AsRawFd};
 use std::process::ChildStdin;
 
-/// What stands in the place of each standard stream that was closed.
+/// The files in the places of standard streams that were closed.
 pub(crate) type Standing = [Option<File>; 3];
 
 /// The number of standard error, the last of the standard streams.
@@ -22,8 +22,7 @@ pub(crate) enum ErrorStream {
     Closed,
 }
 
-// A file in the place of the first standard stream that is closed. It can only be read, so that a write fails as
-// before.
+// Opens a file in the place of the first closed standard stream. It is read-only, so that a write still fails.
 fn hold_stream(rt: &HostRuntime) -> Option<File> {
     let file = File::open(rt, "/dev/null").ok()?;
     if file.as_raw_fd() <= STANDARD_ERROR {
@@ -33,13 +32,13 @@ fn hold_stream(rt: &HostRuntime) -> Option<File> {
     }
 }
 
-/// Fills the places of standard streams that were closed. A file of this process that got such a number would be a
+/// Fills the places of closed standard streams. Otherwise a file of this process could get such a number and become a
 /// handler's standard error.
 pub(crate) fn hold_streams(rt: &HostRuntime) -> Standing {
     [hold_stream(rt), hold_stream(rt), hold_stream(rt)]
 }
 
-/// Whether standard error was open, by what stands in the places of streams that were not.
+/// Returns whether standard error was open, from the files in the places of closed streams.
 pub(crate) fn error_stream(standing: &Standing) -> ErrorStream {
     for file in standing {
         if let Some(file) = file {
@@ -51,22 +50,23 @@ pub(crate) fn error_stream(standing: &Standing) -> ErrorStream {
     ErrorStream::Open
 }
 
-/// Writes to a standard stream. Where it is closed, or a pipe that nobody reads, the write fails.
+/// Writes to a standard stream. Fails if it is closed, or if it is a pipe without a reader.
 ///
-/// It goes through the type that the library has for a pipe to another program: a write to a plain stream that nobody
-/// reads would raise a signal that ends this program.
+/// It uses the library's type for a pipe to another program: a write to a plain stream without a reader would raise a
+/// signal that ends this program.
 pub(crate) fn write_to<S: AsFd>(stream: &S, bytes: &[u8]) -> io::Result<()> {
     ChildStdin::from(stream.as_fd().try_clone_to_owned()?).write_all(bytes)
 }
 
-/// Standard error by a descriptor of its own, so that lines to it need none later; none where there is none left.
+/// Returns standard error on a descriptor of its own, so that later lines need none; `None` if no descriptor is left.
 pub(crate) fn hold_error(rt: &HostRuntime) -> Option<ChildStdin> {
     let stream = rt.stderr();
     let held = stream.as_fd().try_clone_to_owned().ok()?;
     Some(ChildStdin::from(held))
 }
 
-// Whether a write to a stream would not wait. One that is closed, or that nobody reads, fails at once.
+// Returns whether a write to a stream would return without a wait. A write to a closed stream, or to one without a
+// reader, fails at once.
 fn has_room(stream: &ChildStdin) -> bool {
     let mut asked = [pollfd {
         fd: stream.as_raw_fd(),
@@ -76,15 +76,15 @@ fn has_room(stream: &ChildStdin) -> bool {
     poll(&mut asked, 0) == 1
 }
 
-/// Standard error that is held.
+/// Standard error on its own descriptor.
 #[derive(Clone, Copy)]
 pub(crate) struct HeldError<'a> {
     pub(crate) file: &'a ChildStdin,
 }
 
-/// It is a stream to which nobody waits to write. It tells nothing of what it took.
+/// A stream whose writer never waits. No contract says which bytes it took.
 ///
-/// A write goes through the type of a pipe to another program, as that of `write_to`.
+/// A write uses the type of a pipe to another program, as `write_to` does.
 impl Outlet for HeldError<'_> {
     fn has_room(&mut self) -> bool {
         has_room(self.file)

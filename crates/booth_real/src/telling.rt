@@ -1,6 +1,6 @@
-//! What is said on standard error of devices that fail, a few lines a minute. None of it is a call of the log.
+//! Lines on standard error about devices that fail, at most sixty a minute. None of them is a call in the host's log.
 //!
-//! What failed for good is a failure, what goes on to fail a warning, and that something goes well again a notice.
+//! A final failure has the priority of a failure, a repeated one that of a warning, and a recovery that of a notice.
 
 ghost use Rattle.std.specs.Prelude.{◌≡◌};
 
@@ -14,16 +14,16 @@ use std::alloc::Global;
 use std::io;
 use std::io::{ErrorKind, Write};
 
-/// How long a minute is.
+/// The length of a minute in milliseconds.
 const MINUTE_MS: u64 = 60_000;
 
-/// The most lines of a minute.
+/// The most lines in a minute.
 const LINES: u32 = 60;
 
-/// Steps of the wall clock up to this are none.
+/// Steps of the wall clock up to this size are ignored, in milliseconds.
 const STEP_MS: u64 = 100;
 
-/// How many lines there were in a minute.
+/// The number of lines in the current minute.
 #[derive(Clone, Copy)]
 struct Limit {
     /// When the minute began, in milliseconds since the boot.
@@ -31,22 +31,22 @@ struct Limit {
     lines: u32,
 }
 
-/// What goes on to fail: of it one line is said a minute after its first failure, and then one a minute.
+/// A failure that repeats: it is logged a minute after its first occurrence, and then once a minute.
 #[derive(Clone, Copy)]
 struct Paced {
-    /// When the next line may be said, in milliseconds since the boot, once something failed.
+    /// When the next line is due, in milliseconds since the boot, once something failed.
     next: Option<u64>,
-    /// How many failures were passed over since the last one.
+    /// How many failures were not logged since the last line.
     passed: u64,
 }
 
-/// Who says it, and what was said, as far as it tells what is said next.
+/// Who logs the lines, and what was logged, as far as later lines depend on it.
 #[derive(Drop)]
 pub(crate) struct Telling {
     speaker: Speaker,
-    /// The tickets whose last keep failed, each of which a line told of.
+    /// The tickets whose last write failed, each of which was logged.
     unkept: Vec<Name>,
-    /// Whether the last keep of the clock failed, and a line told of it.
+    /// Whether the clock's last write failed and was logged.
     is_clock_unkept: bool,
     limit: Limit,
     sends: Paced,
@@ -55,7 +55,7 @@ pub(crate) struct Telling {
 }
 
 impl Limit {
-    // Whether one more line may be said at this time.
+    // Returns whether one more line is allowed at this time.
     fn admits(&mut self, now: u64) -> bool {
         if now.saturating_sub(self.since) >= MINUTE_MS {
             self.since = now;
@@ -77,7 +77,7 @@ impl Paced {
         }
     }
 
-    // How many failures were passed over before this one, where a line is due.
+    // Returns how many failures were not logged before this one, if a line is due.
     fn due(&mut self, now: u64) -> Option<u64> {
         let is_due = match self.next {
             Some(next) => next <= now,
@@ -92,19 +92,19 @@ impl Paced {
     }
 }
 
-// The time since the boot, by which lines are counted. Where it cannot be read, none is said beyond the first ones.
+// Returns the time since the boot, by which lines are limited. If it cannot be read, only the first lines are logged.
 fn now() -> u64 {
     since_boot().unwrap_or(0)
 }
 
-// What is said of something that failed.
+// Returns the line about something that failed.
 fn failed_line(parts: &[&[u8]], error: &io::Error) -> Line {
     let mut line = line_of(parts);
     let _ = write!(line, ": {error}");
     line
 }
 
-// What is said of a step of the wall clock by more than one that is none.
+// Returns the line about a step of the wall clock, unless the step is too small.
 fn step_line(amount: u64, way: &[u8]) -> Line {
     let mut line = line_of(&[b"the wall clock is "]);
     put_number(&mut line, amount);
@@ -116,7 +116,7 @@ fn step_line(amount: u64, way: &[u8]) -> Line {
     line
 }
 
-/// What a socket at this place is called in a line.
+/// Returns a line's text for a socket at this place.
 pub(crate) fn socket_text(place: &Place) -> Line {
     match &place.local {
         Some(address) => {
@@ -142,43 +142,44 @@ impl Telling {
         }
     }
 
-    /// Has each line begin with this name of a program.
+    /// Makes each line begin with this program name.
     pub(crate) fn speak_as(&mut self, name: &'static str) {
         self.speaker.speak_as(name);
     }
 
-    /// Writes the lines of a failure of the program to standard error.
+    /// Writes the lines of the program's failure to standard error.
     pub(crate) fn write(&self, text: &[u8]) -> io::Result<()> {
         self.speaker.write(text)
     }
 
-    // Says this line, where one more may be said. One that cannot be written at once is lost.
+    // Logs this line, if one more is allowed. It is lost if it cannot be written at once.
     fn say(&mut self, priority: Priority, line: Line) {
         if self.limit.admits(now()) {
             self.speaker.say(priority, &line);
         }
     }
 
-    // Says that something failed that is not tried again and again.
+    // Logs the failure of something that is not repeated.
     fn failed(&mut self, parts: &[&[u8]], error: &io::Error) {
         self.say(Priority::Failure, failed_line(parts, error));
     }
 
-    // Says that something goes well again.
+    // Logs that something works again.
     fn mended(&mut self, parts: &[&[u8]]) {
         self.say(Priority::Notice, line_of(parts));
     }
 
-    // Says that something goes on to fail, and how many failures no line told of.
+    // Logs a repeated failure, and how many failures were not logged.
     fn goes_on(&mut self, line: Line, passed: u64) {
         self.say(Priority::Warning, with_passed(line, passed));
     }
 
-    /// Says how a keep of this ticket's record ended, where the one before ended in another way.
+    /// Logs the result of a write of this ticket's record, if it differs from the result before.
     pub(crate) fn keep(&mut self, ticket: &Name, answer: &io::Result<()>) {
         let place = self.unkept.iter().position(|name| name == ticket);
         match (answer, place) {
-            // Where there is no memory for the name, nothing is said before a later keep, so that no line comes twice.
+            // If there is no memory for the name, nothing is logged before a later write, so that no line is logged
+            // twice.
             (Err(error), None) => {
                 if self.unkept.push(ticket.copy()).is_ok() {
                     self.failed(
@@ -195,7 +196,7 @@ impl Telling {
         }
     }
 
-    /// Says how a keep of the clock ended, where the one before ended in another way.
+    /// Logs the result of a write of the clock, if it differs from the result before.
     pub(crate) fn clock_keep(&mut self, answer: &io::Result<()>) {
         match answer {
             Err(error) if !self.is_clock_unkept => {
@@ -209,8 +210,8 @@ impl Telling {
         self.is_clock_unkept = answer.is_err();
     }
 
-    /// Says why this could not be opened, read or locked, where it could not. (What there is no memory for, the program
-    /// says itself.)
+    /// Logs why this could not be opened, read or locked, if it could not. (The program itself reports that it is out
+    /// of memory.)
     pub(crate) fn told<T: Drop>(&mut self, what: &[u8], answer: io::Result<T>) -> io::Result<T>
         ensures { result ≡ answer }
     {
@@ -222,26 +223,26 @@ impl Telling {
         answer
     }
 
-    /// Says that no clock of records can be had.
+    /// Logs that no clock of a records directory is available.
     pub(crate) fn no_clock(&mut self, error: &io::Error) {
         self.failed(&[b"cannot tell the time of the records"], error);
     }
 
-    /// Says that no record can be kept in this directory.
+    /// Logs that no record can be written in this directory.
     pub(crate) fn read_only(&mut self, directory: &PathText) {
         let words = b": its file system takes no writes, so this member votes for nobody";
         let line = line_of(&[directory.as_str().as_bytes(), words]);
         self.say(Priority::Failure, line);
     }
 
-    /// Says that a file of this ticket is there which is none of a record.
+    /// Logs that this ticket has a file that is no record.
     pub(crate) fn strange(&mut self, ticket: &Name) {
         let words = b" keeps no record, and has bytes that no write leaves";
         let line = line_of(&[b"the file of ticket ", ticket.bytes(), words]);
         self.say(Priority::Failure, line);
     }
 
-    /// Says that the record of this ticket cannot be read.
+    /// Logs that this ticket's record cannot be read.
     pub(crate) fn unread(&mut self, ticket: &Name, error: &io::Error) {
         self.failed(
             &[b"cannot read the record of ticket ", ticket.bytes()],
@@ -249,7 +250,7 @@ impl Telling {
         );
     }
 
-    /// Says that a program of this ticket's handler could not be started or asked about.
+    /// Logs that a program of this ticket's handler could not be started or polled.
     pub(crate) fn unstarted(&mut self, ticket: &Name, error: &io::Error) {
         self.failed(
             &[b"cannot run the handler of ticket ", ticket.bytes()],
@@ -257,7 +258,7 @@ impl Telling {
         );
     }
 
-    /// Says by how much the wall clock is off.
+    /// Logs by how much the wall clock is off.
     pub(crate) fn step(&mut self, step: Step) {
         let (amount, way) = match step {
             Step::Ahead(amount) => (amount, b"ahead of".as_slice()),
@@ -270,7 +271,7 @@ impl Telling {
         }
     }
 
-    /// Says that sends fail, where that goes on.
+    /// Logs that sends keep failing.
     pub(crate) fn unsent(&mut self, to: &Peer, error: &io::Error) {
         if let Some(passed) = self.sends.due(now()) {
             let address = to.address.print();
@@ -279,14 +280,14 @@ impl Telling {
         }
     }
 
-    /// Says that receives fail, where that goes on.
+    /// Logs that receives keep failing.
     pub(crate) fn unreceived(&mut self, error: &io::Error) {
         if let Some(passed) = self.receives.due(now()) {
             self.goes_on(failed_line(&[b"cannot receive"], error), passed);
         }
     }
 
-    /// Says that more comes than there is room for, where that goes on.
+    /// Logs that more datagrams keep arriving than there is room for.
     pub(crate) fn full(&mut self) {
         if let Some(passed) = self.fulls.due(now()) {
             let line = line_of(&[b"more datagrams come than there is room for"]);
@@ -295,7 +296,7 @@ impl Telling {
     }
 }
 
-// The line with the number of failures that no line told of.
+// Returns the line with the number of failures that were not logged.
 fn with_passed(line: Line, passed: u64) -> Line {
     let mut line = line;
     if passed > 0 {

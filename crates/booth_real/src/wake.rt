@@ -6,22 +6,22 @@ use std::cell::Cell;
 use std::os::fd::RawFd;
 use std::rc::Rc;
 
-/// How many receives go before the file is looked at again.
+/// How many receives are made before the file is checked again.
 const AHEAD: u32 = 16;
 
 /// A file that ends a wait when it can be read.
 #[derive(Drop)]
 pub(crate) struct Wake {
-    /// A number below 0 where there is none.
+    /// The file's number; below 0 if there is none.
     file: RawFd,
-    /// Whether it has something, as far as is known.
+    /// Whether the file can be read, as far as is known.
     known: Option<Rc<Cell<bool>>>,
-    /// How many receives go yet without a look at it.
+    /// How many more receives are made without a check of the file.
     ahead: Cell<u32>,
 }
 
 impl Wake {
-    /// No file.
+    /// Returns no file.
     pub(crate) fn nothing() -> Wake {
         Wake {
             file: -1,
@@ -30,7 +30,7 @@ impl Wake {
         }
     }
 
-    /// This file, of which it is noted here that it can be read.
+    /// Returns this file; the mark is set when the file can be read.
     pub(crate) fn on(file: RawFd, known: Rc<Cell<bool>>) -> Wake
         ensures { result.file ≡ file }
     {
@@ -41,14 +41,14 @@ impl Wake {
         }
     }
 
-    /// The file's number.
+    /// Returns the file's number.
     pub(crate) fn file(&self) -> RawFd
         ensures { result ≡ self.now.file }
     {
         self.file
     }
 
-    /// Whether it has something, so that nobody has to wait.
+    /// Returns whether the file is known to be readable, so that nobody must wait.
     pub(crate) fn is_known(&self) -> bool {
         match &self.known {
             Some(known) => known.get(),
@@ -56,24 +56,24 @@ impl Wake {
         }
     }
 
-    /// Notes that it can be read.
+    /// Notes that the file can be read.
     pub(crate) fn note(&self) {
         if let Some(known) = &self.known {
             known.set(true);
         }
     }
 
-    /// Has some receives go before it is looked at again: where something came, more may be there.
+    /// Allows some receives before the next check: after one arrival there may be more.
     pub(crate) fn go_ahead(&self) {
         self.ahead.set(AHEAD);
     }
 
-    /// Has none go before it is looked at again.
+    /// Allows no receive before the next check.
     pub(crate) fn stay(&self) {
         self.ahead.set(0);
     }
 
-    /// Whether one more receive goes without a look at it.
+    /// Returns whether one more receive is allowed without a check of the file.
     pub(crate) fn goes_ahead(&self) -> bool {
         let ahead = self.ahead.get();
         self.ahead.set(ahead.saturating_sub(1));

@@ -1,10 +1,16 @@
 -- What a follower whose service may run has heard.
-use Rattle.std.proofs.Common.{◌≡◌, ℕ, ◌<◌, ◌≤◌, List, [], ◌∷◌, ◌++◌, length, get_or, map, refl, sym, ap, ◌∙◌, subst, inl, inr, arith}
+use Rattle.std.proofs.Common.{◌≡◌, ℕ, ◌<◌, ◌≤◌, ◌==◌, ◌⊎◌, Bool, true, false, cond, nat_lt, List, [], ◌∷◌, ◌++◌, length, get_or, map, refl, sym, ap, ◌∙◌, subst, inl, inr, arith}
+use Rattle.std.proofs.lemmas.Bool.{eqb-true}
+use Rattle.std.proofs.lemmas.Bool.Decides.{nat_tests}
 use Rattle.std.specs.Prelude.{Option, Some, None, Result, Ok, Err}
 use Rattle.booth_wire.specs.declared.command.Cmd.{Cmd}
-use Rattle.booth_wire.specs.declared.command.Cmd.TheVariants.{CLst, Peer, CGnt, CRvk, ASet, AGet, ADel, ALst, RLst, RPer, RALs, RGnt, RRvk, RAtr, Stat, MIdx, RVot, VtFr, HrtB, Ack, UpdE, Revk, Rjc}
+use Rattle.booth_wire.specs.declared.command.Cmd.TheVariants.{CLst, CTkt, Peer, CGnt, CRvk, ASet, AGet, ADel, ALst, RLst, RTkt, RPer, RALs, RGnt, RRvk, RAtr, Stat, MIdx, RVot, VtFr, HrtB, Ack, UpdE, Revk, Rjc}
 use Rattle.booth_wire.specs.Command.{code_of}
-use Rattle.booth_wire.specs.PlainMessage.{PlainMessage, Text}
+use Rattle.booth_base.specs.declared.address.MemberId.{MemberId}
+use Rattle.booth_wire.specs.declared.message.Head.{Head}
+use Rattle.booth_wire.specs.declared.message.TicketPart.{TicketPart}
+use Rattle.booth_wire.specs.PlainMessage.{PlainMessage, Text, Ticket}
+use Rattle.booth_wire.proofs.ByteLemmas.{and_split}
 use Rattle.booth_host.specs.declared.host.Arrival.{Arrival}
 use Rattle.booth_host.specs.declared.host.Arrival.TheVariants as arrivals
 use Rattle.booth_host.specs.declared.host.Failed.{Failed}
@@ -13,7 +19,7 @@ use Rattle.booth_follow_rule.specs.declared.margins.Margins.{Margins}
 use Rattle.booth_follow_rule.specs.declared.news.News.{News}
 use Rattle.booth_follow_rule.specs.declared.news.News.TheVariants as news
 use Rattle.booth_follow_rule.specs.declared.news.Shown.{Shown}
-use Rattle.booth_follow_rule.specs.declared.news.Shown.TheVariants.{Here}
+use Rattle.booth_follow_rule.specs.declared.news.Shown.TheVariants.{Here, Elsewhere}
 use Rattle.booth_follow_rule.specs.declared.state.State.{State}
 use Rattle.booth_follow_rule.specs.Known.{Row, rows_from}
 use Rattle.booth_follow_rule.specs.Laws.{HasTold}
@@ -21,10 +27,13 @@ use Rattle.booth_follow_rule.specs.Rule.{Moment, follow_step, state_after}
 use Rattle.booth_following.specs.declared.following.Following.{Following}
 use Rattle.booth_following.specs.Following.{under}
 use Rattle.booth_following.specs.Hearing.{IsHeard, IsNews}
+use Rattle.booth_following.specs.Laws.{IsStandingTold}
 use Rattle.booth_following.specs.Lists.{IsLine, Part, lines_of}
+use Rattle.booth_following.specs.Standing.{names_me, standing_in, standing_of, told_end}
 use Rattle.booth_following.specs.Turns.{AreTurns, Turn, first_seat, moment_of, seat_from}
 use Rattle.booth_following.proofs.LawLemmas.{lists, told_at}
-use Rattle.booth_services.specs.Services.{HasHeard, HearsItsSite, IsTurnAt, TimedTurn, WasSentBy, asked_after, time_after, turns_of}
+use Rattle.booth_following.proofs.StandingLemmas.{answers}
+use Rattle.booth_services.specs.Services.{AreAlike, HasHeard, HearsItsSite, IsTurnAt, TimedTurn, WasSentBy, asked_after, time_after, turns_of}
 use Rattle.booth_services.proofs.ListLemmas.{joins}
 
 -- ---- rows
@@ -151,6 +160,7 @@ is_heard f asked (Some run) (Err failed) bytes heard shown h is = absurd (let e 
 
 is_list_command : (cmd : Cmd) → code_of cmd ≡ code_of RLst → cmd ≡ RLst
 is_list_command CLst e = absurd (omega (arith, e))
+is_list_command CTkt e = absurd (omega (arith, e))
 is_list_command Peer e = absurd (omega (arith, e))
 is_list_command CGnt e = absurd (omega (arith, e))
 is_list_command CRvk e = absurd (omega (arith, e))
@@ -159,6 +169,7 @@ is_list_command AGet e = absurd (omega (arith, e))
 is_list_command ADel e = absurd (omega (arith, e))
 is_list_command ALst e = absurd (omega (arith, e))
 is_list_command RLst e = refl
+is_list_command RTkt e = absurd (omega (arith, e))
 is_list_command RPer e = absurd (omega (arith, e))
 is_list_command RALs e = absurd (omega (arith, e))
 is_list_command RGnt e = absurd (omega (arith, e))
@@ -174,16 +185,30 @@ is_list_command UpdE e = absurd (omega (arith, e))
 is_list_command Revk e = absurd (omega (arith, e))
 is_list_command Rjc e = absurd (omega (arith, e))
 
--- A line of a list of its site, which that site sent.
-pub record ToldLine (w : World) (m : ℕ) (start : List ℕ) (until time : ℕ) : Type 0 where
-  pub message : PlainMessage
+-- A line of a list tells this end.
+pub record IsListedEnd (message : PlainMessage) (start : List ℕ) (until : ℕ) : Type 0 where
   pub text : List ℕ
   pub place : ℕ
-  pub sent : WasSentBy w m time message
   pub command : message.head.cmd ≡ RLst
   pub content : message.content ≡ Text text
   pub there : place < length (lines_of text)
   pub line : IsLine start (get_or (lines_of text) place []) until
+
+-- An answer about the ticket tells this end.
+pub record IsAnsweredEnd (message : PlainMessage) (ticket : List ℕ) (me : MemberId) (until : ℕ) : Type 0 where
+  pub part : TicketPart
+  pub content : message.content ≡ Ticket part
+  pub about : part.ticket ≡ ticket
+  pub leader : part.leader ≡ me
+  pub some_left : 0 < part.valid_for
+  pub small : message.head.secs < 4294967295
+  pub end : until ≡ told_end message.head part.valid_for
+
+-- A message of its site, which that site sent, tells this end.
+pub record ToldEnd (w : World) (m : ℕ) (f : Following) (until time : ℕ) : Type 0 where
+  pub message : PlainMessage
+  pub sent : WasSentBy w m time message
+  pub how : IsAnsweredEnd message f.ticket f.me until ⊎ IsListedEnd message f.line until
 
 later_sent : (w : World) (m early late : ℕ) (message : PlainMessage) → early ≤ late → WasSentBy w m early message → WasSentBy w m late message
 later_sent w m early late message on s = record {
@@ -196,40 +221,106 @@ later_sent w m early late message on s = record {
   same = s.same;
 }
 
-pub told_line : (w : World) (m : ℕ) (f : Following) (left : Option ℕ) (until time : ℕ) → HasHeard w m f left until time → ToldLine w m f.line until time
-told_line w m f left until time h =
-    by_asked (asked_after f left h.before) h.at.hears (is_heard keyed (asked_after f left h.before) (seat_from (first_seat f left) (turns_of h.before)).failed h.t.turn.answer h.t.turn.bytes h.t.turn.heard (Here until) h.told h.shown)
+same_member : (a b : MemberId) → a.0 ≡ b.0 → a ≡ b
+same_member a b e = λ i. record { 0 = e i }
+
+-- what an answer about the ticket shows
+shown_if : (f : Following) (head : Head) (part : TicketPart) (test : Bool) → names_me f head part ≡ test
+    → (standing_of f head part).shown ≡ cond test (Here (told_end head part.valid_for)) Elsewhere
+shown_if f head part true is = rw is refl
+shown_if f head part false is = rw is refl
+
+-- the end of an answer about the ticket that shows this site
+answered_end : (f : Following) (asked : ℕ) (bytes : List ℕ) (m : PlainMessage) (part : TicketPart) (until : ℕ) (test : Bool)
+    → IsStandingTold f asked bytes m part (standing_of f m.head part) → names_me f m.head part ≡ test → Here until ≡ (standing_of f m.head part).shown
+    → IsAnsweredEnd m f.ticket f.me until
+answered_end f asked bytes m part until false told is shown =
+    let e : Here until ≡ Elsewhere = shown ∙ shown_if f m.head part (names_me f m.head part) refl ∙ ap (λ (b : Bool). cond b (Here (told_end m.head part.valid_for)) Elsewhere) is in
+    absurd cc
+answered_end f asked bytes m part until true told is shown =
+    let leads = and_split (part.leader.0 == f.me.0) _ is in
+    let left = and_split (nat_lt 0 part.valid_for) _ leads.1 in
+    let e : Here until ≡ Here (told_end m.head part.valid_for) =
+    shown ∙ shown_if f m.head part (names_me f m.head part) refl ∙ ap (λ (b : Bool). cond b (Here (told_end m.head part.valid_for)) Elsewhere) is in
+    record {
+      part = part;
+      content = told.tells;
+      about = told.about;
+      leader = same_member part.leader f.me (eqb-true part.leader.0 f.me.0 leads.0);
+      some_left = grind (arith, nat_tests, left.0);
+      small = grind (arith, nat_tests, left.1);
+      end = cc;
+    }
+
+pub told_end_of : (w : World) (m : ℕ) (f : Following) (left : Option ℕ) (until time : ℕ) → HasHeard w m f left until time → ToldEnd w m f until time
+told_end_of w m f left until time h =
+    by_asked (asked_after f left h.before) h.at.hears
+    (is_heard keyed (asked_after f left h.before) (seat_from (first_seat f left) (turns_of h.before)).failed h.t.turn.answer h.t.turn.bytes h.t.turn.heard (Here until) h.told.0 h.shown)
   where
     -- by the keys of that turn
     keyed : Following
     keyed = under f h.t.turn.ring
 
-    by_asked : (asked : Option ℕ) → HearsItsSite w m f asked h.t → IsHeard keyed asked h.t.turn.bytes (news.List (Here until))
-        → ToldLine w m f.line until time
-    by_asked None hears is = let e : news.List (Here until) ≡ news.Nothing = is in absurd cc
-    by_asked (Some asked) hears is =
-        let shows = lists.shows keyed asked h.t.turn.bytes (Here until) is in
+    by_answer : (asked : ℕ) (message : PlainMessage) (part : TicketPart) → HearsItsSite w m f (Some asked) h.t
+        → IsStandingTold keyed asked h.t.turn.bytes message part (standing_of keyed message.head part)
+        → Here until ≡ (standing_of keyed message.head part).shown → ToldEnd w m f until time
+    by_answer asked message part hears told shown = record {
+      message = message;
+      sent = later_sent w m h.t.time time message h.no_later (hears.0 message part told);
+      how = inl (answered_end keyed asked h.t.turn.bytes message part until (names_me keyed message.head part) told refl shown);
+    }
+
+    by_list : (asked : ℕ) → HearsItsSite w m f (Some asked) h.t → standing_in keyed asked h.t.turn.bytes ≡ None
+        → IsHeard keyed (Some asked) h.t.turn.bytes (news.List (Here until)) → ToldEnd w m f until time
+    by_list asked hears is heard =
+        let shows = lists.shows keyed asked h.t.turn.bytes (Here until) is heard in
         let part : Part = shows.0 in
         let found = lists.only keyed asked h.t.turn.bytes part shows.1 in record {
           message = found.0;
-          text = part.text;
-          place = shows.3.0;
-          sent = later_sent w m h.t.time time found.0 h.no_later (hears found.0 part found.1);
-          command = is_list_command found.0.head.cmd found.1.answer;
-          content = found.1.tells;
-          there = shows.3.1;
-          line = shows.3.2;
+          sent = later_sent w m h.t.time time found.0 h.no_later (hears.1 found.0 part found.1);
+          how = inr (record {
+            text = part.text;
+            place = shows.3.0;
+            command = is_list_command found.0.head.cmd found.1.answer;
+            content = found.1.tells;
+            there = shows.3.1;
+            line = shows.3.2;
+          });
         }
 
+    by_standing : (asked : ℕ) (o : Option _) → HearsItsSite w m f (Some asked) h.t → standing_in keyed asked h.t.turn.bytes ≡ o
+        → IsHeard keyed (Some asked) h.t.turn.bytes (news.List (Here until)) → ToldEnd w m f until time
+    by_standing asked (Some standing) hears is heard =
+        let found = answers.only keyed asked h.t.turn.bytes standing is in
+        let shown : news.List (Here until) ≡ news.List standing.shown = answers.shows keyed asked h.t.turn.bytes standing (news.List (Here until)) is heard in
+        let same : standing ≡ standing_of keyed (found.0).head found.1 = found.2.stands in
+        by_answer asked found.0 found.1 hears
+        (subst (λ s. IsStandingTold keyed asked h.t.turn.bytes found.0 found.1 s) same found.2) cc
+    by_standing asked None hears is heard = by_list asked hears is heard
+
+    by_asked : (asked : Option ℕ) → HearsItsSite w m f asked h.t → IsHeard keyed asked h.t.turn.bytes (news.List (Here until))
+        → ToldEnd w m f until time
+    by_asked None hears is = let e : news.List (Here until) ≡ news.Nothing = is in absurd cc
+    by_asked (Some asked) hears is = by_standing asked (standing_in keyed asked h.t.turn.bytes) hears refl is
+
 -- the same of a later time
-pub later_line : (w : World) (m : ℕ) (start : List ℕ) (until early late : ℕ) → early ≤ late → ToldLine w m start until early → ToldLine w m start until late
-later_line w m start until early late on line = record {
-  message = line.message;
-  text = line.text;
-  place = line.place;
-  sent = later_sent w m early late line.message on line.sent;
-  command = line.command;
-  content = line.content;
-  there = line.there;
-  line = line.line;
-}
+pub later_end : (w : World) (m : ℕ) (f : Following) (until early late : ℕ) → early ≤ late → ToldEnd w m f until early → ToldEnd w m f until late
+later_end w m f until early late on told =
+    record { message = told.message; sent = later_sent w m early late told.message on told.sent; how = told.how }
+
+-- the same of a following of the same ticket at the same site
+pub alike_end : (w : World) (m : ℕ) (f g : Following) (until time : ℕ) → AreAlike f g → ToldEnd w m f until time → ToldEnd w m g until time
+alike_end w m f g until time alike told = record { message = told.message; sent = told.sent; how = by_how told.how }
+  where
+    by_how : IsAnsweredEnd told.message f.ticket f.me until ⊎ IsListedEnd told.message f.line until
+        → IsAnsweredEnd told.message g.ticket g.me until ⊎ IsListedEnd told.message g.line until
+    by_how (inl a) = inl (record {
+      part = a.part;
+      content = a.content;
+      about = a.about ∙ alike.ticket;
+      leader = a.leader ∙ alike.me;
+      some_left = a.some_left;
+      small = a.small;
+      end = a.end;
+    })
+    by_how (inr l) = inr (subst (λ (start : List ℕ). IsListedEnd told.message start until) alike.line l)

@@ -7,11 +7,11 @@ use Rattle.booth_rec.specs.declared.record.Record.{Record}
 use Rattle.booth_rec.specs.Record.{IsInForce}
 use Rattle.booth_base.specs.Address.{printed}
 use Rattle.booth_node.specs.Records.{Has}
-use Rattle.booth_node.specs.World.{WorldEntry, World, members_of, clock_at, last_time, IsWorld}
+use Rattle.booth_node.specs.World.{WorldEntry, World, members_of, id_at, clock_at, last_time, IsWorld}
 use Rattle.booth_node.specs.Held.{Moment, IsAutomatic, HoldsBy, may_at}
 use Rattle.booth_world.specs.Clusters.{cluster_of}
 use Rattle.booth_world.specs.Held.{AreApart, IsApartFrom}
-use Rattle.booth_world.specs.Tellers.{BearsOut, HasLine, IsListed, Tells, address_at}
+use Rattle.booth_world.specs.Tellers.{BearsOut, HasLeft, HasLine, IsListed, Tells, address_at}
 use Rattle.booth_world.specs.Worlds.{IsLater, ReleasedIn}
 use Rattle.booth_world.proofs.TellerWorlds.{who_tells_has_kept}
 use Rattle.booth_world.proofs.Untimed.{untimed}
@@ -19,28 +19,30 @@ use Rattle.booth_world.proofs.WorldLaws.{worlds_are_apart}
 use Rattle.booth_follow_rule.specs.Known.{Row, Started, known_first, rows_of}
 use Rattle.booth_follow_rule.specs.Laws.{HasTold, IsEnd, known_from}
 use Rattle.booth_follow_rule.proofs.PlainLemmas.{serves}
+use Rattle.booth_following.specs.declared.following.Following.{Following}
 use Rattle.booth_following.specs.Lists.{lines_of}
 use Rattle.booth_following.specs.Turns.{first_seat}
+use Rattle.booth_following.proofs.StandingLemmas.{answers_no_later}
 use Rattle.booth_services.specs.Services.{Follower, GaveBack, IsFollowerAt, IsLeftAt, MayServe, ServesUnderALease, ServicesAreApart, TimedTurn}
 use Rattle.booth_services.proofs.ListLemmas.{IsBehind, Place, last_join, place_of, rises, two_places}
 use Rattle.booth_services.proofs.LineLemmas.{line_at, no_earlier, ticket_line}
-use Rattle.booth_services.proofs.FollowerLemmas.{RowsCut, ToldLine, cut_rows, heard_of, later_line, moments_of, told_line}
+use Rattle.booth_services.proofs.FollowerLemmas.{IsAnsweredEnd, IsListedEnd, RowsCut, ToldEnd, alike_end, cut_rows, heard_of, later_end, moments_of, told_end_of}
 
 some_more : (o : Option Lease) (P Q : Lease → Type 0) → ((l : Lease) → P l → Q l) → IsSomeAnd o P → IsSomeAnd o Q
 some_more None P Q gives h = absurd h
 some_more (Some l) P Q gives h = gives l h
 
 -- The end that was told last covers the time at which a service may run.
-record Covered (w : World) (m : ℕ) (start : List ℕ) (time : ℕ) : Type 0 where
+record Covered (w : World) (m : ℕ) (f : Following) (time : ℕ) : Type 0 where
   pub until : ℕ
-  pub line : ToldLine w m start until time
+  pub told : ToldEnd w m f until time
   pub below : clock_at w m time < until
 
 covered : (w : World) (ticket : TicketConf) (m : ℕ) (x : Follower) → IsFollowerAt w ticket m x → (time : ℕ) → MayServe w m x time
-    → Covered w m x.following.line time
+    → Covered w m x.following time
 covered w ticket m x is time serving = record {
   until = told.0;
-  line = later_line w m x.following.line told.0 serving.last.time time serving.since (by_end told.1);
+  told = later_end w m x.following told.0 serving.last.time time serving.since (by_end told.1);
   below = let soon = serving.soon in let above = told.2 in let same = cut.reading in omega (arith, soon, above, same);
 }
   where
@@ -54,21 +56,21 @@ covered w ticket m x is time serving = record {
         (subst (λ (rows : List Row). (known_from (known_first x.left) rows).service ≡ Started) cut.up_to serving.started)
 
     -- an earlier follower heard of an end that it left
-    by_left : (left : Option ℕ) (until : ℕ) → left ≡ Some until → IsLeftAt w m x.following.line left x.turns →
-        ToldLine w m x.following.line until serving.last.time
+    by_left : (left : Option ℕ) (until : ℕ) → left ≡ Some until → IsLeftAt w m x.following left x.turns →
+        ToldEnd w m x.following until serving.last.time
     by_left None until same was = absurd cc
     by_left (Some end) until same was =
         let this : end ≡ until = cc in
-        let line = told_line w m was.following was.left end was.time was.heard in
+        let heard = told_end_of w m was.following was.left end was.time was.heard in
         let before = was.no_later serving.before serving.after serving.last serving.whole in
-        subst (λ (n : ℕ). ToldLine w m x.following.line n serving.last.time) this
-        (later_line w m x.following.line end was.time serving.last.time before
-        (subst (λ (start : List ℕ). ToldLine w m start end was.time) was.same_line line))
+        subst (λ (n : ℕ). ToldEnd w m x.following n serving.last.time) this
+        (later_end w m x.following end was.time serving.last.time before
+        (alike_end w m was.following x.following end was.time was.alike heard))
 
-    by_end : IsEnd x.left (cut.first ++ cut.row ∷ []) told.0 → ToldLine w m x.following.line told.0 serving.last.time
+    by_end : IsEnd x.left (cut.first ++ cut.row ∷ []) told.0 → ToldEnd w m x.following told.0 serving.last.time
     by_end (inl left) = by_left x.left told.0 left is.left
     by_end (inr known) =
-        told_line w m x.following x.left told.0 serving.last.time
+        told_end_of w m x.following x.left told.0 serving.last.time
         (heard_of w m x.following x.left x.turns serving.before serving.last serving.after told.0 serving.whole is.told is.at
         (first_seat x.following x.left).follower.state x.following.margins
         (subst (λ (rows : List Row). HasTold told.0 rows) (sym cut.up_to) known.0))
@@ -84,6 +86,12 @@ module _ (w : World) (is_world : IsWorld w) (ticket : TicketConf) (automatic : I
     until = omega arith;
     within = is_world.form.within before after entry whole;
   }
+
+  -- A record that a member may have kept, of a lease that ends no earlier.
+  record KeptUntil (m : ℕ) (moment : Moment w) (until : ℕ) : Type 0 where
+    pub kept : Record
+    pub has : Has (may_at w ticket m moment) kept
+    pub no_less : IsSomeAnd kept.lease (λ lease. until ≤ lease.until)
 
   -- The entry at which a site told of its lease, with the record that bears it out.
   record Held (m time : ℕ) : Type 0 where
@@ -118,64 +126,111 @@ module _ (w : World) (is_world : IsWorld w) (ticket : TicketConf) (automatic : I
     entry = entry;
     after = at.after;
     whole = at.whole;
-    own = line.sent.own;
-    no_later = line.sent.no_later;
+    own = told.sent.own;
+    no_later = told.sent.no_later;
     within = serving.within;
     below = is.below;
-    kept = kept.0;
+    kept = by_how.kept;
     held = (
       is.below,
-      subst (λ (n : ℕ). Has (may_at w ticket n moment) kept.0) line.sent.own kept.1,
-      in_force_before m entry.time time kept.0 is.below line.sent.no_later serving.within in_force,
+      subst (λ (n : ℕ). Has (may_at w ticket n moment) by_how.kept) told.sent.own by_how.has,
+      in_force_before m entry.time time by_how.kept is.below told.sent.no_later serving.within in_force,
     );
     in_force = in_force;
   }
     where
-      c : Covered w m x.following.line time
+      c : Covered w m x.following time
       c = covered w ticket m x is time serving
 
-      line : ToldLine w m x.following.line c.until time
-      line = c.line
+      told : ToldEnd w m x.following c.until time
+      told = c.told
 
       entry : WorldEntry
-      entry = line.sent.entry
+      entry = told.sent.entry
 
       at : Place w.entries entry
-      at = place_of w.entries entry line.sent.one
+      at = place_of w.entries entry told.sent.one
 
       moment : Moment w
       moment = moment_at at.before entry at.after at.whole
 
-      digits : List ℕ
-      digits = decimal line.line.seconds
+      by_list : IsListedEnd told.message x.following.line c.until → KeptUntil entry.member moment c.until
+      by_list listed = record { kept = kept.0; has = kept.1; no_less = no_less }
+        where
+          digits : List ℕ
+          digits = decimal listed.line.seconds
 
-      spelled : get_or (lines_of line.text) line.place [] ≡ ticket.name ++ 32 ∷ (printed (address_at w entry.member) ++ 32 ∷ digits)
-      spelled =
-          line.line.spelled ∙ ap (λ (start : List ℕ). start ++ digits) is.line ∙ ticket_line ticket.name (address_at w m) digits
-          ∙ ap (λ (n : ℕ). ticket.name ++ 32 ∷ (printed (address_at w n) ++ 32 ∷ digits)) (sym line.sent.own)
+          spelled : get_or (lines_of listed.text) listed.place [] ≡ ticket.name ++ 32 ∷ (printed (address_at w entry.member) ++ 32 ∷ digits)
+          spelled =
+              listed.line.spelled ∙ ap (λ (start : List ℕ). start ++ digits) is.line ∙ ticket_line ticket.name (address_at w m) digits
+              ∙ ap (λ (n : ℕ). ticket.name ++ 32 ∷ (printed (address_at w n) ++ 32 ∷ digits)) (sym told.sent.own)
 
-      tells : Tells w ticket entry (IsListed digits)
-      tells = inl (
-        line.sent.bytes,
-        line.message,
-        line.sent.sent,
-        line.sent.same,
-        inr (line.text, line.command, line.content, subst (λ (l : List ℕ). HasLine line.text l) spelled (line_at line.text line.place line.there)),
-      )
+          tells : Tells w ticket entry (IsListed digits)
+          tells = inl (
+            told.sent.bytes,
+            told.message,
+            told.sent.sent,
+            told.sent.same,
+            inr (listed.text, listed.command, listed.content, subst (λ (l : List ℕ). HasLine listed.text l) spelled (line_at listed.text listed.place listed.there)),
+          )
 
-      kept : (kept : Record) × Has (may_at w ticket entry.member moment) kept × IsSomeAnd kept.lease (λ lease. BearsOut (IsListed digits) lease.until)
-      kept = who_tells_has_kept w (untimed w is_world) ticket automatic moment entry (at.after, refl) (IsListed digits) tells
+          kept : (kept : Record) × Has (may_at w ticket entry.member moment) kept × IsSomeAnd kept.lease (λ lease. BearsOut (IsListed digits) lease.until)
+          kept = who_tells_has_kept w (untimed w is_world) ticket automatic moment entry (at.after, refl) (IsListed digits) tells
 
-      in_force : IsInForce kept.0 (clock_at w m time)
+          no_less : IsSomeAnd (kept.0).lease (λ lease. c.until ≤ lease.until)
+          no_less =
+              some_more (kept.0).lease (λ l. BearsOut (IsListed digits) l.until) (λ l. c.until ≤ l.until)
+              (λ l bears.
+              let millis = listed.line.millis in
+              let small = listed.line.small in
+              let no_less = no_earlier listed.line.seconds l.until (omega (arith, millis, small)) bears in
+              omega (arith, millis, no_less))
+              kept.2
+
+      by_answer : IsAnsweredEnd told.message x.following.ticket x.following.me c.until → KeptUntil entry.member moment c.until
+      by_answer answered = record { kept = kept.0; has = kept.1; no_less = no_less }
+        where
+          tells : Tells w ticket entry (HasLeft told.message.head answered.part.valid_for)
+          tells = inl (
+            told.sent.bytes,
+            told.message,
+            told.sent.sent,
+            told.sent.same,
+            inl (
+              answered.part,
+              answered.content,
+              (
+                answered.about ∙ is.ticket_is,
+                refl,
+                answered.leader ∙ is.me_is ∙ ap (λ (n : ℕ). id_at w n) (sym told.sent.own),
+                refl,
+                answered.some_left,
+              ),
+            ),
+          )
+
+          kept : (kept : Record) × Has (may_at w ticket entry.member moment) kept
+              × IsSomeAnd kept.lease (λ lease. BearsOut (HasLeft told.message.head answered.part.valid_for) lease.until)
+          kept =
+              who_tells_has_kept w (untimed w is_world) ticket automatic moment entry (at.after, refl) (HasLeft told.message.head answered.part.valid_for) tells
+
+          no_less : IsSomeAnd (kept.0).lease (λ lease. c.until ≤ lease.until)
+          no_less =
+              some_more (kept.0).lease (λ l. BearsOut (HasLeft told.message.head answered.part.valid_for) l.until) (λ l. c.until ≤ l.until)
+              (λ l bears.
+              let same = answered.end in
+              let no_less =
+              answers_no_later told.message.head answered.part.valid_for bears.0 l.until answered.small bears.1.0 bears.1.1 bears.2 bears.3 in
+              omega (arith, same, no_less))
+              kept.2
+
+      by_how : KeptUntil entry.member moment c.until
+      by_how = ⊎_elim by_answer by_list told.how
+
+      in_force : IsInForce by_how.kept (clock_at w m time)
       in_force =
-          some_more (kept.0).lease (λ l. BearsOut (IsListed digits) l.until) (λ l. clock_at w m time < l.until)
-          (λ l bears.
-          let millis = line.line.millis in
-          let small = line.line.small in
-          let below = c.below in
-          let no_less = no_earlier line.line.seconds l.until (omega (arith, millis, small)) bears in
-          omega (arith, millis, below, no_less))
-          kept.2
+          some_more (by_how.kept).lease (λ l. c.until ≤ l.until) (λ l. clock_at w m time < l.until)
+          (λ l later. let below = c.below in omega (arith, below, later)) by_how.no_less
 
   -- where one told of its lease behind the other, that one gave its lease back in between
   first_gave_back : (s t time : ℕ) → s ≢ t → (x : Held s time) (y : Held t time)

@@ -47,6 +47,7 @@ texts = record {
   commit = false;
   immediate = false;
   force = false;
+  json = false;
 }
 
 found_is : found_in verbs.Daemon run_words ≡ texts
@@ -99,6 +100,7 @@ reads_it = (
     value = None;
     options = record { immediate = false; wait = false; commit = false };
     force = false;
+    json = false;
     target = None;
     site = Some asked_for.site;
     turns = Some 1;
@@ -128,6 +130,7 @@ reads_it = (
     value = refl;
     options = refl;
     force = refl;
+    json = refl;
     target = refl;
     site = site_spelled;
     turns = one_turn;

@@ -1,4 +1,4 @@
--- A run of boothd, call by call, and a world that has nothing else.
+-- A run of boothd, call by call, and a world that consists of it.
 use Rattle.std.specs.Prelude.{◌++◌, ℕ, true, List, [], ◌∷◌, codes, map, Some, None, Ok}
 use Rattle.booth_conf.specs.Print.{printed}
 use Rattle.booth_host.specs.declared.entry.Entry.{Entry}
@@ -46,7 +46,7 @@ opening_calls =
 abbrev pub told_success : PlainMessage
 told_success = says site_one.id 7000 RGnt 1 0 SUCCESS site_one.id 1 6
 
--- what its turn keeps and says
+-- the writes and messages of its turn
 abbrev pub deed_calls : List Entry
 deed_calls =
     calls.Keep (codes "web") (promised 1 site_one 13014 6014) (Ok tt)
@@ -61,7 +61,7 @@ turn_calls =
 abbrev pub run_calls : List Entry
 run_calls = opening_calls ++ turn_calls
 
--- ---- a world that has it
+-- ---- a world with it
 
 abbrev pub with_a_run : World
 with_a_run = world_with alone (

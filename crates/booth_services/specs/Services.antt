@@ -3,10 +3,11 @@ use Rattle.std.specs.Prelude.{◌≡◌, ◌≢◌, ◌⊎◌, ◌++◌, ℕ, �
 use Rattle.booth_conf.specs.declared.tickets.TicketConf.{TicketConf}
 use Rattle.booth_rec.specs.declared.record.Record.{Record}
 use Rattle.booth_rec.specs.Record.{IsInForce}
+use Rattle.booth_wire.specs.declared.message.TicketPart.{TicketPart}
 use Rattle.booth_wire.specs.PlainMessage.{PlainMessage}
 use Rattle.booth_wire.specs.Reading.{decoded}
 use Rattle.booth_node.specs.Records.{Has}
-use Rattle.booth_node.specs.World.{WorldEntry, World, members_of, clock_at, last_time, IsSend, IsWorld}
+use Rattle.booth_node.specs.World.{WorldEntry, World, members_of, id_at, clock_at, last_time, IsSend, IsWorld}
 use Rattle.booth_node.specs.Held.{Moment, IsAutomatic, HoldsBy}
 use Rattle.booth_world.specs.Tellers.{address_at}
 use Rattle.booth_world.specs.Worlds.{ReleasedIn}
@@ -16,8 +17,9 @@ use Rattle.booth_follow_rule.specs.Known.{AllRows, Started, known_first}
 use Rattle.booth_follow_rule.specs.Laws.{IsPrompt, known_from}
 use Rattle.booth_following.specs.declared.following.Following.{Following}
 use Rattle.booth_following.specs.Following.{under}
-use Rattle.booth_following.specs.Laws.{IsAuthentic, rows_in}
+use Rattle.booth_following.specs.Laws.{IsAuthentic, IsStandingTold, rows_in}
 use Rattle.booth_following.specs.Lists.{Part, line_start}
+use Rattle.booth_following.specs.Standing.{standing_of}
 use Rattle.booth_following.specs.Turns.{AreTurns, IsToldIn, Turn, first_seat, seat_from}
 
 -- ---- followers
@@ -30,8 +32,8 @@ pub record TimedTurn : Type 0 where
 abbrev pub turns_of : List TimedTurn → List Turn
 turns_of turns = map (λ t. t.turn) turns
 
--- A follower, the end until which an earlier one left the service running, its turns, and what the outside takes at
--- most: while its service runs, between two readings; and for a kill. In ms.
+-- A follower, the end until which an earlier one left the service running, its turns, and how long the environment
+-- takes at most, in ms: between two readings while its service runs, and for a kill.
 pub record Follower : Type 0 where
   pub following : Following
   pub left : Option ℕ
@@ -49,23 +51,26 @@ pub record WasSentBy (w : World) (m time : ℕ) (message : PlainMessage) : Type 
   pub sent : IsSend entry.what bytes
   pub same : decoded bytes ≡ Ok message
 
--- the answer that a turn takes for its site's by its keys, to the request that was sent at this reading, that site has
--- sent
+-- if a turn accepts an answer about the ticket, or a part of a list, as its site's by its keys, to the requests that
+-- were sent at this reading, that site has sent it
 abbrev pub HearsItsSite : World → ℕ → Following → Option ℕ → TimedTurn → Type 0
 HearsItsSite w m f None t = Unit {0}
 HearsItsSite w m f (Some asked) t =
-    (message : PlainMessage) (part : Part) → IsAuthentic (under f t.turn.ring) asked t.turn.bytes message part
-    → WasSentBy w m t.time message
+    ((message : PlainMessage) (part : TicketPart)
+    → IsStandingTold (under f t.turn.ring) asked t.turn.bytes message part
+    (standing_of (under f t.turn.ring) message.head part) → WasSentBy w m t.time message)
+    × ((message : PlainMessage) (part : Part) → IsAuthentic (under f t.turn.ring) asked t.turn.bytes message part
+    → WasSentBy w m t.time message)
 
 abbrev pub time_after : ℕ → List TimedTurn → ℕ
 time_after time [] = time
 time_after time (t ∷ turns) = time_after t.time turns
 
--- when the list was asked for last, after these turns
+-- the reading at which the follower asked about the ticket last, after these turns
 abbrev pub asked_after : Following → Option ℕ → List TimedTurn → Option ℕ
 asked_after f left before = (seat_from (first_seat f left) (turns_of before)).asked
 
--- A turn of a follower at a member, behind others: its clock is that member's, and it hears that member.
+-- A turn of a follower at a member, after others: its clock is that member's, and its answers are that member's.
 pub record IsTurnAt (w : World) (m : ℕ) (f : Following) (left : Option ℕ) (before : List TimedTurn) (t : TimedTurn)
     : Type 0 where
   pub in_order : time_after 0 before ≤ t.time
@@ -73,7 +78,7 @@ pub record IsTurnAt (w : World) (m : ℕ) (f : Following) (left : Option ℕ) (b
   pub reads : t.turn.reading ≡ clock_at w m t.time
   pub hears : HearsItsSite w m f (asked_after f left before) t
 
--- A turn of a follower at a member that heard of an end, no later than at this time.
+-- A turn of a follower at a member that received an end, no later than at this time.
 pub record HasHeard (w : World) (m : ℕ) (f : Following) (left : Option ℕ) (until time : ℕ) : Type 0 where
   pub before : List TimedTurn
   pub t : TimedTurn
@@ -82,25 +87,33 @@ pub record HasHeard (w : World) (m : ℕ) (f : Following) (left : Option ℕ) (u
   pub shown : t.turn.heard ≡ news.List (Here until)
   pub no_later : t.time ≤ time
 
--- An earlier follower of the ticket at the member heard of this end, no later than these turns.
-pub record WasHeard (w : World) (m : ℕ) (line : List ℕ) (until : ℕ) (turns : List TimedTurn) : Type 0 where
+-- two followings of one ticket at one site
+pub record AreAlike (f g : Following) : Type 0 where
+  pub line : f.line ≡ g.line
+  pub ticket : f.ticket ≡ g.ticket
+  pub me : f.me ≡ g.me
+
+-- An earlier follower of the ticket at the member received this end, no later than these turns.
+pub record WasHeard (w : World) (m : ℕ) (f : Following) (until : ℕ) (turns : List TimedTurn) : Type 0 where
   pub following : Following
   pub left : Option ℕ
-  pub same_line : following.line ≡ line
+  pub alike : AreAlike following f
   pub time : ℕ
   pub heard : HasHeard w m following left until time
   pub no_later : (before after : List TimedTurn) (t : TimedTurn) → turns ≡ before ++ t ∷ after → time ≤ t.time
 
-abbrev pub IsLeftAt : World → ℕ → List ℕ → Option ℕ → List TimedTurn → Type 0
-IsLeftAt w m line (Some until) turns = WasHeard w m line until turns
-IsLeftAt w m line None turns = Unit {0}
+abbrev pub IsLeftAt : World → ℕ → Following → Option ℕ → List TimedTurn → Type 0
+IsLeftAt w m f (Some until) turns = WasHeard w m f until turns
+IsLeftAt w m f None turns = Unit {0}
 
--- A follower of the ticket at a member of the world, whose turns are those of a following. The end that an earlier one
--- left is one that it heard of. The outside is prompt, and the margins have room for that.
+-- A follower of the ticket at a member of the world, whose turns are those of a following. The end that an earlier
+-- follower left is one that it received. The environment is prompt, and the margins have room for that.
 pub record IsFollowerAt (w : World) (ticket : TicketConf) (m : ℕ) (x : Follower) : Type 0 where
   pub below : m < members_of w
   pub line : x.following.line ≡ line_start ticket.name (address_at w m)
-  pub left : IsLeftAt w m x.following.line x.left x.turns
+  pub ticket_is : x.following.ticket ≡ ticket.name
+  pub me_is : x.following.me ≡ id_at w m
+  pub left : IsLeftAt w m x.following x.left x.turns
   pub told : AreTurns x.following (first_seat x.following x.left) (turns_of x.turns)
   pub at : (before after : List TimedTurn) (t : TimedTurn) → x.turns ≡ before ++ t ∷ after
       → IsTurnAt w m x.following x.left before t
@@ -109,10 +122,10 @@ pub record IsFollowerAt (w : World) (ticket : TicketConf) (m : ℕ) (x : Followe
   pub prompt :
       AllRows (IsPrompt x.gap x.quick) (known_first x.left) (rows_in x.following x.left (turns_of x.turns))
 
--- ---- their services
+-- ---- the service of a follower
 
--- The service may run at a true time. After some turn it was started or taken over, and no stop or kill is known to be
--- done; and no more than the gap is over since that turn's reading.
+-- The service may run at a true time. After some turn it had been started or taken over, and no stop or kill is known
+-- to be done; and no more than the gap has passed since that turn's reading.
 pub record MayServe (w : World) (m : ℕ) (x : Follower) (time : ℕ) : Type 0 where
   pub before : List TimedTurn
   pub last : TimedTurn
@@ -127,7 +140,7 @@ pub record MayServe (w : World) (m : ℕ) (x : Follower) (time : ℕ) : Type 0 w
 
 -- ---- the laws
 
--- Before this time the member held the ticket by a record that it may have kept, which is in force at that time.
+-- Before this time the member held the ticket by a record that it may have written, which is in force at this time.
 pub record HeldUntil (w : World) (ticket : TicketConf) (m time : ℕ) : Type 0 where
   pub moment : Moment w
   pub no_later : moment.time ≤ time
@@ -141,8 +154,8 @@ ServesUnderALease =
     → (m : ℕ) (x : Follower) → IsFollowerAt w ticket m x
     → (time : ℕ) → MayServe w m x time → HeldUntil w ticket m time
 
--- The member held the ticket by a record, and gave its lease back after that, no later than at this time; and but for
--- that the lease would be in force at this time.
+-- The member held the ticket by a record, and released its lease after that, no later than at this time; without the
+-- release the lease would be in force at this time.
 pub record GaveBack (w : World) (ticket : TicketConf) (m time : ℕ) : Type 0 where
   pub moment : Moment w
   pub between : List WorldEntry
@@ -154,7 +167,8 @@ pub record GaveBack (w : World) (ticket : TicketConf) (m time : ℕ) : Type 0 wh
   pub in_force : IsInForce kept (clock_at w m time)
   pub given_back : ReleasedIn w ticket m kept moment.before between
 
--- Where services at two sites may run at one time, one of the sites gave a lease back before whose end is to come.
+-- If services at two sites may run at the same time, one of the sites released a lease before, whose end is still to
+-- come.
 abbrev pub ServicesAreApart : Type 0
 ServicesAreApart =
     (w : World) → IsWorld w → (ticket : TicketConf) → IsAutomatic w ticket

@@ -1,5 +1,5 @@
-//! Services that follow a ticket at the sites of a world: at no moment do two of them run, unless a site gave its lease
-//! back. The laws are the contracts of functions that do nothing. And a run of `boothd`, with a world that has it.
+//! Services that follow a ticket at the sites of a world: at no moment two of them run, unless a site released its
+//! lease. The laws are the contracts of functions that do nothing. And a run of `boothd`, with a world that has it.
 #![tactic(auto)]
 
 pub mod examples;

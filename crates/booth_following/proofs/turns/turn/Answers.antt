@@ -3,7 +3,9 @@ use Rattle.booth_following.proofs.turns.turn.Goals as goal
 
 pub returns-clause-past : goal.returns-clause-past
 returns-clause-past g c =
-    one_turn c.args.f.now c.args.seat.now c.step-deed.new.self c.step-deed.result c.news_of-heard.result c.failed_left-left.result c.asked_after-seat.result
-    c.failed_after-seat.result c.asks-is_asking.result c.run-started.result c.ask-sent.result c.next-answer.ensures.past c.now-reading.ensures.past c.run-started.ensures.past c.ask-sent.ensures.past
-    c.news_of-heard.ensures c.step-deed.ensures.deed c.step-deed.ensures.margins c.step-deed.ensures.state c.failed_left-left.ensures c.failed_after-seat.ensures
-    c.asks-is_asking.ensures c.asked_after-seat.ensures
+    one_turn c.args.f.now c.args.seat.now c.step-deed.new.self c.step-deed.result c.standing_at-standing.result c.news_of-heard.result c.failed_left-left.result
+    c.asked_after-seat.result c.told_after-seat.result c.term_after-seat.result c.failed_after-seat.result c.is_told-told.result c.term_heard-term.result
+    c.asks-asking.result c.run-started.result c.send_asked-sent.result c.next-answer.ensures.past c.now-reading.ensures.past c.run-started.ensures.past c.send_asked-sent.ensures.past
+    c.standing_at-standing.ensures c.news_of-heard.ensures c.step-deed.ensures.deed c.step-deed.ensures.margins c.step-deed.ensures.state c.failed_left-left.ensures
+    c.failed_after-seat.ensures c.term_heard-term.ensures c.is_told-told.ensures c.asks-asking.ensures c.asked_after-seat.ensures c.told_after-seat.ensures
+    c.term_after-seat.ensures
