@@ -99,7 +99,7 @@ INSTALLED := $(SBIN)/boothd:out/boothd:755 \
   $(DOCS)/copyright:packaging/copyright:644 \
   $(DOCS)/changelog:packaging/changelog:644 \
   $(foreach doc,$(filter-out $(DEVELOPER_DOCS),$(wildcard docs/*.md docs/*.svg)),$(DOCS)/$(notdir $(doc)):$(doc):644) \
-  $(foreach file,$(wildcard examples/*.conf examples/*.py),$(DOCS)/examples/$(notdir $(file)):$(file):644) \
+  $(foreach file,$(wildcard examples/*.conf examples/*.py examples/*.sql),$(DOCS)/examples/$(notdir $(file)):$(file):644) \
   $(foreach agent,$(AGENTS),$(OCF)/$(agent):packaging/boothd.ocf:755)
 
 install: build
