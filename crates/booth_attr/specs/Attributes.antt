@@ -1,4 +1,4 @@
--- The attributes of all tickets, and what a change does to them.
+-- The attributes of all tickets, and the effect of a change.
 use Rattle.std.specs.Prelude.{◌≡◌, ℕ, ◌+◌, ◌-◌, ◌≤◌, Bool, not, ◌&&◌, ◌||◌, ◌==◌, nat_le, List, [], length, replicate, slice_index_or, slice_set, if◌then◌else◌}
 use Rattle.std.specs.List.{sum_by}
 use Rattle.booth_attr.specs.declared.pair.Pair.{Pair}
@@ -24,7 +24,7 @@ pub record AreSound (all : Attributes) : Type 0 where
   pub few : (ticket : ℕ) → length (pairs_of all ticket) ≤ TICKET_NAMES
   pub whole : sum_by length all.lists + all.spare ≡ ATTRIBUTES
 
--- none, of so many tickets
+-- no attributes, for this many tickets
 abbrev pub no_attributes : ℕ → Attributes
 no_attributes tickets = record { lists = replicate tickets []; spare = ATTRIBUTES }
 
@@ -34,21 +34,21 @@ is_full all ticket name =
     not (has_name name (pairs_of all ticket))
     && (nat_le TICKET_NAMES (length (pairs_of all ticket)) || all.spare == 0)
 
--- the name has this value
+-- the name has this value afterwards
 abbrev pub with_attribute : Attributes → ℕ → List ℕ → List ℕ → Attributes
 with_attribute all ticket name value = record {
   lists = slice_set all.lists ticket (with_value name value (pairs_of all ticket));
   spare = if has_name name (pairs_of all ticket) then all.spare else all.spare - 1;
 }
 
--- a name that is there is gone
+-- an existing name is removed
 abbrev pub without_attribute : Attributes → ℕ → List ℕ → Attributes
 without_attribute all ticket name = record {
   lists = slice_set all.lists ticket (without name (pairs_of all ticket));
   spare = all.spare + 1;
 }
 
--- what `set` answers, and what it leaves
+-- the answer of `set`, and the attributes after it
 abbrev pub set_answer : Attributes → ℕ → List ℕ → SetAnswer
 set_answer all ticket name = if is_full all ticket name then set.Full else set.Done
 
@@ -56,7 +56,7 @@ abbrev pub after_set : Attributes → ℕ → List ℕ → List ℕ → Attribut
 after_set all ticket name value =
     if is_full all ticket name then all else with_attribute all ticket name value
 
--- what `delete` answers, and what it leaves
+-- the answer of `delete`, and the attributes after it
 abbrev pub del_answer : Attributes → ℕ → List ℕ → DelAnswer
 del_answer all ticket name = if has_name name (pairs_of all ticket) then del.Done else del.NoSuch
 

@@ -11,7 +11,7 @@ use Rattle.booth_attr.specs.Lists.{value_of}
 abbrev pub has_value : List ℕ → List ℕ → List Pair → Bool
 has_value name value pairs = option_map_or (λ found. bytes_eq found value) (value_of name pairs) false
 
--- `eq`: the name has the value; `ne`: it has another value, or is not there
+-- `eq`: the name has the value; `ne`: it has another value, or does not exist
 abbrev pub is_met : List Pair → Prereq → Bool
 is_met pairs prereq =
     if prereq.equal then has_value prereq.name prereq.value pairs
@@ -22,6 +22,6 @@ is_kind Auto Auto = true
 is_kind Manual Manual = true
 is_kind _ _ = false
 
--- a grant of this kind does not ask for the prerequisite, or it is met
+-- a grant of this kind does not need the prerequisite, or it is met
 abbrev pub holds_for : GrantKind → List Pair → Prereq → Bool
 holds_for kind pairs prereq = not (is_kind kind prereq.kind) || is_met pairs prereq

@@ -1,4 +1,4 @@
-//! The attributes of all tickets: they are set, read, deleted and listed.
+//! The attributes of all tickets: set, read, delete and list.
 ghost use Rattle.std.specs.Prelude.{◌≡◌, ◌+◌, ◌≤◌, ◌<◌, ◌++◌, length, flat_map, IfOk, IsFalse};
 ghost use Rattle.std.specs.Option.{option_map};
 ghost use Rattle.booth_base.specs.declared.buffer.TheConstants.{TEXT_BYTES};
@@ -13,7 +13,7 @@ use booth_chain::Chains;
 use std::alloc::{AllocError, Global};
 use std::marker::Model;
 
-/// The most attributes of all tickets together.
+/// The most attributes for all tickets together.
 pub const ATTRIBUTES: u32 = 512;
 
 /// The most attributes of one ticket.
@@ -22,21 +22,21 @@ pub const TICKET_NAMES: u32 = 64;
 /// The most bytes of the list of a ticket's attributes.
 pub const LIST_BYTES: usize = 12_288;
 
-/// What a `set` did.
+/// The result of a `set`.
 #[derive(Clone, Copy, PartialEq, Eq)]
 pub enum SetAnswer {
     /// The name has the value.
     Done,
-    /// There is no room for one more name, and nothing is changed.
+    /// There is no room for one more name, and nothing has changed.
     Full,
 }
 
-/// What a `delete` did.
+/// The result of a `delete`.
 #[derive(Clone, Copy, PartialEq, Eq)]
 pub enum DelAnswer {
-    /// The name is gone.
+    /// The name is removed.
     Done,
-    /// The ticket has no such name, and nothing is changed.
+    /// The ticket has no such name, and nothing has changed.
     NoSuch,
 }
 
@@ -59,7 +59,7 @@ impl Model for Attrs {
 }
 
 impl Attrs {
-    /// No attributes, of so many tickets.
+    /// Returns no attributes, for this many tickets.
     pub fn new(alloc: Global, tickets: u32) -> Result<Attrs, AllocError>
         ensures empty { IfOk result (λ attrs. attrs ≡ no_attributes tickets) }
         ensures sound { IfOk result (λ attrs. AreSound attrs) }
@@ -69,8 +69,8 @@ impl Attrs {
         })
     }
 
-    /// Gives the name this value. A name that is there keeps its place, and a new one goes last.
-    /// `Full` exactly where the name is new and there is no room for one more.
+    /// Gives the name this value. An existing name keeps its place, and a new one goes last. Returns `Full` exactly
+    /// if the name is new and there is no room for one more.
     pub fn set(&mut self, ticket: u32, name: &Name, value: &AttrValue) -> SetAnswer
         requires { ticket < length self.old.lists }
         ensures answer { result ≡ set_answer self.old ticket name.now }
@@ -91,7 +91,7 @@ impl Attrs {
         }
     }
 
-    /// Adds a pair whose name is new, where there is room for it.
+    /// Adds a pair with a new name, if there is room for it.
     fn add(&mut self, ticket: u32, pair: Pair) -> SetAnswer
         requires exists { ticket < length self.old.lists }
         requires is_new { IsFalse (has_name pair.name (pairs_of self.old ticket)) }
@@ -109,7 +109,7 @@ impl Attrs {
         }
     }
 
-    /// The value of a name; None exactly where the ticket has no such name.
+    /// Returns the value of a name; None exactly if the ticket has no such name.
     pub fn get(&self, ticket: u32, name: &Name) -> Option<&AttrValue>
         requires { ticket < length self.now.lists }
         ensures value { option_map (λ v. v.now) result ≡ value_of name.now (pairs_of self.now ticket) }
@@ -121,7 +121,7 @@ impl Attrs {
         }
     }
 
-    /// Takes the name and its value away. `NoSuch` exactly where the ticket has no such name.
+    /// Removes the name and its value. Returns `NoSuch` exactly if the ticket has no such name.
     pub fn delete(&mut self, ticket: u32, name: &Name) -> DelAnswer
         requires { ticket < length self.old.lists }
         ensures answer { result ≡ del_answer self.old ticket name.now }

@@ -1,4 +1,4 @@
-//! The search for a ticket's pair of a name.
+//! The search for a ticket's pair with a name.
 ghost use Rattle.std.specs.Prelude.{◌<◌, length};
 ghost use Rattle.booth_attr.specs.Places.{IsNodeOf};
 
@@ -6,7 +6,7 @@ use crate::pair::Pair;
 use booth_base::Name;
 use booth_chain::{Chains, NodeId};
 
-/// The node of the ticket's pair of this name; None exactly where no pair has it.
+/// Returns the node of the ticket's pair with this name; None exactly if no pair has it.
 pub fn node_of(chains: &Chains<Pair>, ticket: u32, name: &Name) -> Option<NodeId>
     requires { ticket < length chains.now.lists }
     ensures { IsNodeOf chains.now ticket name.now result }

@@ -16,7 +16,7 @@ pub struct Pair {
 }
 
 impl Pair {
-    /// Appends `name value` and a line end, for which there is room.
+    /// Appends `name value` and a line feed; there must be room for it.
     pub fn put_line(&self, into: &mut TextBuf)
         requires room { length into.old + LINE_BYTES ≤ TEXT_BYTES }
         ensures line { into.new ≡ into.old ++ line_of self.now }

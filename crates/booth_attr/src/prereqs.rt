@@ -9,7 +9,7 @@ use booth_base::{AttrValue, Name};
 use booth_conf::{GrantKind, Prereq};
 
 impl Attrs {
-    /// Whether all prerequisites of this kind hold.
+    /// Returns whether all prerequisites of this kind hold.
     pub fn holds(&self, ticket: u32, prereqs: &[Prereq], kind: GrantKind) -> bool
         requires { ticket < length self.now.lists }
         ensures { result ≡ list_all (holds_for kind (pairs_of self.now ticket)) prereqs.now }

@@ -1,4 +1,4 @@
-//! Names, values, addresses, paths and times, and the spellings of frames and of records.
+//! Names, values, addresses, paths and times, and the encodings of frames and records.
 use crate::frames::{command, frame, signed};
 use crate::told::{LONGEST_MS, fault, shown, spelled};
 use booth_base::{
@@ -10,7 +10,7 @@ use booth_rows::{Answer, Player, Words};
 use booth_wire::{AUTH_BYTES, FRAME_BYTES, Frame, TermSpent};
 use std::alloc::{AllocError, Global};
 
-/// Plays lines about bytes. The frames are spelled one over the other.
+/// Plays lines about bytes. Each frame is encoded into the same buffer.
 #[derive(Drop)]
 pub(crate) struct Bytes {
     frame: Frame,
@@ -24,7 +24,7 @@ impl Bytes {
     }
 }
 
-// `address TEXT`: its bytes, its id and its one text.
+// `address TEXT`: its bytes, its id and its canonical text.
 fn address(words: &mut Words<'_>, answer: &mut Answer) {
     match Address::read(&words.bytes()) {
         Ok(address) => {
@@ -56,7 +56,7 @@ fn value(words: &mut Words<'_>, answer: &mut Answer) {
     }
 }
 
-// `path BYTES`, which are a text.
+// `path BYTES`, which are text.
 fn path(words: &mut Words<'_>, answer: &mut Answer) {
     match PathText::read(words.text().as_str()) {
         Ok(path) => spelled(answer, "path", path.as_str().as_bytes()),
@@ -90,7 +90,7 @@ fn times(words: &mut Words<'_>, answer: &mut Answer) {
     answer.end();
 }
 
-// `record BYTES`: what they are read as, and its spelling if it is of version 2.
+// `record BYTES`: the decoded record, and its encoding if it has version 2.
 fn record(words: &mut Words<'_>, answer: &mut Answer) {
     match Record::decode(&words.bytes()) {
         Ok(record) => {
@@ -103,7 +103,7 @@ fn record(words: &mut Words<'_>, answer: &mut Answer) {
     }
 }
 
-// `constants`: the greatest sizes, nobody's id, what stands for a name and a value at first, and two faults.
+// `constants`: the maximum sizes, nobody's id, the initial name and value, and two faults.
 fn constants(answer: &mut Answer) {
     answer.number(MEMBERS as u64);
     answer.number(TEXT_BYTES as u64);
@@ -117,7 +117,7 @@ fn constants(answer: &mut Answer) {
     fault(answer, &ReopenFault::Torn);
 }
 
-// Plays the bytes of a value, as which they are read.
+// Plays the bytes of one value, by its type.
 fn read(what: &str, words: &mut Words<'_>, answer: &mut Answer) {
     match what {
         "address" => address(words, answer),

@@ -1,4 +1,4 @@
-//! Texts of the configuration: their faults, or what they say.
+//! Configuration texts: their faults, or their contents.
 use crate::told::{LONGEST_MS, shown, spelled};
 use booth_base::{PathText, promise_ms};
 use booth_conf::{Config, TicketConf};
@@ -39,7 +39,7 @@ fn file_keys(answer: &mut Answer, config: &Config) {
     path(answer, "authfile-old", config.authfile_old());
 }
 
-// Appends each member's role, its id, and its place by its id.
+// Appends each member's role, its id, and the member that its id leads to.
 fn members(answer: &mut Answer, config: &Config) {
     for member in config.members() {
         answer.word(if member.site { "site" } else { "arbitrator" });
@@ -66,7 +66,7 @@ fn ticket(answer: &mut Answer, ticket: &TicketConf) {
     }
 }
 
-// Returns the rank of a site, if there are such a ticket and such a site.
+// Returns the rank of a site, if this ticket and this site exist.
 fn rank(config: &Config, ticket: usize, member: usize) -> Option<u64> {
     let is_site = config.members().get(member)?.site;
     if is_site && ticket < config.tickets().len() {
@@ -75,7 +75,7 @@ fn rank(config: &Config, ticket: usize, member: usize) -> Option<u64> {
     None
 }
 
-// Appends the rank of each member at a ticket, `-` where it has none.
+// Appends the rank of each member for a ticket, `-` if it has none.
 fn ranks(answer: &mut Answer, config: &Config, ticket: usize) {
     for member in 0..config.members().len() {
         answer.number_or_none(rank(config, ticket, member));
@@ -93,7 +93,7 @@ fn tickets(answer: &mut Answer, config: &Config) {
     }
 }
 
-// Appends the text that is printed of a configuration.
+// Appends the printed form of a configuration.
 fn printed(alloc: Global, answer: &mut Answer, word: &str, config: &Config) {
     match config.print(alloc) {
         Ok(text) => spelled(answer, word, text.bytes()),
@@ -101,7 +101,7 @@ fn printed(alloc: Global, answer: &mut Answer, word: &str, config: &Config) {
     }
 }
 
-// Appends each value, and the text that is printed of it and of a copy.
+// Appends each value, and the printed form of the configuration and of a copy.
 fn tell(alloc: Global, answer: &mut Answer, config: &Config) {
     file_keys(answer, config);
     members(answer, config);

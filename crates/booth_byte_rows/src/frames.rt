@@ -1,4 +1,4 @@
-//! Frames: what they are read as, and how that is spelled.
+//! Frames: their decoded fields, and their encodings.
 use crate::told::{fault, shown, spelled};
 use booth_rows::{Answer, Words};
 use booth_wire::{AttrPart, Body, Cmd, Direction, Frame, Head, Kind, TicketPart, decode, encode};
@@ -20,7 +20,7 @@ fn direction_of(command: Cmd) -> &'static str {
     }
 }
 
-/// Plays `command CODE`: its name, its code, its body, between whom it goes, and what answers it.
+/// Plays `command CODE`: its name, its code, its body, its sender and receiver, and the command that answers it.
 pub(crate) fn command(words: &mut Words<'_>, answer: &mut Answer) {
     let Some(command) = Cmd::from_code(words.number()) else {
         answer.word("none");
@@ -76,7 +76,7 @@ fn body(answer: &mut Answer, body: &Body<'_>) {
     }
 }
 
-/// Plays `frame BYTES`: the fields of its head, those of its body, and the spelling of both, or its fault.
+/// Plays `frame BYTES`: the fields of its head, those of its body, and the encoding of both, or its fault.
 pub(crate) fn frame(words: &mut Words<'_>, into: &mut Frame, answer: &mut Answer) {
     match decode(&words.bytes()) {
         Ok(message) => {
@@ -89,7 +89,7 @@ pub(crate) fn frame(words: &mut Words<'_>, into: &mut Frame, answer: &mut Answer
     }
 }
 
-/// Plays `signed ID HASH FRAME`: the spelling of what the frame says, with this authentication part.
+/// Plays `signed ID HASH FRAME`: the encoding of the frame's contents with this authentication part.
 pub(crate) fn signed(words: &mut Words<'_>, into: &mut Frame, answer: &mut Answer) {
     let id = words.number();
     let (hash, frame) = (words.bytes(), words.bytes());

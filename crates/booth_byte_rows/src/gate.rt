@@ -1,4 +1,4 @@
-//! The gate and the seal, and the MACs under them.
+//! The gate and the seal, and their MACs.
 use crate::told::{fault, spelled};
 use booth_auth::{gate, seal};
 use booth_base::MemberId;
@@ -8,7 +8,7 @@ use booth_rows::{Answer, Player, Words};
 use booth_wire::{Frame, decode};
 use sha1::Sha1;
 
-/// Plays lines at the gate of a member: with the configuration and the ring that came last.
+/// Plays lines at the gate of a member, with the configuration and the ring that were read last.
 #[derive(Drop)]
 pub(crate) struct Gate {
     config: Option<Config>,
@@ -26,7 +26,7 @@ fn key(words: &mut Words<'_>) -> Option<Key> {
     }
 }
 
-// Reads a hash, which is the newer one if it is not `sha1`.
+// Reads a hash: `sha1`, or else the newer one.
 fn hash(words: &mut Words<'_>) -> Hash {
     match words.word() {
         "sha1" => Hash::Sha1,
@@ -49,7 +49,7 @@ fn ring(words: &mut Words<'_>) -> Option<Ring> {
     Some(Ring { first, old, hash })
 }
 
-// Appends the spelling of what a frame says, as it is sealed.
+// Appends the sealed encoding of a frame's contents.
 fn put_sealed(
     words: &mut Words<'_>,
     frame: &[u8],
@@ -69,7 +69,7 @@ fn put_sealed(
     }
 }
 
-// `mac KEYFILE MESSAGE`: both MACs, or why there is no key.
+// `mac KEYFILE MESSAGE`: both MACs, or why the file is no key.
 fn mac(words: &mut Words<'_>, answer: &mut Answer) {
     let (file, message) = (words.bytes(), words.bytes());
     match Key::read(&file) {
@@ -98,7 +98,7 @@ impl Gate {
         }
     }
 
-    // `seal NOW FRAME`: what the frame says, as it is sealed then with the ring and with a copy of it.
+    // `seal NOW FRAME`: the frame's contents, sealed at that time with the ring and with a copy of it.
     fn seal(&self, words: &mut Words<'_>, answer: &mut Answer) {
         let now = words.long();
         let frame = words.bytes();

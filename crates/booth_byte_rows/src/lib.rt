@@ -1,7 +1,7 @@
-//! Players of what is about bytes: names and addresses, frames and records, the file of records, the configuration,
-//! the gate and the seal.
+//! Players for bytes: names and addresses, frames and records, record files, the configuration, the gate and the
+//! seal.
 //!
-//! A fault is told in two lines: `fault` with its name, and its text.
+//! A fault is printed as two lines: `fault` with its name, and its text.
 #![tactic(auto)]
 
 mod bytes;
@@ -17,7 +17,7 @@ use crate::gate::Gate;
 use crate::slots::RecordFile;
 use booth_rows::play_lines;
 
-// Each player is let go in a function of its own, which is cheaper to prove.
+// Each player is dropped in a function of its own, which is cheaper to prove.
 fn play_bytes(rt: &(impl Input + Print + AllocGlobal)) -> bool {
     match Bytes::new(rt.alloc()) {
         Ok(mut bytes) => play_lines(rt, &mut bytes),

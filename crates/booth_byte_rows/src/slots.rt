@@ -1,4 +1,4 @@
-//! The file of records, over a disk in memory.
+//! A record file on a disk in memory.
 use crate::told::{fault, shown, spelled};
 use booth_rec::{Lease, MemoryDisk, OpenFault, Record, Slots};
 use booth_rows::{Answer, Player, Words};
@@ -13,8 +13,7 @@ pub(crate) struct RecordFile {
     slots: Option<Slots<MemoryDisk>>,
 }
 
-// Returns the file of these bytes, or appends a line that says why there is none, and with which bytes the disk comes
-// back.
+// Opens the file with these bytes. On failure it appends why, and the bytes of the disk.
 fn opened(
     alloc: Global,
     passes: u64,
@@ -50,7 +49,7 @@ fn record(words: &mut Words<'_>) -> Record {
     }
 }
 
-// Appends what the file holds, the bytes of its disk, and what a new open reads in them.
+// Appends what the file holds, the bytes of its disk, and what a new open reads from them.
 fn tell(alloc: Global, slots: &Slots<MemoryDisk>, answer: &mut Answer) {
     shown(answer, "holds", &slots.record());
     spelled(answer, "bytes", slots.disk().bytes());
@@ -79,7 +78,7 @@ impl RecordFile {
         RecordFile { slots: None }
     }
 
-    // `open PASSES BYTES`: a disk of these bytes, so many calls of which pass.
+    // `open PASSES BYTES`: a disk with these bytes, of which this many calls succeed.
     fn open(&mut self, words: &mut Words<'_>, answer: &mut Answer) {
         let passes = words.long();
         self.slots = opened(words.alloc(), passes, &words.bytes(), answer);

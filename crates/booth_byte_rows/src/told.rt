@@ -1,11 +1,11 @@
-//! The parts of answers that the players share.
+//! Parts of answers that several players use.
 use booth_rows::Answer;
 use std::fmt::{Debug, Display};
 
-/// The most milliseconds of a lease and of the time behind it.
+/// The most milliseconds of a lease and of the time after it.
 pub(crate) const LONGEST_MS: u64 = 10_000_000_000;
 
-/// Appends a line with the value's `Debug` text behind this word.
+/// Appends a line with this word and the value's `Debug` text.
 pub(crate) fn shown<V: Debug>(answer: &mut Answer, word: &str, value: &V) {
     answer.word(word);
     answer.debug(value);
@@ -19,7 +19,7 @@ pub(crate) fn fault<F: Debug + Display>(answer: &mut Answer, fault: &F) {
     answer.end();
 }
 
-/// Appends a line with these bytes behind this word.
+/// Appends a line with this word and these bytes.
 pub(crate) fn spelled(answer: &mut Answer, word: &str, bytes: &[u8]) {
     answer.word(word);
     answer.bytes(bytes);

@@ -1,4 +1,4 @@
-//! What calls of a host answer, as words.
+//! The results of a host's calls, as words.
 use crate::peers::put_peer;
 use crate::records::put_record;
 use booth_host::{Arrival, Failed};
@@ -19,7 +19,7 @@ pub fn put_locked(answer: &mut Answer, locked: Result<bool, Failed>) {
     });
 }
 
-/// Appends what a wait brought, with the bytes of a datagram.
+/// Appends the result of a wait, with the bytes of a datagram.
 pub fn put_arrival(answer: &mut Answer, arrival: Result<Arrival, Failed>, bytes: &[u8]) {
     match arrival {
         Ok(Arrival::Quiet) => answer.word("quiet"),
@@ -38,7 +38,7 @@ pub fn put_arrival(answer: &mut Answer, arrival: Result<Arrival, Failed>, bytes:
     }
 }
 
-/// Appends the record that was kept.
+/// Appends the stored record.
 pub fn put_kept(answer: &mut Answer, kept: Result<Option<Record>, Failed>) {
     match kept {
         Ok(Some(record)) => put_record(answer, &record),

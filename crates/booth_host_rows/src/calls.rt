@@ -1,4 +1,4 @@
-//! The calls of a host, and their answers.
+//! The calls of a host, and their results.
 use crate::answers::{put_arrival, put_done, put_kept, put_locked};
 use crate::peers::{address, path, peer};
 use crate::records::record_of;
@@ -90,7 +90,7 @@ fn play_kept<H: Host>(host: &mut H, call: &str, words: &mut Words<'_>, answer: &
     }
 }
 
-/// Plays a call of a host, whose name was read.
+/// Plays a call of a host, whose name has been read.
 pub fn play_call<H: Host>(host: &mut H, call: &str, words: &mut Words<'_>, answer: &mut Answer) {
     match call {
         "open" => open(host, words, answer),

@@ -1,4 +1,4 @@
-//! What a host in memory is made of, from lines.
+//! The contents of a host in memory, from lines.
 use crate::peers::path;
 use crate::records::record_of;
 use crate::steps::step_of;
@@ -7,10 +7,10 @@ use booth_host::{Files, MemoryHost, QuietHost, Records, Script};
 use booth_rows::Words;
 use std::alloc::{AllocError, Global};
 
-/// How many calls are told if no line says another room.
+/// How many calls the host logs unless a line sets another limit.
 const ROOM: u32 = 300;
 
-/// What a host in memory is made of: its script, its files, its records, and how many calls it tells.
+/// The contents of a host in memory: its script, its files, its records, and how many calls it logs.
 #[derive(Drop)]
 pub struct Given {
     script: Script,
@@ -31,7 +31,7 @@ pub fn name_of(words: &mut Words<'_>) -> Name {
 }
 
 impl Given {
-    /// Returns nothing: no file, no record, and nothing that comes or fails.
+    /// Returns empty contents: no file, no record, and a script in which nothing arrives or fails.
     pub fn new(alloc: Global) -> Given {
         Given {
             script: Script {
@@ -76,7 +76,7 @@ impl Given {
         }
     }
 
-    // Sets what fails before the first step, or that others hold each lock.
+    // Sets the calls that fail before the first step, or that other processes hold each lock.
     fn fail(&mut self, words: &mut Words<'_>) {
         match words.word() {
             "taken" => self.script.taken = true,
@@ -90,7 +90,7 @@ impl Given {
         }
     }
 
-    /// Takes a line, whose first word was read.
+    /// Takes a line, whose first word has been read.
     pub fn take(&mut self, what: &str, words: &mut Words<'_>) {
         match what {
             "first" => self.script.first = words.long(),
@@ -103,12 +103,12 @@ impl Given {
         }
     }
 
-    /// Returns the host that is made of it.
+    /// Returns the host with these contents.
     pub fn into_host(self, alloc: Global) -> Result<MemoryHost, AllocError> {
         MemoryHost::new(alloc, self.script, self.files, self.records, self.room)
     }
 
-    /// Returns the host that is made of it without its failures.
+    /// Returns the host with these contents and no failures.
     pub fn into_quiet(self, alloc: Global) -> Result<QuietHost, AllocError> {
         QuietHost::new(alloc, self.script, self.files, self.records, self.room)
     }

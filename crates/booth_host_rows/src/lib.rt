@@ -1,11 +1,11 @@
-//! Plays calls of any host: each line is a call, and its answer is the host's.
+//! Plays calls of any host: each line is a call, and the answer is the host's result.
 //!
-//! `open LOCAL PORT RECORDS CONF`, `next WAIT`, `now`, `send ADDRESS PORT BYTES`, `kept TICKET`, `keep TICKET RECORD`,
-//! `start NUMBER TICKET HANDLER LOCAL EXPIRES`, `read PATH`, `lock PATH`, `out BYTES` and `err BYTES`. Paths, tickets,
-//! handlers and texts are in hexadecimal.
+//! The calls are `open LOCAL PORT RECORDS CONF`, `next WAIT`, `now`, `send ADDRESS PORT BYTES`, `kept TICKET`, `keep
+//! TICKET RECORD`, `start NUMBER TICKET HANDLER LOCAL EXPIRES`, `read PATH`, `lock PATH`, `out BYTES` and `err
+//! BYTES`. Paths, tickets, handlers and texts are in hexadecimal.
 //!
-//! A host in memory is made of `first READING`, `file PATH BYTES`, `fails CALL ..`, `room COUNT`, `record TICKET RECORD`
-//! and `step READING FAILS ARRIVAL`, where a ticket is not in hexadecimal.
+//! The contents of a host in memory are `first READING`, `file PATH BYTES`, `fails CALL ..`, `room COUNT`, `record
+//! TICKET RECORD` and `step READING FAILS ARRIVAL`. There a ticket is not in hexadecimal.
 #![tactic(auto)]
 
 mod answers;

@@ -1,4 +1,4 @@
-//! Calls that a host tells, as lines.
+//! The calls in a host's log, as lines.
 use crate::answers::{put_arrival, put_done, put_kept, put_locked};
 use crate::peers::{put_address, put_peer};
 use crate::records::put_record;
@@ -131,7 +131,7 @@ pub fn put_call(answer: &mut Answer, entry: &Entry) {
     answer.end();
 }
 
-/// Appends the calls that a host tells, or `untold`.
+/// Appends the calls in a host's log, or `untold` if the host has no log.
 pub fn put_past(answer: &mut Answer, past: Option<&[Entry]>) {
     let Some(calls) = past else {
         answer.word("untold");

@@ -1,4 +1,4 @@
-//! Addresses, peers and paths as words: an address as it is printed, a port in decimal, the bytes of a path.
+//! Addresses, peers and paths as words: an address in its printed form, a port in decimal, the bytes of a path.
 use booth_base::{Address, PathText, Peer};
 use booth_rows::{Answer, Words};
 

@@ -1,5 +1,5 @@
-//! A record as words, both ways: version, term, the lease's term and end, whom it voted for, whom it promised to with
-//! the term and the end, and until when it abstains. `-` stands for each word of what it has not.
+//! A record as words, both ways: its version, its term, the lease's term and end, the member that it voted for, the
+//! promise's member, term and end, and until when it abstains. `-` stands for each word of a missing part.
 use booth_base::MemberId;
 use booth_rec::{Lease, Promise, Record};
 use booth_rows::{Answer, Words};

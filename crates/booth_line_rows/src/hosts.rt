@@ -1,4 +1,4 @@
-//! The player of hosts of one kind.
+//! The player of one kind of hosts.
 use crate::kinds::Kind;
 use crate::links::link_step;
 use booth_host_rows::{Given, play_call};
@@ -7,7 +7,7 @@ use booth_stream::LinkStep;
 use std::alloc::Global;
 use std::mem;
 
-/// Plays calls of the host that the lines before them make.
+/// Plays calls of the host that earlier lines create.
 #[derive(Drop)]
 pub(crate) struct HostPlayer<H: Kind> {
     given: Given,
@@ -25,7 +25,7 @@ impl<H: Kind> HostPlayer<H> {
         }
     }
 
-    // Makes the host of what was given.
+    // Creates the host from the given contents.
     fn make(&mut self, words: &mut Words<'_>) {
         let alloc = words.alloc();
         let given = mem::replace(&mut self.given, Given::new(alloc));
@@ -36,14 +36,14 @@ impl<H: Kind> HostPlayer<H> {
         }
     }
 
-    // Adds what comes to links.
+    // Adds an event of a link.
     fn link(&mut self, words: &mut Words<'_>) {
         if self.links.push(link_step(words)).is_err() {
             words.tear();
         }
     }
 
-    // Plays a line about the host.
+    // Plays a line for the host.
     fn call(&mut self, call: &str, words: &mut Words<'_>, answer: &mut Answer) {
         match &mut self.host {
             Some(host) if call == "told" => host.tell(answer),

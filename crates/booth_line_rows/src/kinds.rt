@@ -1,4 +1,4 @@
-//! The kinds of hosts that are played.
+//! The kinds of hosts that the players use.
 use booth_base::ByteText;
 use booth_host::{Host, MemoryHost, QuietHost};
 use booth_host_rows::{Given, put_past, step_of};
@@ -8,18 +8,18 @@ use booth_rows::{Answer, Words};
 use booth_stream::{LinkStep, MemoryLinks, StreamHost};
 use std::alloc::AllocError;
 
-/// How many calls a host over links tells, and how many bytes that were written its links tell.
+/// How many calls a host over links logs, and how many written bytes its links remember.
 const ROOM: u32 = 100_000;
 
-/// A host that is made of a host in memory.
+/// A host over a host in memory.
 pub(crate) trait Kind: Host + Drop {
-    /// Makes the host of what was given, of what comes to links, and of the words that are left.
+    /// Creates the host from these contents, the links' script and the remaining words.
     fn make(given: Given, links: Vec<LinkStep>, words: &mut Words<'_>) -> Result<Self, AllocError>;
 
-    /// Appends what the host has told: its calls, the lines of its log, or the bytes of its journal.
+    /// Appends what the host has recorded: its calls, the lines of its log, or the bytes of its journal.
     fn tell(&self, answer: &mut Answer);
 
-    /// Adds a step to the script of a host in memory, or has it forget what has run.
+    /// Adds a step to the script of a host in memory, or makes the host forget the steps so far.
     fn change(&mut self, call: &str, words: &mut Words<'_>);
 }
 
@@ -55,7 +55,7 @@ impl Kind for QuietHost {
     }
 }
 
-// Appends the lines that are told, or `untold`.
+// Appends the recorded lines, or `untold` if the host records none.
 fn put_said(answer: &mut Answer, said: Option<&[ByteText]>) {
     let Some(lines) = said else {
         answer.word("untold");

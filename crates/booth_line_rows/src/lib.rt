@@ -1,13 +1,14 @@
 //! Plays hosts in memory, and hosts over them that log, that write a journal or that serve links; and the texts of
 //! journals and streams.
 //!
-//! Each of the players `memory`, `quiet`, `logged`, `journaled` and `streamed` makes hosts of its kind. `give WORD ..`
-//! says what a host in memory is made of, and `link TAKES EVENT` what comes to its links. `over` makes the host, of the
-//! player `logged` `over LINES`, and of the player `journaled` `over BYTES APPENDS`. Each other line is a call of it, or
-//! `told` for what it tells; and of the player `memory` `add STEP` and `forget` for its script.
+//! Each of the players `memory`, `quiet`, `logged`, `journaled` and `streamed` creates hosts of its kind. `give WORD
+//! ..` sets the contents of a host in memory, and `link TAKES EVENT` adds an event of its links. `over` creates the
+//! host: `over LINES` for the player `logged`, and `over BYTES APPENDS` for the player `journaled`. Each other line
+//! is a call of the host, or `told` for what it has recorded. The player `memory` also has `add STEP` and `forget`
+//! for its script.
 //!
-//! The player `texts` has `journal BYTES`; `begin BYTES` and `feed BYTES` for the pieces of a stream; and `faults` for
-//! the texts of a host's faults.
+//! The player `texts` has `journal BYTES`; `begin BYTES` and `feed BYTES` for the pieces of a stream; and `faults`
+//! for the texts of a host's faults.
 #![tactic(auto)]
 
 mod hosts;

@@ -1,11 +1,11 @@
-//! A step of links from its words: what a write takes, and what comes.
+//! A step of a links' script from its words: how much a write takes, and what arrives.
 use booth_base::ByteText;
 use booth_host::Failed;
 use booth_host_rows::peer;
 use booth_rows::Words;
 use booth_stream::{LinkEvent, LinkStep};
 
-// Reads what comes, up to its bytes.
+// Reads an event.
 fn event(words: &mut Words<'_>) -> Result<LinkEvent, Failed> {
     match words.word() {
         "quiet" => Ok(LinkEvent::Quiet),

@@ -12,7 +12,7 @@ pub(crate) struct Texts {
     datagram: Datagram,
 }
 
-// Appends whether these bytes are a journal, or else the number of the line that is none of it.
+// Appends whether these bytes are a journal, or else the number of the first line that does not belong to one.
 fn put_journal(words: &mut Words<'_>, answer: &mut Answer) {
     match read_lines(words.alloc(), &words.bytes()) {
         Ok(()) => answer.word("journal"),

@@ -1,4 +1,4 @@
--- How many pairs there may be before a move ends.
+-- How many pairs a move may have before it ends.
 use Rattle.std.specs.Prelude.{◌≤◌, ◌+◌, ◌-◌, ◌*◌, ℕ, Bool, true, false}
 use Rattle.booth_talk.specs.declared.wait.TheConstants.{MOST_PAIRS}
 use Rattle.booth_move.specs.declared.deeds.MoveDeed.{MoveDeed}
@@ -15,7 +15,7 @@ wait_left false pairs = MOST_PAIRS + (MOST_PAIRS - pairs)
 abbrev pub request_left : Request → ℕ
 request_left last = wait_left last.begun last.pairs
 
--- the waits of a revoke that is sent on
+-- the waits of a revoke that is sent on to the owner
 abbrev pub on_left : Bool → ℕ
 on_left true = 0
 on_left false = 2 * MOST_PAIRS
@@ -27,7 +27,7 @@ pairs_left (Granting last repeats) = request_left last + (10 - repeats) * (3 * M
 pairs_left (Pausing last repeats) = (MOST_PAIRS - last.pairs) + 2 * MOST_PAIRS + (9 - repeats) * (3 * MOST_PAIRS)
 pairs_left Ended = 0
 
--- A step of a move that goes on ends it, or leaves it going on with fewer pairs left.
+-- A step ends the move, or leaves it with fewer pairs left.
 abbrev pub Lessens : Stage → MoveDeed → Stage → Type 0
 Lessens old (deeds.End end) new = Unit {0}
 Lessens old deed new = 1 ≤ pairs_left old → (1 ≤ pairs_left new) × (pairs_left new + 1 ≤ pairs_left old)

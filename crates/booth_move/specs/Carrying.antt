@@ -1,4 +1,4 @@
--- A move over a host: what is sent for a deed, which reply a datagram holds, and all calls of a move.
+-- A move over a host: the messages for its actions, the reply in a datagram, and all calls of a move.
 use Rattle.std.specs.Prelude.{◌≡◌, ◌≤◌, ◌+◌, ◌++◌, ◌&&◌, ◌⊎◌, ℕ, false, List, [], ◌∷◌, length, map, slice_get, Option, Some, None, option_map, Result, Ok, Err, if◌then◌else◌}
 use Rattle.booth_base.specs.declared.address.Peer.{Peer as Place}
 use Rattle.booth_wire.specs.declared.codes.options.TheConstants.{WAIT}
@@ -43,7 +43,7 @@ abbrev pub cmd_of : Asks → Cmd
 cmd_of asks.Revoke = CRvk
 cmd_of asks.Grant = CGnt
 
--- the message of a request, but for time and MAC
+-- the message of a request, except its time and MAC
 abbrev pub request : Moving → Asks → ℕ → PlainMessage
 request moving what number = record {
   head = record {
@@ -60,18 +60,19 @@ request moving what number = record {
   content = Ticket (asked_part moving.ticket);
 }
 
--- the bytes of a request of this number that is sent at this reading
+-- the bytes of a request with this number that is sent at this reading
 abbrev pub request_bytes : Moving → Asks → ℕ → ℕ → List ℕ
 request_bytes moving what number start = sealed moving.ring (stamped moving.ring start (request moving what number))
 
--- where the member at a place listens
+-- the address at which the member at a place listens
 abbrev pub member_peer : Moving → ℕ → Option Place
 member_peer moving place = option_map (peer_at moving.config) (slice_get moving.config.members place)
 
 abbrev pub sending_to : Asks → ℕ → Place → Sending
 sending_to what number to = record { to = to; what = what; number = number }
 
--- what is sent for a deed: the first revoke to who is asked for the ticket, and the others to members
+-- the message for an action: the first revoke goes to the member that is asked for the ticket, and the others to
+-- members by their places
 abbrev pub sent_for : Moving → MoveDeed → Option Sending
 sent_for moving deeds.Nothing = None
 sent_for moving (deeds.Revoke None number) = Some (sending_to asks.Revoke number moving.to)
@@ -84,30 +85,30 @@ sent_for moving (deeds.End end) = None
 abbrev pub send_call : Moving → ℕ → Sending → Result Unit Failed → Entry
 send_call moving start s answer = Send s.to (request_bytes moving s.what s.number start) answer
 
--- ---- what is heard
+-- ---- replies
 
--- the message has the right MAC where there is a key, and it is an answer to the last request
+-- the message has the right MAC, if there is a key, and answers the last request
 abbrev pub answer_read : Moving → Stage → List ℕ → Result PlainMessage FrameFault → Option PlainMessage
 answer_read moving stage bytes (Ok m) =
     if is_signed moving.ring m.head bytes && is_answer (setup_of moving) stage m then Some m else None
 answer_read moving stage bytes (Err fault) = None
 
--- the answer that these bytes are, if they are one
+-- the answer in these bytes, if they are one
 unfoldable pub answer_in : Moving → Stage → List ℕ → Option PlainMessage
 answer_in moving stage bytes = answer_read moving stage bytes (decoded bytes)
 
--- the answer that an arrival brought; none but a datagram brings one
+-- the answer in an arrival; only a datagram has one
 abbrev pub answer_at : Moving → Stage → Result Arrival Failed → List ℕ → Option PlainMessage
 answer_at moving stage (Ok (Datagram peer)) bytes = answer_in moving stage bytes
 answer_at moving stage answer bytes = None
 
--- a pair of calls as the move is told it
+-- a pair of calls, as the move receives it
 abbrev pub told : Moving → Stage → CallPair → Pair
 told moving stage p = record { reading = p.reading; reply = answer_at moving stage p.answer p.bytes }
 
 -- ---- the calls
 
--- the send of a deed, where it is one, that did not fail
+-- the send for an action, if the action is one and the send did not fail
 abbrev pub sends : Moving → ℕ → Option Sending → List Entry
 sends moving start None = []
 sends moving start (Some s) = send_call moving start s (Ok tt) ∷ []
@@ -127,7 +128,7 @@ unfoldable pub stage_from : Moving → Stage → List CallPair → Stage
 stage_from moving stage [] = stage
 stage_from moving stage (p ∷ ps) = stage_from moving (step_at moving stage p).stage ps
 
--- the calls of a move that goes on after these pairs, and where it stands
+-- the calls of a move that goes on after these pairs, and its stage
 abbrev pub calls_so_far : Moving → ℕ → List CallPair → List Entry
 calls_so_far moving start pairs =
     sends moving start (sent_for moving (opens start).deed) ++ calls_from moving (opens start).stage pairs
@@ -135,7 +136,7 @@ calls_so_far moving start pairs =
 abbrev pub stage_so_far : Moving → ℕ → List CallPair → Stage
 stage_so_far moving start pairs = stage_from moving (opens start).stage pairs
 
--- The move came to this end: its last pair is followed by it.
+-- The move reached this end, after its last pair.
 pub record IsFinished (moving : Moving) (start : ℕ) (end : MoveEnd) (entries : List Entry) : Type 0 where
   pub pairs : List CallPair
   pub last : CallPair
@@ -164,20 +165,20 @@ IsCarried moving start (Err failed) entries =
 
 -- ---- in the code
 
--- the calls for a deed, of which this is sent, if anything is
+-- the calls for an action, with this message if there is one
 abbrev pub IsSent : Moving → ℕ → Option Sending → Result Unit Failed → List Entry → Type 0
 IsSent moving start None (Ok done) entries = entries ≡ []
 IsSent moving start (Some s) answer entries = entries ≡ send_call moving start s answer ∷ []
 IsSent moving start None (Err failed) entries = ⊥
 
--- the calls of so many pairs, after which the move stands so
+-- the calls of this many pairs, after which the move is at this stage
 pub record IsUnderway (moving : Moving) (start : ℕ) (stage : Stage) (count : ℕ) (entries : List Entry) : Type 0 where
   pub pairs : List CallPair
   pub number : length pairs ≡ count
   pub stands : stage_so_far moving start pairs ≡ stage
   pub whole : entries ≡ calls_so_far moving start pairs
 
--- the end that a deed is, if it is one
+-- the end, if the action is one
 abbrev pub end_of : MoveDeed → Option MoveEnd
 end_of (deeds.End end) = Some end
 end_of deed = None
@@ -188,13 +189,13 @@ pub record IsGoneOn (moving : Moving) (old new : Stage) (entries : List Entry) :
   pub stands : new ≡ (step_at moving old p).stage
   pub whole : entries ≡ calls_of p ++ sends moving p.reading (sent_for moving (step_at moving old p).deed)
 
--- of the last pair
+-- the calls of the last pair
 pub record IsLast (moving : Moving) (old : Stage) (end : MoveEnd) (entries : List Entry) : Type 0 where
   pub p : CallPair
   pub is : (step_at moving old p).deed ≡ deeds.End end
   pub whole : entries ≡ calls_of p
 
--- of a pair after which the send failed
+-- the calls of a pair after which the send failed
 pub record IsStuck (moving : Moving) (old : Stage) (failed : Failed) (entries : List Entry) : Type 0 where
   pub p : CallPair
   pub s : Sending
@@ -206,7 +207,7 @@ IsPair moving old new (Ok None) entries = IsGoneOn moving old new entries
 IsPair moving old new (Ok (Some end)) entries = IsLast moving old end entries
 IsPair moving old new (Err failed) entries = IsStuck moving old failed entries
 
--- where the move goes on, it has fewer pairs left
+-- if the move goes on, it has fewer pairs left
 abbrev pub Goes : Stage → Result (Option MoveEnd) Failed → Stage → Type 0
 Goes old (Ok None) new = 1 ≤ pairs_left old → (1 ≤ pairs_left new) × (pairs_left new + 1 ≤ pairs_left old)
 Goes old result new = Unit {0}

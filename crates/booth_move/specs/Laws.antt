@@ -1,4 +1,4 @@
--- What holds of the deeds of every move.
+-- What holds for the actions of every move.
 use Rattle.std.specs.Prelude.{◌≡◌, ◌≢◌, ◌≤◌, ◌+◌, ◌*◌, ◌++◌, ◌⊎◌, ℕ, true, false, List, [], ◌∷◌, length, map, position, Some, None, IfSome}
 use Rattle.std.specs.Prelude.{Bool, T}
 use Rattle.booth_base.specs.declared.address.MemberId.{MemberId}
@@ -22,7 +22,7 @@ use Rattle.booth_move.specs.Rows.{Brings, Follows}
 
 -- ---- how often
 
--- the places that the revoke is sent on to, in order
+-- the places to which the revoke is sent on, in order
 abbrev pub redirections : List MoveDeed → List ℕ
 redirections [] = []
 redirections (deeds.Revoke (Some place) number ∷ ds) = place ∷ redirections ds
@@ -52,7 +52,7 @@ abbrev pub IsRising : List ℕ → Type 0
 IsRising [] = Unit {0}
 IsRising (first ∷ rest) = IsRisingFrom first rest
 
--- The number of each repeat of the grant is the next after that of the grant before it.
+-- The number of each repeated grant is the next after that of the grant before it.
 abbrev pub NumbersRise : Type 0
 NumbersRise = (setup : MoveSetup) (start : ℕ) (pairs : List Pair) → IsRising (grants_of (move_deeds setup start pairs))
 
@@ -83,33 +83,33 @@ has_end (d ∷ ds) = has_end ds
 abbrev pub HasEnd : List MoveDeed → Type 0
 HasEnd ds = T (has_end ds)
 
--- The most pairs before the end. The first is that of the start. There are at most two revokes and eleven grants, and
--- ten pauses; a request has two waits, since its outcome may be waited for after it was begun.
+-- The most pairs before the end. The first is that of the start. There are at most two revokes, eleven grants and ten
+-- pauses; a request has two waits, since the move may wait for its outcome after it was begun.
 abbrev pub most_pairs : ℕ
 most_pairs = 1 + (2 * 2 + 11 * 2 + 10) * MOST_PAIRS
 
--- So many pairs bring every move to its end.
+-- After this many pairs every move has ended.
 abbrev pub EveryMoveEnds : Type 0
 EveryMoveEnds = (setup : MoveSetup) (start : ℕ) (pairs : List Pair) →
     most_pairs ≤ length pairs → HasEnd (move_deeds setup start pairs)
 
--- ---- the reply that lets the grant go
+-- ---- the reply after which the grant is allowed
 
--- each reply that is given is one to the last request
+-- each reply that the move receives answers its last request
 abbrev pub AreAnswers : MoveSetup → Stage → List Pair → Type 0
 AreAnswers setup stage [] = Unit {0}
 AreAnswers setup stage (p ∷ ps) =
     IfSome p.reply (λ m. is_answer setup stage m ≡ true) × AreAnswers setup (move_step setup stage p).stage ps
 
--- it was done, by a reply to the revoke of this number
+-- a reply to the revoke with this number, with result 0
 pub record IsRevoked (setup : MoveSetup) (number : ℕ) (p : Pair) : Type 0 where
   pub m : PlainMessage
   pub is : p.reply ≡ Some m
   pub to : is_reply_to setup.ids CRvk number m ≡ true
   pub done : m.head.result ≡ SUCCESS
 
--- The first grant stands at the pair that brings that the last revoke before it was done. Each further one stands
--- after it.
+-- The first grant follows the pair with the reply that the last revoke before it was done. Each further grant follows
+-- later.
 abbrev pub GrantsAfterReply : MoveSetup → ℕ → List Pair → List MoveDeed → Type 0
 GrantsAfterReply setup revoke [] ds = Unit {0}
 GrantsAfterReply setup revoke (p ∷ ps) [] = Unit {0}
@@ -117,14 +117,15 @@ GrantsAfterReply setup revoke (p ∷ ps) (deeds.Revoke to number ∷ ds) = Grant
 GrantsAfterReply setup revoke (p ∷ ps) (deeds.Grant number ∷ ds) = IsRevoked setup revoke p
 GrantsAfterReply setup revoke (p ∷ ps) (d ∷ ds) = GrantsAfterReply setup revoke ps ds
 
--- No grant is sent before the reply that the ticket was given back, and where that does not come none is sent.
+-- No grant is sent before the reply that the ticket was released, and none at all without that reply.
 abbrev pub GrantsAreLet : Type 0
 GrantsAreLet = (setup : MoveSetup) (start : ℕ) (pairs : List Pair) → AreAnswers setup (Opening start) pairs →
     GrantsAfterReply setup (number_of start) pairs (move_deeds setup start pairs)
 
 -- ---- how it ends
 
--- The revoke's last reply, which was not 0, nor one to wait on, nor a first one that names another member as the owner.
+-- The revoke's last reply, which is not 0, does not tell the move to wait, and is not a first one that names another
+-- member as the owner.
 pub record RefusedBy (setup : MoveSetup) (grants sent_on : ℕ) (p : Pair) (result : ℕ) : Type 0 where
   pub m : PlainMessage
   pub is : p.reply ≡ Some m
@@ -134,7 +135,8 @@ pub record RefusedBy (setup : MoveSetup) (grants sent_on : ℕ) (p : Pair) (resu
   pub not_followed : result ≡ REDR → (1 ≤ sent_on) ⊎ (place_of (leader_in m.content) setup.ids ≡ None)
   pub no_grant : grants ≡ 0
 
--- The grant's last reply, which was neither 0 nor that it was begun, nor a busy target that is to be asked again.
+-- The grant's last reply, which is neither 0 nor that it was begun, nor that a target is busy which may be asked
+-- again.
 pub record StrandedBy (grants : ℕ) (p : Pair) (result : ℕ) : Type 0 where
   pub brings : Brings result p
   pub not_done : result ≢ SUCCESS
@@ -142,7 +144,8 @@ pub record StrandedBy (grants : ℕ) (p : Pair) (result : ℕ) : Type 0 where
   pub granted : 1 ≤ grants
   pub often : result ≡ BUSY → grants ≡ 11
 
--- The reply that ends the move, after so many grants and so often sent on. When a wait is over is said in the table.
+-- The reply that ends the move, after this many grants and after the revoke was sent on this often. The table says
+-- when a wait is over.
 abbrev pub IsEndedBy : MoveSetup → ℕ → ℕ → Pair → MoveEnd → Type 0
 IsEndedBy setup grants sent_on p Moved = Brings SUCCESS p × (1 ≤ grants)
 IsEndedBy setup grants sent_on p Asked = Brings ASYN p × (setup.wait ≡ false) × (1 ≤ grants)
@@ -150,7 +153,7 @@ IsEndedBy setup grants sent_on p (Refused result) = RefusedBy setup grants sent_
 IsEndedBy setup grants sent_on p (Stranded result) = StrandedBy grants p result
 IsEndedBy setup grants sent_on p NoReply = Unit {0}
 
--- what each end of these deeds was ended by
+-- the reply that ended the move, for each end among these actions
 abbrev pub EndsByReply : MoveSetup → ℕ → ℕ → List Pair → List MoveDeed → Type 0
 EndsByReply setup grants sent_on [] ds = Unit {0}
 EndsByReply setup grants sent_on (p ∷ ps) [] = Unit {0}
@@ -160,21 +163,21 @@ EndsByReply setup grants sent_on (p ∷ ps) (deeds.Revoke (Some place) number �
     EndsByReply setup grants (sent_on + 1) ps ds
 EndsByReply setup grants sent_on (p ∷ ps) (d ∷ ds) = EndsByReply setup grants sent_on ps ds
 
--- Each end comes where its reply came.
+-- Each end comes with its reply.
 abbrev pub EndsAreTold : Type 0
 EndsAreTold = (setup : MoveSetup) (start : ℕ) (pairs : List Pair) →
     EndsByReply setup 0 0 pairs (move_deeds setup start pairs)
 
 -- ---- each step
 
--- Each step is a row of the table, and leads to a stage of which that can be said again.
+-- Each step is a row of the table, and leads to a stage for which this holds again.
 pub record StepsAreRows : Type 0 where
   pub row : (setup : MoveSetup) (stage : Stage) (p : Pair) → IsSoundStage stage →
       Follows setup stage p (move_step setup stage p).deed (move_step setup stage p).stage
   pub sound : (setup : MoveSetup) (stage : Stage) (p : Pair) → IsSoundStage stage →
       IsSoundStage (move_step setup stage p).stage
 
--- Steps one after the other make the deeds of a move, one for each pair, and the first sends the revoke.
+-- Steps one after the other give the actions of a move, one for each pair, and the first sends the revoke.
 pub record StepsMakeDeeds : Type 0 where
   pub first : (setup : MoveSetup) (start : ℕ) (p : Pair) →
       move_deeds setup start (p ∷ []) ≡ deeds.Revoke None (number_of start) ∷ []

@@ -1,4 +1,4 @@
--- Which deed and which stage follow a pair: a table of all that occurs, in the words of what a pair brings.
+-- The action and the stage after a pair: a table of all cases, by what the pair has.
 use Rattle.std.specs.Prelude.{◌≡◌, ◌≢◌, ◌<◌, ◌≤◌, ◌+◌, ◌⊎◌, ℕ, Bool, true, false, Some, None}
 use Rattle.booth_wire.specs.declared.codes.results.TheConstants.{SUCCESS, ASYN, BUSY, REDR}
 use Rattle.booth_wire.specs.PlainMessage.{PlainMessage}
@@ -18,7 +18,7 @@ use Rattle.booth_move.specs.Waiting.{sent}
 use Rattle.booth_move.specs.declared.steps.TheConstants.{REPEATS}
 use Rattle.booth_move.specs.declared.waiting.TheConstants.{PAUSE}
 
--- ---- what a pair brings
+-- ---- the content of a pair
 
 -- a reply with this result
 pub record Brings (result : ℕ) (p : Pair) : Type 0 where
@@ -26,36 +26,36 @@ pub record Brings (result : ℕ) (p : Pair) : Type 0 where
   pub is : p.reply ≡ Some m
   pub with : m.head.result ≡ result
 
--- a reply that names the member at this place as the owner
+-- a reply with the member at this place as the owner
 pub record Names (setup : MoveSetup) (place : ℕ) (p : Pair) : Type 0 where
   pub m : PlainMessage
   pub is : p.reply ≡ Some m
   pub with : m.head.result ≡ REDR
   pub there : place_of (leader_in m.content) setup.ids ≡ Some place
 
--- nothing, at a reading that is not too late
+-- no reply, at a reading that is not too late
 pub record IsSilent (last : Request) (p : Pair) : Type 0 where
   pub none : p.reply ≡ None
   pub early : last.begun ≡ false → p.reading ≤ last.start + PATIENCE
 
--- nothing, at a reading that is too late for a first answer
+-- no reply, at a reading that is too late for a first answer
 pub record IsLate (last : Request) (p : Pair) : Type 0 where
   pub none : p.reply ≡ None
   pub first : last.begun ≡ false
   pub late : last.start + PATIENCE < p.reading
 
--- that the request was begun, to who waits for the outcome
+-- the reply that the request was begun, for a move that waits for the outcome
 pub record IsBegun (wait : Bool) (p : Pair) : Type 0 where
   pub brings : Brings ASYN p
   pub waits : wait ≡ true
 
 -- ---- waits
 
--- no answer came: nothing, or once more that the request was begun
+-- no answer came: no reply, or once more the reply that the request was begun
 abbrev pub HasNoAnswer : Bool → Request → Pair → Type 0
 HasNoAnswer wait last p = IsSilent last p ⊎ ((last.begun ≡ true) × IsBegun wait p)
 
--- The wait goes on: by one more pair, or, at the first answer that the request was begun, by further pairs.
+-- The wait goes on: by one more pair, or, after the first reply that the request was begun, by further pairs.
 abbrev pub GoesOn : Bool → Request → Pair → Request → Type 0
 GoesOn wait last p next =
     (HasNoAnswer wait last p × (last.pairs + 1 < MOST_PAIRS) × (next ≡ record last { pairs = last.pairs + 1 }))
@@ -82,8 +82,8 @@ pub record IsRepeat (p : Pair) (last : Request) (repeats number : ℕ) (next : R
 
 -- ---- ends
 
--- The revoke's last reply has this result, which leads to nothing else: one that names an owner is not followed where
--- the revoke was sent on before, or where the owner is no member.
+-- The revoke's last reply has this result, and nothing else follows it: a named owner is not followed if the revoke
+-- was sent on before, or if the owner is no member.
 pub record IsRefused (setup : MoveSetup) (sent_on : Bool) (p : Pair) (result : ℕ) : Type 0 where
   pub m : PlainMessage
   pub is : p.reply ≡ Some m
@@ -92,7 +92,7 @@ pub record IsRefused (setup : MoveSetup) (sent_on : Bool) (p : Pair) (result : �
   pub not_begun : result ≡ ASYN → setup.wait ≡ false
   pub not_followed : result ≡ REDR → (sent_on ≡ true) ⊎ (place_of (leader_in m.content) setup.ids ≡ None)
 
--- the grant's last reply has this result, which leads to nothing else
+-- the grant's last reply has this result, and nothing else follows it
 pub record IsStranded (repeats : ℕ) (p : Pair) (result : ℕ) : Type 0 where
   pub brings : Brings result p
   pub not_done : result ≢ SUCCESS
@@ -117,7 +117,7 @@ EndsPause last p end = ⊥
 
 -- ---- the table
 
--- Which deed and which stage follow a pair at a stage. No others occur.
+-- The action and the stage after a pair at a stage. There are no others.
 abbrev pub Follows : MoveSetup → Stage → Pair → MoveDeed → Stage → Type 0
 Follows setup (Opening start) p (deeds.Revoke None number) (Revoking next on) =
     (number ≡ number_of start) × (next ≡ sent number start) × (on ≡ false)

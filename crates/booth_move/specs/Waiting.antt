@@ -12,7 +12,7 @@ use Rattle.booth_move.specs.declared.waiting.Waits.TheVariants.{On, Over, Came}
 
 -- ---- requests
 
--- a request of this number that was just sent
+-- a request with this number that was just sent
 abbrev pub sent : ℕ → ℕ → Request
 sent number reading = record { number = number; start = reading; pairs = 0; begun = false }
 
@@ -22,7 +22,7 @@ request_at reading = sent (number_of reading) reading
 
 -- ---- waits
 
--- one more pair without an answer, or none where it was the last
+-- one more pair without an answer, or none if it was the last
 abbrev pub one_more : Request → Option Request
 one_more last = if last.pairs + 1 == MOST_PAIRS then None else Some (record last { pairs = last.pairs + 1 })
 
@@ -30,8 +30,8 @@ abbrev pub waits_on : Option Request → Waits
 waits_on None = Over
 waits_on (Some last) = On last
 
--- It is told that the request was begun. From the first such answer on there are further pairs, without a bound of
--- time; another one is a pair without an answer.
+-- The reply says that the request was begun. After the first such reply there are further pairs, without a limit of
+-- time; a later one counts as a pair without an answer.
 abbrev pub passed_over : Request → Waits
 passed_over last = if last.begun then waits_on (one_more last) else On (record last { pairs = 0; begun = true })
 
@@ -39,8 +39,8 @@ passed_over last = if last.begun then waits_on (one_more last) else On (record l
 abbrev pub is_late : Request → ℕ → Bool
 is_late last reading = not last.begun && nat_lt (last.start + PATIENCE) reading
 
--- What a pair is to the wait for an answer. A reply counts also where the pair's reading is late. Who waits for the
--- outcome passes over that it was begun.
+-- The meaning of a pair for the wait. A reply counts even if the pair's reading is late. A move that waits for the
+-- outcome ignores the reply that the request was begun.
 abbrev pub judged : Bool → Request → ℕ → Option PlainMessage → Waits
 judged wait last reading None = if is_late last reading then Over else waits_on (one_more last)
 judged wait last reading (Some m) =
@@ -48,6 +48,6 @@ judged wait last reading (Some m) =
 
 -- ---- pauses
 
--- the reading is one at which the grant is repeated
+-- the reading is late enough to repeat the grant
 abbrev pub is_rested : Request → ℕ → Bool
 is_rested last reading = nat_le (last.start + PAUSE) reading

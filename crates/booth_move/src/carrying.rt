@@ -1,4 +1,4 @@
-//! A move over a host: its requests, and the pairs that it is told.
+//! A move over a host: its requests, and the pairs that it receives.
 ghost use Rattle.std.specs.Prelude.{◌≡◌, ◌≤◌, ◌<◌, [], true, length, map, option_map, slice_get, IfErr, IfOk, IfSome, IsSomeAnd, IsTrue, Some};
 ghost use Rattle.booth_wire.specs.Command.{kind_of};
 ghost use Rattle.booth_wire.specs.declared.command.Kind.{Kind};
@@ -20,21 +20,21 @@ use booth_talk::MOST_PAIRS;
 use booth_wire::{Body, Cmd, Frame, Head, Message, TicketPart, decode, options};
 use std::alloc::{AllocError, Global};
 
-/// The most pairs of a move, after its start: those of two revokes, eleven grants and ten pauses. A request has two
+/// The most pairs of a move after its start: those of two revokes, eleven grants and ten pauses. A request has two
 /// waits.
 const MOVE_PAIRS: u64 = 36 * MOST_PAIRS;
 
-/// A move, and the cluster that it is made in.
+/// A move, and the cluster in which it is made.
 #[derive(Drop)]
 pub struct Moving {
     pub config: Config,
     pub ring: Option<Ring>,
     pub ticket: Name,
-    /// The place of the site that is to have the ticket.
+    /// The place of the site that the ticket is moved to.
     pub target: usize,
-    /// Whether outcomes are waited for.
+    /// Whether the move waits for outcomes.
     pub wait: bool,
-    /// Who is asked for the ticket first.
+    /// The member that is asked for the ticket first.
     pub to: Peer,
 }
 
@@ -46,7 +46,7 @@ pub struct MoveRoom {
 }
 
 impl MoveRoom {
-    /// All memory that a move takes.
+    /// Allocates all memory of a move.
     pub fn new(alloc: Global) -> Result<MoveRoom, AllocError>
         ensures { IfOk result (λ room. room.datagram ≡ []) }
     {
@@ -56,16 +56,16 @@ impl MoveRoom {
     }
 }
 
-// ---- what is sent
+// ---- requests
 
-/// What is asked of a member.
+/// The kind of a request to a member.
 #[derive(Clone, Copy)]
 pub(crate) enum Asks {
     Revoke,
     Grant,
 }
 
-/// What is sent for a deed.
+/// The message for an action.
 #[derive(Clone, Copy)]
 pub(crate) struct Sending {
     to: Peer,
@@ -146,9 +146,9 @@ fn sent_for(moving: &Moving, deed: MoveDeed) -> Option<Sending>
     }
 }
 
-// ---- what is heard
+// ---- replies
 
-// The answer that these bytes are, if they are one.
+// Returns the answer in these bytes, if they are one.
 #[tactic(auto, unfolding(crate::specs::Carrying::answer_in))]
 fn answer_in<'a>(moving: &Moving, mover: &Mover, bytes: &'a [u8]) -> Option<Message<'a>>
     requires { mover.now.setup ≡ setup_of moving.now }
@@ -168,7 +168,7 @@ fn answer_in<'a>(moving: &Moving, mover: &Mover, bytes: &'a [u8]) -> Option<Mess
     }
 }
 
-// The answer that an arrival brought, if it is one.
+// Returns the answer in an arrival, if it has one.
 fn answer_at<'a>(
     moving: &Moving,
     mover: &Mover,
@@ -190,7 +190,7 @@ fn answer_at<'a>(
     }
 }
 
-// What is to be done after an arrival and a reading.
+// Returns the action after an arrival and a reading.
 fn told(
     moving: &Moving,
     mover: &mut Mover,
@@ -212,7 +212,7 @@ fn told(
 
 // ---- the calls
 
-// Sends what is to be sent for a deed, at this reading.
+// Sends the message for an action, at this reading.
 fn send_for<H: Host>(
     moving: &Moving,
     deed: MoveDeed,
@@ -243,7 +243,7 @@ fn end_of(deed: MoveDeed) -> Option<MoveEnd>
     }
 }
 
-// One pair, and what is sent after it. It tells the end, where the move came to it.
+// Makes one pair of calls, and sends what follows. Returns the end, if the move has reached it.
 fn one_pair<H: Host>(
     moving: &Moving,
     mover: &mut Mover,
@@ -269,9 +269,11 @@ fn one_pair<H: Host>(
     }
 }
 
-/// Carries a move out, from its start at this reading to its end.
+/// Carries out a move, from its start at this reading to its end.
 ///
-/// It fails only where a request could not be sent.
+/// # Errors
+///
+/// `Failed` only if a request could not be sent.
 pub fn carry_out<H: Host>(
     moving: &Moving,
     start: u64,

@@ -1,27 +1,27 @@
-//! What a move does next, and how it ends.
+//! The next action of a move, and how it ends.
 
 /// How a move ended.
 #[derive(Clone, Copy, PartialEq, Eq)]
 pub enum MoveEnd {
     /// The ticket was granted to the target.
     Moved,
-    /// The grant was begun at the target, and its outcome is not waited for.
+    /// The target has begun the grant, and the move does not wait for the outcome.
     Asked,
-    /// The revoke was answered by this result, and no grant was asked.
+    /// The reply to the revoke has this result, and no grant was sent.
     Refused(u32),
-    /// The ticket was given back, and its grant was answered by this result.
+    /// The ticket was released, and the reply to the grant has this result.
     Stranded(u32),
-    /// An answer did not come, or the reading at which the grant is asked again.
+    /// No answer came in time, or the reading at which the grant is repeated did not come.
     NoReply,
 }
 
-/// What is to be done after a pair.
+/// The action after a pair.
 #[derive(Clone, Copy, PartialEq, Eq)]
 pub enum MoveDeed {
     Nothing,
-    /// The revoke is sent: to the member at this place, or where `booth revoke` sends it.
+    /// Send the revoke: to the member at this place, or to the same member as `booth revoke`.
     Revoke { to: Option<u32>, request: u32 },
-    /// The grant is sent to the target.
+    /// Send the grant to the target.
     Grant { request: u32 },
     End(MoveEnd),
 }

@@ -1,8 +1,8 @@
-//! What holds of the deeds of every move, whatever pairs it is told.
+//! What holds for the actions of every move, whatever pairs it receives.
 ghost use Rattle.booth_move.specs.Carried.{CarriesDeeds, RequestsAreSent};
 ghost use Rattle.booth_move.specs.Laws.{AsksSeldom, EndsAreTold, EveryMoveEnds, GrantsAreLet, NothingAfterTheEnd, NumbersRise, PlacesAreMembers, StepsAreRows, StepsMakeDeeds};
 
-/// Steps one after the other make the deeds of a move, one for each pair, and the first sends the revoke.
+/// Steps one after the other give the actions of a move, one for each pair, and the first sends the revoke.
 pub fn steps_make_deeds()
     ensures { StepsMakeDeeds }
 {}
@@ -17,32 +17,33 @@ pub fn asks_seldom()
     ensures { AsksSeldom }
 {}
 
-/// The number of each repeat of the grant is the next after that of the grant before it.
+/// The number of each repeated grant is the next after that of the grant before it.
 pub fn numbers_rise()
     ensures { NumbersRise }
 {}
 
-/// Nothing is done after the end.
+/// No action follows the end.
 pub fn nothing_after_the_end()
     ensures { NothingAfterTheEnd }
 {}
 
-/// Every move ends, after at most so many pairs.
+/// Every move ends, after at most this many pairs.
 pub fn every_move_ends()
     ensures { EveryMoveEnds }
 {}
 
-/// A grant is sent only after the reply that this move's revoke was done, and where that does not come none is sent.
+/// A grant is sent only after the reply that this move's revoke was done, and never without that reply.
 pub fn grants_are_let()
     ensures { GrantsAreLet }
 {}
 
-/// Each end comes where its reply came.
+/// Each end comes with its reply.
 pub fn ends_are_told()
     ensures { EndsAreTold }
 {}
 
-/// The calls of a move are its pairs with the sends of its deeds between them, and what it is told are answers.
+/// The calls of a move are its pairs with the sends of its actions between them, and the replies that it receives are
+/// answers.
 pub fn carries_deeds()
     ensures { CarriesDeeds }
 {}

@@ -1,4 +1,4 @@
-//! A move as its caller sees it: started once, and then told each pair.
+//! A move as its caller sees it: started once, and then given each pair.
 ghost use Rattle.std.specs.Prelude.{◌≡◌, ◌≤◌, true, length, IfSome, IsSomeAnd, IsTrue, map, option_map, slice_get};
 ghost use Rattle.booth_base.specs.declared.limits.TheConstants.{MEMBERS};
 ghost use Rattle.booth_wire.specs.PlainMessage.{plain_of};
@@ -14,7 +14,7 @@ use booth_conf::{Config, Member};
 use booth_wire::{Cmd, Message};
 use std::marker::Model;
 
-/// A move of a ticket to the target. No call takes memory.
+/// A move of a ticket to the target. No call allocates memory.
 #[derive(Drop)]
 pub struct Mover {
     ids: ArrayVec<u32, MEMBERS>,
@@ -39,7 +39,7 @@ impl Model for Mover {
         × IsSoundStage m.stage };
 }
 
-// Whether a command answers the one that was asked.
+// Returns whether a command answers the command of a request.
 fn answers(asked: Cmd, cmd: Cmd) -> bool
     ensures { result ≡ answers asked cmd }
 {
@@ -74,8 +74,8 @@ impl Mover {
     ghost use Rattle.booth_move.specs.Move.{IsSoundSetup, id_number, is_answer};
     ghost use Rattle.booth_move.specs.declared.stage.Stage.TheVariants.{Opening};
 
-    /// A move of the ticket to the site at the place `target`, which starts at this reading. With `wait`, outcomes of
-    /// what was begun are waited for.
+    /// Starts a move of the ticket to the site at the place `target`, at this reading. With `wait`, the move waits
+    /// for the outcome of a request that was begun.
     pub fn start(config: &Config, ticket: Name, target: usize, wait: bool, now: u64) -> Mover
         requires { IsSomeAnd (slice_get config.now.members target) (λ m. IsTrue m.site) }
         ensures setup { result.setup
@@ -91,14 +91,14 @@ impl Mover {
         }
     }
 
-    /// The ticket that is moved.
+    /// Returns the ticket that is moved.
     pub fn ticket(&self) -> &Name
         ensures { result.now ≡ self.now.setup.ticket }
     {
         &self.ticket
     }
 
-    /// The place of the site that it is moved to.
+    /// Returns the place of the site that the ticket is moved to.
     pub fn target(&self) -> usize
         ensures value { result ≡ self.now.setup.target }
         ensures sound { IsSoundSetup self.now.setup }
@@ -106,8 +106,8 @@ impl Mover {
         self.target
     }
 
-    /// Whether a reply is one to the last request: it answers its command, has its number, and a member sent it.
-    /// Before the first request none is, and after the end it does not matter.
+    /// Returns whether a reply answers the last request: it answers its command, has its number, and comes from a
+    /// member. Before the first request none does, and after the end it does not matter.
     pub fn is_answer(&self, reply: &Message<'_>) -> bool
         ensures { result ≡ is_answer self.now.setup self.now.stage (plain_of reply.now) }
     {
@@ -121,7 +121,7 @@ impl Mover {
         }
     }
 
-    // What follows this pair.
+    // Returns what follows this pair.
     fn next(&self, now: u64, reply: Option<&Message<'_>>) -> Step
         ensures { result ≡ move_step self.now.setup self.now.stage
             (record { reading = now; reply = option_map (λ m. plain_of m.now) reply.entry }) }
@@ -141,7 +141,7 @@ impl Mover {
         }
     }
 
-    /// What is to be done after a pair: an arrival, which may have brought a reply to the last request, and then this
+    /// Returns the action after a pair: an arrival, which may have a reply to the last request, and then this
     /// reading.
     ///
     /// The first step is that of the start, and sends the revoke.

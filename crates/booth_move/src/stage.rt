@@ -1,4 +1,4 @@
-//! Where a move stands.
+//! The stage of a move.
 
 /// The last request, and the wait for its answer.
 #[derive(Clone, Copy)]
@@ -7,9 +7,9 @@ pub struct Request {
     pub number: u32,
     /// The reading at which it was sent.
     pub start: u64,
-    /// How many pairs there were in this wait.
+    /// How many pairs this wait has had.
     pub pairs: u64,
-    /// Whether it was answered that it was begun. Its outcome is then waited for.
+    /// Whether a reply said that the request was begun. The move then waits for its outcome.
     pub begun: bool,
 }
 
@@ -18,11 +18,11 @@ pub struct Request {
 pub enum Stage {
     /// Nothing was sent yet.
     Opening { start: u64 },
-    /// The revoke is to be answered. It was sent on to another member, or was not yet.
+    /// The revoke has no answer yet. `sent_on`: it was sent on to another member.
     Revoking { last: Request, sent_on: bool },
-    /// The ticket was given back, and the grant is to be answered. It was repeated so often.
+    /// The ticket was released, and the grant has no answer yet. `repeats`: how often it was repeated.
     Granting { last: Request, repeats: u32 },
-    /// The target is busy, and the grant is repeated after a while.
+    /// The target is busy, and the grant is repeated after a pause.
     Pausing { last: Request, repeats: u32 },
     Ended,
 }

@@ -16,14 +16,14 @@ use booth_wire::results;
 /// How often a grant is repeated.
 const REPEATS: u32 = 10;
 
-/// What is done, and where the move then stands.
+/// An action, and the stage after it.
 #[derive(Clone, Copy)]
 pub(crate) struct Step {
     pub deed: MoveDeed,
     pub stage: Stage,
 }
 
-/// Nothing is done.
+/// Returns no action.
 pub(crate) fn no_deed(stage: Stage) -> Step
     ensures { result ≡ no_deed stage }
 {
@@ -42,7 +42,7 @@ fn ends(end: MoveEnd) -> Step
     }
 }
 
-/// The revoke is sent for the first time.
+/// Sends the revoke for the first time.
 pub(crate) fn opens(start: u64) -> Step
     ensures { result ≡ opens start }
 {
@@ -58,7 +58,7 @@ pub(crate) fn opens(start: u64) -> Step
 
 // ---- the revoke
 
-// The revoke is sent to the member that was named as the owner.
+// Sends the revoke to the member that the reply named as the owner.
 fn sends_on(place: u32, reading: u64) -> Step
     ensures { result ≡ sends_on place reading }
 {
@@ -75,7 +75,7 @@ fn sends_on(place: u32, reading: u64) -> Step
     }
 }
 
-/// The place of the member with this id.
+/// Returns the place of the member with this id.
 pub(crate) fn place_of(ids: &[u32], id: MemberId) -> Option<usize>
     ensures place { result ≡ place_of id ids.now }
     ensures within { IfSome result (λ place. place < length ids.now) }
@@ -83,7 +83,7 @@ pub(crate) fn place_of(ids: &[u32], id: MemberId) -> Option<usize>
     ids.iter().position(|other| *other == id.0)
 }
 
-// The place that a revoke is sent on to.
+// Returns the place to which a revoke is sent on.
 fn followed(ids: &[u32], sent_on: bool, reply: &Reply) -> Option<u32>
     requires { length ids.now ≤ MEMBERS }
     ensures { result ≡ followed ids.now sent_on reply.now }
@@ -97,7 +97,7 @@ fn followed(ids: &[u32], sent_on: bool, reply: &Reply) -> Option<u32>
     }
 }
 
-// The grant of this number is sent.
+// Sends the grant with this number.
 fn grants(request: u32, reading: u64, repeats: u32) -> Step
     ensures { result ≡ grants request reading repeats }
 {
@@ -123,7 +123,7 @@ fn revoke_answered(ids: &[u32], sent_on: bool, reading: u64, reply: Reply) -> St
     }
 }
 
-/// What a pair is followed by while the revoke is to be answered.
+/// Returns what follows a pair while the revoke has no answer.
 pub(crate) fn while_revoking(ids: &[u32], sent_on: bool, reading: u64, waits: Waits) -> Step
     requires { length ids.now ≤ MEMBERS }
     ensures { result ≡ while_revoking ids.now sent_on reading waits }
@@ -153,7 +153,7 @@ fn repeats_grant(last: Request, repeats: u32, reading: u64) -> Step
     grants(next_number(last.number), reading, repeats + 1)
 }
 
-// The target is busy.
+// Leaves a busy target alone for a while.
 fn rests(last: Request, repeats: u32, reading: u64) -> Step
     requires { repeats < REPEATS }
     ensures { result ≡ rests last repeats reading }
@@ -183,7 +183,7 @@ fn grant_answered(last: Request, repeats: u32, reading: u64, reply: Reply) -> St
     ends(MoveEnd::Stranded(reply.result))
 }
 
-/// What a pair is followed by while the grant is to be answered.
+/// Returns what follows a pair while the grant has no answer.
 pub(crate) fn while_granting(last: Request, repeats: u32, reading: u64, waits: Waits) -> Step
     ensures { result ≡ while_granting last repeats reading waits }
 {
@@ -197,7 +197,7 @@ pub(crate) fn while_granting(last: Request, repeats: u32, reading: u64, waits: W
     }
 }
 
-/// What a pair is followed by while the target is left alone.
+/// Returns what follows a pair while the target is left alone.
 pub(crate) fn while_pausing(last: Request, repeats: u32, reading: u64) -> Step
     requires pairs { last.pairs < MOST_PAIRS }
     requires repeats { repeats < REPEATS }

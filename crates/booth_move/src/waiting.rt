@@ -10,27 +10,27 @@ use booth_base::{MemberId, NO_ONE};
 use booth_talk::{MOST_PAIRS, PATIENCE, Reply};
 use booth_wire::{Body, Message, results};
 
-/// How long a target that is busy is left alone, in ms.
+/// How long a busy target is left alone, in ms.
 const PAUSE: u64 = 1_000;
 
-/// What a pair is to a wait.
+/// The meaning of a pair for a wait.
 pub(crate) enum Waits {
-    /// The wait goes on, and the request stands so.
+    /// The wait goes on with this request.
     On(Request),
-    /// The wait is over without an answer.
+    /// The wait ended without an answer.
     Over,
     /// This is the answer.
     Came(Reply),
 }
 
-/// The number of the request that is sent at this reading.
+/// Returns the number of a request that is sent at this reading.
 pub(crate) fn number_of(reading: u64) -> u32
     ensures { result ≡ (request_at reading).number }
 {
     (reading % (1 << 32)) as u32
 }
 
-/// The request of this number, just sent at this reading.
+/// Returns the request with this number, just sent at this reading.
 pub(crate) fn request_of(number: u32, reading: u64) -> Request
     ensures { result ≡ record (request_at reading) { number = number } }
 {
@@ -42,7 +42,7 @@ pub(crate) fn request_of(number: u32, reading: u64) -> Request
     }
 }
 
-/// One more pair of a wait, or none where it was the last.
+/// Returns the wait after one more pair, or none if that was the last.
 pub(crate) fn one_more(last: Request) -> Option<Request>
     requires { last.pairs < MOST_PAIRS }
     ensures { result ≡ one_more last }
@@ -64,7 +64,7 @@ fn waits_on(next: Option<Request>) -> Waits
     }
 }
 
-// It was told that the request was begun, and its outcome is waited for.
+// Goes on after the reply that the request was begun, to wait for its outcome.
 fn passed_over(last: Request) -> Waits
     requires { last.pairs < MOST_PAIRS }
     ensures { result ≡ passed_over last }
@@ -80,7 +80,7 @@ fn passed_over(last: Request) -> Waits
     }
 }
 
-// Whether a reading is past the wait for the first answer.
+// Returns whether a reading is past the wait for the first answer.
 fn is_late(last: Request, reading: u64) -> bool
     ensures { result ≡ is_late last reading }
 {
@@ -93,7 +93,7 @@ fn is_late(last: Request, reading: u64) -> bool
     }
 }
 
-/// Whether a target that was busy was left alone for long enough.
+/// Returns whether a busy target was left alone for long enough.
 pub(crate) fn is_rested(last: Request, reading: u64) -> bool
     ensures { result ≡ is_rested last reading }
 {
@@ -121,7 +121,7 @@ fn reply_of(message: &Message<'_>) -> Reply
     }
 }
 
-/// What a pair is to the wait for the answer to the last request.
+/// Returns the meaning of a pair for the wait for the answer to the last request.
 pub(crate) fn judged(wait: bool, last: Request, reading: u64, reply: Option<&Message<'_>>) -> Waits
     requires { last.pairs < MOST_PAIRS }
     ensures { result ≡ judged wait last reading (option_map (λ m. plain_of m.now) reply.entry) }

@@ -1,14 +1,14 @@
-//! What a script's line is answered.
+//! The answer to a script's line.
 use itoa::Buffer;
 use std::alloc::Global;
 use std::fmt::{Debug, Display, Write};
 
-/// The lines of an answer. After an allocation failure it may lack parts, and says so.
+/// The lines of an answer. After an allocation failure parts may be missing, and the answer ends with that error.
 #[derive(Drop)]
 pub struct Answer {
     alloc: Global,
     text: String,
-    /// Whether a word stands in the last line.
+    /// Whether the last line has a word.
     started: bool,
     /// Whether an allocation failed.
     torn: bool,
@@ -31,7 +31,7 @@ impl Answer {
         }
     }
 
-    // Appends the blank before a word.
+    // Appends the space before a word.
     fn begin_word(&mut self) {
         if self.started {
             self.put(" ");
@@ -39,7 +39,7 @@ impl Answer {
         self.started = true;
     }
 
-    /// Appends a word: letters, or a text that is the last one of its line.
+    /// Appends a word: letters, or a text that is the last word of its line.
     pub fn word(&mut self, word: &str) {
         self.begin_word();
         self.put(word);
@@ -106,7 +106,7 @@ impl Answer {
         self.torn = true;
     }
 
-    /// Whether an allocation failed.
+    /// Returns whether an allocation failed.
     pub fn is_torn(&self) -> bool {
         self.torn
     }

@@ -1,10 +1,10 @@
-//! Drives parts of the product from scripts: words in, words out.
+//! Runs parts of the product from scripts: words in, words out.
 //!
-//! A script is lines of words with one blank between each two, and each line has an answer: its lines, and then `.`, or
-//! `!` and why the line was not played. Numbers are decimal, bytes are hexadecimal, and `-` stands for nothing.
+//! A script consists of lines of words, separated by single spaces. Each line has an answer: its lines, and then `.`,
+//! or `!` and why the line was not played. Numbers are decimal, bytes are hexadecimal, and `-` stands for nothing.
 //!
-//! The words of a line are read one after another. A word that cannot be read counts as 0, as no bytes or as false, and
-//! the line is not played; so a player needs no case for it.
+//! The words of a line are read one after another. A word that cannot be read counts as 0, as no bytes or as false,
+//! and the line is not played; so a player needs no case for it.
 #![tactic(auto)]
 
 mod answer;

@@ -1,15 +1,15 @@
-//! What plays the lines of a script.
+//! The players of a script's lines.
 use crate::{Answer, Words};
 use std::alloc::Global;
 use std::io::{BufRead, BufReader};
 
-/// A part of the product that is driven by lines.
+/// A part of the product that lines of a script run.
 pub trait Player {
     /// Plays a line, and appends its answer.
     fn play(&mut self, words: &mut Words<'_>, answer: &mut Answer);
 }
 
-// What ends an answer.
+// Returns the end of an answer.
 fn end_of(words: &Words<'_>, answer: &Answer) -> &'static str {
     if words.is_torn() || answer.is_torn() {
         return "! out of memory";
@@ -20,7 +20,7 @@ fn end_of(words: &Words<'_>, answer: &Answer) -> &'static str {
     "! no such line"
 }
 
-// Plays a line, and prints its answer. Returns whether that was printed.
+// Plays a line, and prints its answer. Returns whether the print succeeded.
 fn play_line<P: Player>(rt: &impl Print, alloc: Global, player: &mut P, line: &str) -> bool {
     let mut words = Words::of(alloc, line);
     let mut answer = Answer::new(alloc);

@@ -4,10 +4,10 @@ ghost use Rattle.std.specs.Prelude.{◌<◌, ◌^◌};
 use hex::FromHexError;
 use std::alloc::Global;
 
-/// The bound of moments: 2^62.
+/// The limit of moments: 2^62.
 const NO_MOMENT: u64 = 4_611_686_018_427_387_904;
 
-/// The words of a line that are not read yet.
+/// The words of a line that have not been read yet.
 #[derive(Drop)]
 pub struct Words<'a> {
     alloc: Global,
@@ -34,7 +34,7 @@ impl<'a> Words<'a> {
         self.alloc
     }
 
-    /// Reads a word, which is empty behind the last one.
+    /// Reads a word, or an empty text after the last one.
     pub fn word(&mut self) -> &'a str {
         let (word, rest) = self.rest.split_once(" ").unwrap_or((self.rest, ""));
         self.rest = rest;
@@ -162,7 +162,7 @@ impl<'a> Words<'a> {
         }
     }
 
-    /// Whether the line was played: each word was read, and none is left.
+    /// Returns whether the line was played: each word was read, and none is left.
     pub fn is_played(&self) -> bool {
         !self.refused && self.rest.is_empty()
     }
@@ -172,7 +172,7 @@ impl<'a> Words<'a> {
         self.torn = true;
     }
 
-    /// Whether an allocation failed.
+    /// Returns whether an allocation failed.
     pub fn is_torn(&self) -> bool {
         self.torn
     }

@@ -1,10 +1,10 @@
 //! The player `core`: the lease rules of one member.
 //!
-//! `start` and a start make a member. A call is a word, the moment, and what the call is given: `hello`, `ask` and a
-//! reason, `hear` with the sender's place and a message, `kept` and 1 or 0, `tick`, `renew`, `release` and a reason, or
-//! the note `asked`, `started` with a job and a reason, `over`, `unasked`, `unhandled` or `unready`. `look` and a moment
-//! do nothing. Each answer has the deed, if there is one, and the view. `seconds` and two moments count the seconds until
-//! the first one from the second one, and `limits` gives the last term and the last number of a round.
+//! `start` and a start create a member. A call is a word, the moment, and the call's arguments: `hello`, `ask` and a
+//! reason, `hear` with the sender's place and a message, `kept` and 1 or 0, `tick`, `renew`, `release` and a reason,
+//! or the note `asked`, `started` with a job and a reason, `over`, `unasked`, `unhandled` or `unready`. `look` and a
+//! moment do nothing. Each answer has the actions, if there are any, and the view. `seconds` and two moments print
+//! the seconds from the second moment to the first, and `limits` prints the last term and the last number of a round.
 ghost use Rattle.std.specs.Prelude.{◌≡◌, ◌≤◌, ◌<◌, ◌^◌, None, IsTrue, IsSomeAnd};
 
 use crate::printed::say;
@@ -20,7 +20,7 @@ pub(crate) struct CorePlayer {
     core: Option<Core>,
 }
 
-// The keep that waits is answered.
+// Reports the result of the pending write.
 fn kept(core: &mut Core, now: u64, words: &mut Words<'_>, answer: &mut Answer)
     requires { now < 2 ^ 62 }
 {
@@ -31,7 +31,7 @@ fn kept(core: &mut Core, now: u64, words: &mut Words<'_>, answer: &mut Answer)
     }
 }
 
-// A member's message is heard.
+// Handles a member's message.
 fn hear(core: &mut Core, now: u64, words: &mut Words<'_>, answer: &mut Answer)
     requires early { now < 2 ^ 62 }
     requires idle { core.old.view.waiting ≡ None }
@@ -45,7 +45,7 @@ fn hear(core: &mut Core, now: u64, words: &mut Words<'_>, answer: &mut Answer)
     }
 }
 
-// A new term is asked for, if one is left.
+// Starts an election, if a term is left.
 fn ask(core: &mut Core, now: u64, words: &mut Words<'_>, answer: &mut Answer)
     requires early { now < 2 ^ 62 }
     requires idle { core.old.view.waiting ≡ None }
@@ -63,7 +63,7 @@ fn ask(core: &mut Core, now: u64, words: &mut Words<'_>, answer: &mut Answer)
     }
 }
 
-// The lease is given back.
+// Releases the lease.
 fn release(core: &mut Core, now: u64, words: &mut Words<'_>, answer: &mut Answer)
     requires early { now < 2 ^ 62 }
     requires idle { core.old.view.waiting ≡ None }
@@ -89,7 +89,7 @@ fn renew(core: &mut Core, now: u64, words: &mut Words<'_>, answer: &mut Answer)
     }
 }
 
-// Whether the deadline has come.
+// Returns whether the deadline has come.
 fn is_due(core: &Core, now: u64) -> bool
     ensures { IsTrue result → IsSomeAnd core.now.view.due (λ due. due ≤ now) }
 {
@@ -99,7 +99,7 @@ fn is_due(core: &Core, now: u64) -> bool
     }
 }
 
-// The hello of a start is due.
+// Handles the greeting that is due after a start.
 fn hello(core: &mut Core, now: u64, words: &mut Words<'_>, answer: &mut Answer)
     requires early { now < 2 ^ 62 }
     requires idle { core.old.view.waiting ≡ None }
@@ -111,7 +111,7 @@ fn hello(core: &mut Core, now: u64, words: &mut Words<'_>, answer: &mut Answer)
     }
 }
 
-// The rule of the role is due.
+// Handles the role's deadline.
 fn tick(core: &mut Core, now: u64, words: &mut Words<'_>, answer: &mut Answer)
     requires early { now < 2 ^ 62 }
     requires idle { core.old.view.waiting ≡ None }
@@ -142,7 +142,7 @@ fn note_of(call: &str, words: &mut Words<'_>) -> Note {
     }
 }
 
-// Something is noted of handlers or clients.
+// Notes an event of handlers or clients.
 fn note(core: &mut Core, now: u64, made: Note, words: &mut Words<'_>)
     requires early { now < 2 ^ 62 }
     requires idle { core.old.view.waiting ≡ None }
@@ -161,7 +161,7 @@ fn note(core: &mut Core, now: u64, made: Note, words: &mut Words<'_>)
     }
 }
 
-// A call while no keep waits.
+// Plays a call that no pending write blocks.
 fn idle_call(core: &mut Core, call: &str, now: u64, words: &mut Words<'_>, answer: &mut Answer)
     requires early { now < 2 ^ 62 }
 {

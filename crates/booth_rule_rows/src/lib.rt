@@ -1,9 +1,9 @@
 //! Players of the rules of tickets: the lease rules, the rules of manual tickets, and whole tickets.
 //!
-//! A record is nine words: its version, its term, its lease's term and end, to whom its member is bound, its promise's
-//! member, term and end, and until when its member abstains; `-` stands for each word of what it has not. A start is the
-//! moment, the member's id, its place, how many members there are, 1 for a site, its rank, and the record, or one `-`
-//! for nothing. A message is its twelve numbers, from `auth` to the seconds.
+//! A record is nine words: its version, its term, its lease's term and end, the member that it voted for, its
+//! promise's member, term and end, and until when its member abstains. `-` stands for each word of a missing part. A
+//! start is the moment, the member's id, its place, the number of members, 1 for a site, its rank, and the record, or
+//! one `-` for no record. A message is its twelve numbers, from `auth` to the seconds.
 #![tactic(auto)]
 
 mod lease;

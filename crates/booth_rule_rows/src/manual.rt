@@ -1,8 +1,8 @@
 //! The player `manual`: the rules of a manual ticket at one member.
 //!
-//! `start` and a start make a member. A call is `grant`, `again`, `revoke`, `kept` and 1 or 0, `hear` and a message,
-//! `hello`, or `look`, which does nothing. Each answer has the record that is to be kept or what is said, and what is
-//! known.
+//! `start` and a start create a member. A call is `grant`, `again`, `revoke`, `kept` and 1 or 0, `hear` and a
+//! message, `hello`, or `look`, which does nothing. Each answer has the record to write or the message to send, and
+//! the view.
 ghost use Rattle.std.specs.Prelude.{◌≡◌, None};
 
 use crate::printed::{kept, say};
@@ -17,7 +17,7 @@ pub(crate) struct ManualPlayer {
     member: Option<Manual>,
 }
 
-// The keep that waits is answered.
+// Reports the result of the pending write.
 fn answer_keep(member: &mut Manual, words: &mut Words<'_>, answer: &mut Answer) {
     let ok = words.flag();
     if member.view().waiting.is_some() {
@@ -40,7 +40,7 @@ fn grant(member: &mut Manual, answer: &mut Answer)
     }
 }
 
-// The owner gives the ticket back.
+// The owner gives up the ticket.
 fn revoke(member: &mut Manual, words: &mut Words<'_>, answer: &mut Answer)
     requires { member.old.view.waiting ≡ None }
 {
@@ -51,7 +51,7 @@ fn revoke(member: &mut Manual, words: &mut Words<'_>, answer: &mut Answer)
     }
 }
 
-// The owner keeps its record again.
+// The owner writes its record again.
 fn keep_again(member: &mut Manual, words: &mut Words<'_>, answer: &mut Answer)
     requires { member.old.view.waiting ≡ None }
 {
@@ -62,7 +62,7 @@ fn keep_again(member: &mut Manual, words: &mut Words<'_>, answer: &mut Answer)
     }
 }
 
-// A member's message is heard.
+// Handles a member's message.
 fn hear(member: &mut Manual, words: &mut Words<'_>, answer: &mut Answer)
     requires { member.old.view.waiting ≡ None }
 {
@@ -70,7 +70,7 @@ fn hear(member: &mut Manual, words: &mut Words<'_>, answer: &mut Answer)
     say(answer, &member.hear(&head, &part));
 }
 
-// A call while no keep waits.
+// Plays a call that no pending write blocks.
 fn idle_call(member: &mut Manual, call: &str, words: &mut Words<'_>, answer: &mut Answer) {
     if member.view().waiting.is_some() {
         return words.refuse();
@@ -86,7 +86,8 @@ fn idle_call(member: &mut Manual, call: &str, words: &mut Words<'_>, answer: &mu
     }
 }
 
-// Appends the record, whether the member is sure of it and owns the ticket, who is shown, and whether a keep waits.
+// Appends the record, whether the member is sure of it and owns the ticket, the owner that it reports, and whether a
+// write is pending.
 fn known(answer: &mut Answer, view: &ManualView) {
     answer.word("known");
     answer.small(view.term);

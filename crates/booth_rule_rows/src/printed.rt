@@ -23,7 +23,7 @@ fn head(answer: &mut Answer, head: &Head) {
     answer.small(head.result);
 }
 
-/// Appends a message and ends the line: its twelve numbers, and then its ticket's name.
+/// Appends a message and ends the line: its twelve numbers, and then the name of its ticket.
 pub(crate) fn message(answer: &mut Answer, of: &Head, part: &TicketPart) {
     head(answer, of);
     answer.small(part.leader.0);
@@ -33,7 +33,7 @@ pub(crate) fn message(answer: &mut Answer, of: &Head, part: &TicketPart) {
     answer.end();
 }
 
-/// Appends what is said, as a line, if something is: to the asker, to all, or to the members of a set.
+/// Appends the message to send, as a line, if there is one: to the asker, to all, or to the members of a set.
 pub(crate) fn say(answer: &mut Answer, say: &Say) {
     match say {
         Say::Nothing => {}

@@ -17,7 +17,7 @@ const TIMES: Times = Times {
     renewal: 300_000,
 };
 
-// Reads a record, or one `-` for nothing.
+// Reads a record, or one `-` for no record.
 fn record(words: &mut Words<'_>) -> Option<Record> {
     if words.is_none() {
         None
@@ -26,7 +26,7 @@ fn record(words: &mut Words<'_>) -> Option<Record> {
     }
 }
 
-// Returns the ticket of all lines.
+// Returns the ticket of every line.
 fn ticket() -> Name {
     match Name::read(b"ticket-db8") {
         Ok(name) => name,
@@ -70,7 +70,7 @@ pub(crate) fn part(words: &mut Words<'_>) -> TicketPart {
     }
 }
 
-/// What a member starts with.
+/// The arguments of a member's start.
 #[derive(Drop)]
 pub(crate) struct Start {
     pub(crate) now: u64,

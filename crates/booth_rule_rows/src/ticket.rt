@@ -1,11 +1,12 @@
-//! The player `ticket`: a whole ticket, whose hands fail as the script has it, and clients that wait for two tickets.
+//! The player `ticket`: a whole ticket whose environment fails as the script says, and clients that wait for two
+//! tickets.
 //!
-//! `open`, 1 for a manual ticket, and a start open a ticket for which nobody waits; `second` likewise opens another one
-//! in its place, whose clients wait in a second list. A call is a word, the moment, whether the prerequisites hold, the
-//! next job or `-`, whether all keeps fail, whether those behind the first one do, whether starts do, and what the call
-//! is given: `grant` or `revoke` with the client's port, number and options, `hear` with the sender's place and a
-//! message, `over` with a job and its status, or `due`. Its answer has a line for each act. `look` and a moment show
-//! the deadline and the owner.
+//! `open`, 1 for a manual ticket, and a start open a ticket for which nobody waits; `second` opens another one in its
+//! place, whose clients wait in a second list. A call is a word, the moment, whether the prerequisites hold, the next
+//! job or `-`, whether all writes fail, whether those after the first one do, whether starts do, and the call's
+//! arguments: `grant` or `revoke` with the client's port, number and options, `hear` with the sender's place and a
+//! message, `over` with a job and its status, or `due`. Its answer has a line for each action. `look` and a moment
+//! print the deadline and the owner.
 ghost use Rattle.std.specs.Prelude.{◌≡◌, ◌<◌, ◌^◌, length};
 
 use crate::printed::{kept, message};
@@ -15,7 +16,7 @@ use booth_rows::{Answer, Player, Words};
 use booth_ticket::{FakeHands, Noted, Request, Service, Ticket, To, Waiters, Wish};
 use std::alloc::Global;
 
-/// A ticket, the hands by which it acts, and the clients that wait for it and for another one.
+/// A ticket, its environment, and the clients that wait for it and for another one.
 #[derive(Drop)]
 struct Stage {
     ticket: Ticket,
@@ -60,7 +61,7 @@ fn stage_of(alloc: Global, ticket: Ticket, words: &mut Words<'_>) -> Option<Stag
 }
 
 impl Stage {
-    // The place of those that wait for the ticket.
+    // The list of the clients that wait for the ticket.
     fn list(&self) -> u32
         ensures { result < 2 }
     {
@@ -140,7 +141,7 @@ impl Stage {
         );
     }
 
-    // Sets what holds and fails in the next call. Returns its moment.
+    // Sets the conditions and failures of the next call. Returns its moment.
     fn set(&mut self, words: &mut Words<'_>) -> u64
         ensures { result < 2 ^ 62 }
     {
@@ -175,7 +176,7 @@ impl Stage {
         }
     }
 
-    // Appends the deadline, and who is shown and until which second.
+    // Appends the deadline, and the reported owner with the second until which it is shown.
     fn look(&self, now: u64, answer: &mut Answer) {
         answer.word("look");
         answer.number_or_none(self.ticket.deadline());

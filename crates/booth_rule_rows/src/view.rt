@@ -1,4 +1,4 @@
-//! A core's view and deeds as lines of an answer.
+//! A core's view and actions as lines of an answer.
 use crate::printed::{kept, say};
 use booth_host_rows::{put_member, put_promise, put_record};
 use booth_raft::{Deed, Role, Round, Shown, Told, View, Want};
@@ -35,7 +35,7 @@ fn role_of(role: Role) -> &'static str {
     }
 }
 
-/// Appends a deed: its keep and what is said, if there are such, and then what is wanted and told.
+/// Appends actions: the write and the message, if there are any, and then the wishes and the reports.
 pub(crate) fn deed(answer: &mut Answer, deed: &Deed) {
     if let Some(tried) = deed.keep {
         kept(answer, "keep", &tried);
@@ -47,7 +47,7 @@ pub(crate) fn deed(answer: &mut Answer, deed: &Deed) {
     answer.end();
 }
 
-// Appends who is shown, and until when.
+// Appends the reported owner, and until when it is shown.
 fn shown(answer: &mut Answer, shown: Option<Shown>) {
     match shown {
         Some(shown) => {
@@ -58,7 +58,7 @@ fn shown(answer: &mut Answer, shown: Option<Shown>) {
     }
 }
 
-// Appends a round's term, number and opening, whether it is won, and who answered.
+// Appends a round's term, number and start, whether it is won, and who answered.
 fn round(answer: &mut Answer, round: &Round) {
     answer.small(round.term);
     answer.small(round.number);
@@ -88,8 +88,8 @@ fn numbers(answer: &mut Answer, view: &View) {
     answer.flag(view.waiting.is_some());
 }
 
-/// Appends a view: a line with its numbers, the promise, who is shown, the kept record and the role, and one with
-/// its round, if one is open.
+/// Appends a view: a line with its numbers, the promise, the reported owner, the stored record and the role, and a
+/// line with its round, if one is open.
 pub(crate) fn view(answer: &mut Answer, view: &View) {
     answer.word("view");
     numbers(answer, view);

@@ -2,10 +2,10 @@
 use booth_clock::{BootId, ClockFault, KeptClock, OwnClock, Readings, Step};
 use booth_rows::{Answer, Player, Words};
 
-/// Plays calls of a clock. `begin BOOT KEPT SINCE WALL` starts it in the boot of this id from the kept bytes, or from
-/// `-`; `read SINCE` reads it; `step SINCE WALL` says by how much the wall clock stepped; `near SINCE WALL` says whether
-/// it agrees; `kept` gives what is kept of the clock. `SINCE` is the time since the boot and `WALL` the wall clock, both
-/// in milliseconds.
+/// Plays calls of a clock. `begin BOOT KEPT SINCE WALL` starts it in the boot with this id, from the stored bytes or
+/// from `-`; `read SINCE` reads it; `step SINCE WALL` prints by how much the wall clock stepped; `near SINCE WALL`
+/// prints whether it agrees; `kept` prints what is stored of the clock. `SINCE` is the time since the boot and `WALL`
+/// the wall clock, both in milliseconds.
 #[derive(Drop)]
 pub(crate) struct Clock {
     clock: Option<OwnClock>,
@@ -49,7 +49,7 @@ impl Clock {
         Clock { clock: None }
     }
 
-    // Begins the clock. Returns how that went.
+    // Starts the clock. Returns the result.
     fn begin_with(&mut self, boot: BootId, kept: Option<KeptClock>, now: Readings) -> &'static str {
         match OwnClock::begin(boot, kept, now) {
             Ok(clock) => {
@@ -72,7 +72,7 @@ impl Clock {
         answer.word(self.begin_with(boot, kept, now));
     }
 
-    // Plays a call of the clock that has begun.
+    // Plays a call of the running clock.
     fn call(&mut self, call: &str, words: &mut Words<'_>, answer: &mut Answer) {
         let Some(clock) = &mut self.clock else {
             return words.refuse();

@@ -13,7 +13,7 @@ pub(crate) struct Follows {
     follower: Follower,
 }
 
-// Reads what came before a reading.
+// Reads the news before a clock reading.
 fn news_of(words: &mut Words<'_>) -> News {
     match words.word() {
         "nothing" => News::Nothing,
@@ -47,7 +47,7 @@ fn word_of(word: Word) -> &'static str {
     }
 }
 
-// Appends what is done.
+// Appends the actions.
 fn put_deed(answer: &mut Answer, deed: FollowDeed) {
     match deed {
         FollowDeed::Nothing => answer.word("nothing"),
@@ -80,7 +80,7 @@ fn put_margins<F: Debug + Drop>(answer: &mut Answer, margins: Result<Margins, F>
     }
 }
 
-// Appends the margins of a configuration's ticket at a site.
+// Appends the margins for a configuration's ticket at a site.
 fn choose_for(words: &mut Words<'_>, answer: &mut Answer) {
     let config = configuration(words);
     let ticket = name(words);
@@ -116,7 +116,7 @@ impl Follows {
     }
 }
 
-// Appends the margins that fit a ticket with these times.
+// Appends margins that suit a ticket with these times.
 fn choose(words: &mut Words<'_>, answer: &mut Answer) {
     let (expire, renewal) = (words.long(), words.long());
     let (margin, kill) = (words.long_or_none(), words.long_or_none());

@@ -1,4 +1,4 @@
-//! What is asked and done step by step, from lines: a service that follows its ticket, a planned move, a daemon's clock,
+//! Players for parts that run step by step: a service that follows its ticket, a planned move, a daemon's clock,
 //! attributes, a pool and a timer.
 #![tactic(auto)]
 

@@ -5,14 +5,14 @@ use booth_move::{MoveDeed, MoveEnd, Mover};
 use booth_rows::{Answer, Player, Words};
 use booth_wire::decode;
 
-/// Plays `new CONFIGURATION TICKET TARGET WAIT START`, in which the target is a place and the wait 1 or 0, and
-/// `step READING FRAME`. A frame that is no answer to the last request is passed over.
+/// Plays `new CONFIGURATION TICKET TARGET WAIT START`, in which the target is a place and the wait 1 or 0, and `step
+/// READING FRAME`. A frame that does not answer the last request is ignored.
 #[derive(Drop)]
 pub(crate) struct Moves {
     mover: Option<Mover>,
 }
 
-// Begins a move, if its target is a site.
+// Starts a move, if its target is a site.
 fn started(config: &Config, words: &mut Words<'_>) -> Option<Mover> {
     let ticket = name(words);
     let target = words.number() as usize;
@@ -23,7 +23,7 @@ fn started(config: &Config, words: &mut Words<'_>) -> Option<Mover> {
     }
 }
 
-// Returns what is done after a reading and the frame before it.
+// Returns the actions after a clock reading and the frame before it.
 fn step(mover: &mut Mover, words: &mut Words<'_>) -> MoveDeed {
     let now = words.long();
     let frame = words.bytes();
@@ -53,7 +53,7 @@ fn put_end(answer: &mut Answer, end: MoveEnd) {
     }
 }
 
-// Appends what is done.
+// Appends the actions.
 fn put_deed(answer: &mut Answer, deed: MoveDeed) {
     match deed {
         MoveDeed::Nothing => answer.word("nothing"),

@@ -5,15 +5,15 @@ use booth_chain::{Chains, Full, NodeId};
 use booth_rows::{Answer, Player, Words};
 use std::alloc::Global;
 
-/// Plays `new NODES LISTS`, `push LIST ITEM`, which gives the item's node as its place among all that were pushed, or
-/// the item where there is no room; `pop LIST`, `count LIST` and `spare`; and of the node at a place `holds NODE`,
+/// Plays `new NODES LISTS`; `push LIST ITEM`, which prints the item's node by its place among all that were pushed,
+/// or the item if there is no room; `pop LIST`, `count LIST` and `spare`; and for the node at a place `holds NODE`,
 /// `remove NODE`, `replace NODE ITEM` and `after NODE`.
 #[derive(Drop)]
 pub(crate) struct Pools {
     pool: Option<Pool>,
 }
 
-/// A pool of so many lists, and each node that an item was pushed to.
+/// A pool with its lists, and each node that an item was pushed to.
 #[derive(Drop)]
 struct Pool {
     chains: Chains<u32>,
@@ -52,7 +52,7 @@ impl Pool {
         }
     }
 
-    // Does what is asked of a list.
+    // Plays a call of a list.
     fn play_list(&mut self, call: &str, words: &mut Words<'_>, answer: &mut Answer) {
         let list = words.number();
         if list >= self.lists {
@@ -66,13 +66,13 @@ impl Pool {
         }
     }
 
-    // The place of a node among those that were pushed.
+    // Returns the place of a node among those that were pushed.
     fn place_of(&self, node: NodeId) -> Option<u64> {
         let place = self.nodes.iter().position(|one| *one == node)?;
         Some(place as u64)
     }
 
-    // Does what is asked of a node that holds an item.
+    // Plays a call of a node that holds an item.
     fn play_held(&mut self, call: &str, node: NodeId, words: &mut Words<'_>, answer: &mut Answer) {
         if !self.chains.holds(node) {
             return answer.word("gone");
@@ -91,7 +91,7 @@ impl Pool {
         }
     }
 
-    // Does what is asked of a node.
+    // Plays a call of a node.
     fn play_node(&mut self, call: &str, words: &mut Words<'_>, answer: &mut Answer) {
         let place = words.number() as usize;
         let Some(node) = self.nodes.get(place).copied() else {

@@ -1,4 +1,4 @@
-//! What both players read.
+//! Words that several players read.
 use booth_base::Name;
 use booth_conf::Config;
 use booth_rows::Words;

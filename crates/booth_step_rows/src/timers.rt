@@ -8,13 +8,14 @@ use std::alloc::Global;
 use std::marker::Brand;
 use std::sync::ledger::{Blank, Ledger};
 
-/// Plays `new SLOTS`, `set SLOT DEADLINE`, `clear SLOT` and `due READING`, which gives the next slot that is due, or none.
+/// Plays `new SLOTS`, `set SLOT DEADLINE`, `clear SLOT` and `due READING`, which prints the next slot that is due, or
+/// none.
 #[derive(Drop)]
 pub(crate) struct Timers {
     timer: Option<Timer>,
 }
 
-/// A timer of so many slots, and the last reading that it was asked at.
+/// A timer with its slots, and the last reading that it was asked at.
 #[derive(Drop)]
 struct Timer {
     wheel: Wheel,
@@ -24,7 +25,7 @@ struct Timer {
     ghost read: { wheel.last ≡ last },
 }
 
-// The next slot that is due, by a count of its own.
+// Returns the next slot that is due, and counts its own steps.
 fn due_now(wheel: &mut Wheel, now: u64) -> Option<u32>
     requires { wheel.old.last ≤ now }
     ensures last { wheel.new.last ≡ now }
@@ -45,8 +46,8 @@ fn due_counted<L: Ledger>(wheel: &mut Wheel, now: u64, blank: Blank) -> Option<u
     wheel.due(now, &mut steps)
 }
 
-/// How many steps two looks at slots of one bucket may take, counted by hand: at 4,400 one bucket and both slots, at
-/// 69,999 all buckets and the slot that is left.
+/// How many steps two calls for slots of one bucket may take, counted by hand: at 4,400 one bucket and both slots, at
+/// 69,999 all buckets and the remaining slot.
 pub fn steps_of_two_slots_in_one_bucket()
     ensures first { most_steps
         (record { deadlines = Some 70000 ∷ Some 4400 ∷ None ∷ []; last = 4399; swept = 4399 }) 4400 ≡ 3 }

@@ -1,4 +1,4 @@
-//! A timer in which nothing is due, asked many times at each moment.
+//! A timer in which no slot is due, with many requests at each moment.
 ghost use Rattle.std.specs.Prelude.{◌≡◌, ◌≤◌, ◌<◌, ◌+◌, ◌*◌, ◌/◌, length, IfSome, IsTrue};
 ghost use Rattle.booth_chain.specs.Wheel.{new_timer};
 ghost use Rattle.trials.specs.Far.{AreFar};
@@ -9,10 +9,10 @@ use std::alloc::Global;
 use std::marker::Brand;
 use std::sync::ledger::{Blank, Ledger};
 
-/// Each slot's deadline. Its bucket is the last one, number 511.
+/// The deadline of each slot. Its bucket is the last one, number 511.
 const DEADLINE: u64 = 65_601_408;
 
-/// The first moment in that bucket. Before it no look comes to a slot.
+/// The first moment in that bucket. Before it no search reaches a slot.
 const END: u32 = 65_408;
 
 fn set_each(wheel: &mut Wheel, slots: u32)
@@ -27,7 +27,7 @@ fn set_each(wheel: &mut Wheel, slots: u32)
     }
 }
 
-// Asks once at a moment. Whether the answer was none.
+// Asks once at a moment, and returns whether no slot was due.
 fn finds_none<L: Ledger>(wheel: &mut Wheel, now: u64, steps: &mut Steps<L>) -> bool
     requires far { AreFar wheel.old.deadlines }
     requires early { now < END }
@@ -45,7 +45,7 @@ fn finds_none<L: Ledger>(wheel: &mut Wheel, now: u64, steps: &mut Steps<L>) -> b
     }
 }
 
-// Asks 16 times at a moment. How many answers were none.
+// Asks 16 times at a moment, and returns how many times no slot was due.
 fn ask_at<L: Ledger>(wheel: &mut Wheel, now: u64, steps: &mut Steps<L>) -> u64
     requires far { AreFar wheel.old.deadlines }
     requires early { now < END }
@@ -64,7 +64,7 @@ fn ask_at<L: Ledger>(wheel: &mut Wheel, now: u64, steps: &mut Steps<L>) -> u64
     none
 }
 
-// Asks 16 times at each moment from 0 to `until`. Each answer is none. A look at a bucket is a step, and there is no
+// Asks 16 times at each moment from 0 to `until`. No slot is due. A look at a bucket is a step, and there is no
 // other.
 fn ask_each<L: Ledger>(wheel: &mut Wheel, until: u32, steps: &mut Steps<L>) -> u64
     requires far { AreFar wheel.old.deadlines }
@@ -105,8 +105,8 @@ fn ask(wheel: &mut Wheel, until: u32) -> u64
     ask_counted::<Brand>(wheel, until, Blank::new(1))
 }
 
-/// Sets so many slots to a far deadline, and asks 16 times at each moment from 0 to `until` which one is due. How
-/// many answers were none; None where `until` is too late or memory was wanting.
+/// Sets this many slots to a far deadline, and asks 16 times at each moment from 0 to `until` which one is due.
+/// Returns how many times none was; None if `until` is too late or memory is out.
 pub fn ask_at_each_moment(alloc: Global, slots: u32, until: u32) -> Option<u64>
     ensures { IfSome result (λ none. none ≡ 16 * (until + 1)) }
 {

@@ -1,6 +1,6 @@
 //! Writes one record of a ticket after another with the real host, and prints each once it is written.
 //!
-//! Tests kill it at any moment and read what it left.
+//! Tests kill it at any moment and read the file that it leaves.
 
 use booth_base::{Name, PathText};
 use booth_host::{Failed, Host, Place};
@@ -15,7 +15,7 @@ fn say(alloc: Global, host: &mut RealHost, what: &str, term: u32) -> Result<(), 
     }
 }
 
-// Returns the term of the kept record, or 0 if none is kept.
+// Returns the term of the record, or 0 if there is none.
 fn kept_term(host: &mut RealHost, ticket: &Name) -> Result<u32, Failed> {
     match host.kept(ticket)? {
         Some(record) => Ok(record.term),
@@ -23,14 +23,14 @@ fn kept_term(host: &mut RealHost, ticket: &Name) -> Result<u32, Failed> {
     }
 }
 
-// Keeps a record of this term, and prints the term.
+// Writes a record of this term, and prints the term.
 fn keep(alloc: Global, host: &mut RealHost, ticket: &Name, term: u32) -> Result<(), Failed> {
     let until = u64::from(term);
     host.keep(ticket, &Record::plain(term, Some(Lease { term, until })))?;
     say(alloc, host, "kept", term)
 }
 
-// Prints what is kept, and keeps the terms that follow.
+// Prints the record, and writes the terms that follow.
 fn keep_on(alloc: Global, host: &mut RealHost, ticket: &Name, count: u32) -> Result<(), Failed> {
     let first = kept_term(host, ticket)?;
     say(alloc, host, "read", first)?;
@@ -40,7 +40,7 @@ fn keep_on(alloc: Global, host: &mut RealHost, ticket: &Name, count: u32) -> Res
     Ok(())
 }
 
-// Opens the host, and keeps records.
+// Opens the host, and writes records.
 fn open_and_keep(alloc: Global, host: &mut RealHost, place: &Place, count: u32) -> bool {
     match Name::read(b"ticket-db8") {
         Ok(ticket) => { host.open(place).is_ok() && keep_on(alloc, host, &ticket, count).is_ok() }

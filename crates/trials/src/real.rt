@@ -13,7 +13,7 @@ pub struct Real {
 }
 
 impl Real {
-    /// Returns a player of a new host, or none for want of memory.
+    /// Returns a player of a new host, or none if memory is out.
     pub fn new(rt: &HostRuntime) -> Option<Real> {
         let host = RealHost::new(rt.clone().ok()?, rt.alloc()).ok()?;
         let notifier = Notifier::new(rt.clone().ok()?, "trials");

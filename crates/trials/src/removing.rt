@@ -1,10 +1,10 @@
-//! Items that leave the middle of a long list.
+//! The removal of items from the middle of a long list.
 ghost use Rattle.std.specs.Prelude.{◌<◌, length};
 
 use booth_chain::{Chains, NodeId};
 use std::alloc::Global;
 
-// Pushes so many items to one list. The node of each.
+// Pushes this many items to one list, and returns the node of each.
 fn push_each(alloc: Global, chains: &mut Chains<u32>, items: u32) -> Option<Vec<NodeId>>
     requires { 0 < length chains.old.lists }
 {
@@ -18,7 +18,7 @@ fn push_each(alloc: Global, chains: &mut Chains<u32>, items: u32) -> Option<Vec<
     Some(nodes)
 }
 
-// Whether the item leaves, and the node `before` is then followed by `next`.
+// Removes an item, and returns whether the node `next` then follows the node `before`.
 fn leaves(chains: &mut Chains<u32>, before: NodeId, gone: NodeId, next: NodeId) -> bool {
     if !chains.holds(gone) {
         return false;
@@ -27,7 +27,8 @@ fn leaves(chains: &mut Chains<u32>, before: NodeId, gone: NodeId, next: NodeId) 
     chains.holds(before) && chains.after(before) == Some(next)
 }
 
-// Removes each node but the last, the first first. How many were removed; None where one did not leave so.
+// Removes each node but the last, the first first. Returns how many were removed; None if one was not removed like
+// this.
 fn remove_each(chains: &mut Chains<u32>, before: NodeId, nodes: &[NodeId]) -> Option<u32> {
     let mut removed = 0u32;
     for pair in nodes.windows(2) {
@@ -49,9 +50,9 @@ fn remove_second_half(chains: &mut Chains<u32>, nodes: &[NodeId]) -> Option<u32>
     remove_each(chains, before, second)
 }
 
-/// Pushes so many items to one list, and removes those of its second half but the last, the first first. After each
-/// the last of the first half is followed by the next that stays. How many were removed; None where a step was
-/// another one, or memory was wanting.
+/// Pushes this many items to one list, and removes those of its second half but the last, the first first. After each
+/// removal the last item of the first half is followed by the next one that is left. Returns how many were removed;
+/// None if a step went otherwise, or memory is out.
 pub fn remove_from_the_middle(alloc: Global, items: u32) -> Option<u32> {
     let mut chains = Chains::with_capacity(alloc, items, 1).ok()?;
     let nodes = push_each(alloc, &mut chains, items)?;

@@ -1,4 +1,4 @@
-//! A timer whose slots are set anew as they come.
+//! A timer whose slots get new deadlines when they are due.
 ghost use Rattle.std.specs.Prelude.{◌≡◌, ◌≤◌, ◌<◌, length};
 
 use booth_chain::{Steps, Wheel};
@@ -18,7 +18,7 @@ fn set_each(wheel: &mut Wheel, slots: u32, spread: u32)
     }
 }
 
-// Sets anew what is due at a moment, `spread` later. How many slots that were, each at most once.
+// Sets what is due at a moment to `spread` later. Returns how many slots that were, each at most once.
 fn renew_at<L: Ledger>(
     wheel: &mut Wheel,
     slots: u32,
@@ -71,8 +71,8 @@ fn renew(wheel: &mut Wheel, slots: u32, spread: u32, until: u32) -> u64
     renew_counted::<Brand>(wheel, slots, spread, until, Blank::new(1))
 }
 
-/// Sets so many slots evenly from 1 to `spread`, and at each moment before `until` sets anew, `spread` later, each
-/// slot that is due. How many times one was; None where memory was wanting.
+/// Sets this many slots evenly from 1 to `spread`, and at each moment before `until` sets each slot that is due to
+/// `spread` later. Returns how many times a slot was due; None if memory is out.
 pub fn renew_each(alloc: Global, slots: u32, spread: u32, until: u32) -> Option<u64> {
     let mut wheel = Wheel::new(alloc, slots).ok()?;
     set_each(&mut wheel, slots, spread);

@@ -1,12 +1,12 @@
-//! Reads what torn writes leave of a record file: each byte string of one byte in each place that a step of a put
-//! writes, and of two bytes in each second place, opened over a disk in memory. It says how many were read, and fails
-//! at the first that is neither record.
+//! Reads what torn writes leave of a record file: each byte string with one different byte in each place that a step
+//! of a put writes, and with two in each second place, opened over a disk in memory. It prints how many were read,
+//! and fails at the first that is neither record.
 use booth_rec::{MemoryDisk, Record, Slots};
 use std::alloc::Global;
 
 const FILE_BYTES: usize = 336;
 
-/// Where the slot begins that is put into, the first of version 2.
+/// Where the slot begins to which the put goes, the first of version 2.
 const SLOT: usize = 128;
 
 /// Where its number begins, and where its record ends.
@@ -62,7 +62,7 @@ fn old_record(before: Before) -> Record {
     }
 }
 
-// Whether the file is opened, and stands for this record.
+// Returns whether the file is opened, and stands for this record.
 fn stands_for(alloc: Global, bytes: &File, record: Record) -> bool {
     let Ok(disk) = MemoryDisk::new(alloc, bytes, CALLS) else {
         return false;
@@ -73,7 +73,7 @@ fn stands_for(alloc: Global, bytes: &File, record: Record) -> bool {
     }
 }
 
-// The slot is closed: it held a record of the number before, and stands for nothing whatever the byte is.
+// Closes the slot: it had a record with the number before, and stands for nothing, whatever the byte is.
 fn closing(alloc: Global, before: Before) -> Option<u32> {
     let mut bytes = file(before, 1, 1, 5);
     let mut count = 0u32;
@@ -87,7 +87,7 @@ fn closing(alloc: Global, before: Before) -> Option<u32> {
     Some(count)
 }
 
-// One byte of the number or the record, in a closed slot.
+// Writes one byte of the number or the record, in a closed slot.
 fn filling_one(alloc: Global, before: Before) -> Option<u32> {
     let mut count = 0u32;
     for place in ENTRY.start..ENTRY.end {
@@ -103,7 +103,7 @@ fn filling_one(alloc: Global, before: Before) -> Option<u32> {
     Some(count)
 }
 
-// Two bytes of them, one beside the other, at each second place.
+// Writes two bytes of them, next to each other, at each second place.
 fn filling_two(alloc: Global, before: Before) -> Option<u32> {
     let mut count = 0u32;
     for pair in 0..(ENTRY.end - ENTRY.start) / 2 {
@@ -122,7 +122,7 @@ fn filling_two(alloc: Global, before: Before) -> Option<u32> {
     Some(count)
 }
 
-// The slot is opened, with the new record in it: it counts by one byte alone.
+// Opens the slot, with the new record in it: it counts by one byte alone.
 fn committing(alloc: Global, before: Before) -> Option<u32> {
     let mut bytes = file(before, 0, 3, 7);
     let mut count = 0u32;
