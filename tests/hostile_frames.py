@@ -91,7 +91,7 @@ class Foes:
             return b"%s none 0\n" % ticket
         if kind == frames.TICKET:
             # (a client with the key could have the ticket given back: that is what the key is for)
-            named = ticket if letters == "CGnt" else b"other"
+            named = b"other" if letters == "CRvk" else ticket
             return ticket_body(named, NO_ONE, 0, 0)
         name = b"" if letters == "ALst" else chance.choice(NAMES)
         value = b"" if letters == "ALst" else b"v" * chance.randrange(20)

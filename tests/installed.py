@@ -59,7 +59,7 @@ def installs_and_uninstalls(room):
     named += [f"usr/share/man/man8/{name}.8" for name in (*PROGRAMS, *TOOLS, "booth-keygen")]
     named += ["usr/share/man/man5/booth.conf.5"]
     named += [f"usr/share/bash-completion/completions/{name}" for name in (*PROGRAMS, *TOOLS)]
-    named += [f"usr/share/doc/booth-proved/{name}" for name in (*DOCUMENTS, "examples/manual.conf")]
+    named += [f"usr/share/doc/booth-proved/{name}" for name in (*DOCUMENTS, "examples/manual.conf", "examples/fence.sql")]
     named += [f"usr/lib/systemd/system/{name}" for name in (*SERVICES, *PLAIN_SERVICES)]
     named += [f"usr/lib/ocf/resource.d/{name}" for name in AGENTS]
     named += ["usr/share/booth-proved/journal.conf", "usr/share/booth-proved/timeline.py"]

@@ -16,7 +16,7 @@ TOP = os.path.dirname(os.path.dirname(os.path.abspath(__file__)))
 # each program with its commands; one that is not built yet is left out
 PROGRAMS = {
     "boothd": ["daemon", "status", "sim", "audit"],
-    "booth": ["list", "peers", "grant", "revoke", "move"],
+    "booth": ["list", "show", "peers", "status", "grant", "revoke", "move"],
     "geostore": ["set", "get", "delete", "list"],
     # (it has no commands)
     "booth-follow": [],

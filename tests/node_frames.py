@@ -111,6 +111,8 @@ def print_requests():
         ("ADel", "again", color, "RAtr", color, gone),
         ("AGet", "gone", color, "RAtr", color, gone),
         ("ALst", "empty", unnamed, "RALs", b"", 0),
+        ("CTkt", "", asked, "RTkt", nobodys(), 0),
+        ("CTkt", "elsewhere", other, "RTkt", nobodys(b"other"), REFUSED),
     ]
     for number, (command, case, body, answer, answer_body, result) in enumerate(table, 1):
         request = at(SENT, plain, command, body, request=number, **said)
@@ -150,6 +152,7 @@ def print_sealed_requests():
     table = [
         ("CLst", b"", "RLst", LIST, 11, 0),
         ("CRvk", revoke, "RRvk", nobodys(), 12, frames.code("Tidl")),
+        ("CTkt", revoke, "RTkt", nobodys(), 14, 0),
     ]
     for command, body, answer, answer_body, number, result in table:
         request = at(SENT, sealed, command, body, request=number)

@@ -209,7 +209,7 @@ def a_lease_is_no_longer_than_any(room: Room) -> None:
     """a renewal of a lease that is longer than expire is refused, and one that is as long sets no later end"""
     at_site(room)
     done = word(room, "renew", "5000", left=99_000)
-    need(done.status == 1 and "set up for an expire of 60 s: its clock is behind" in done.printed, f"{done}")
+    need(done.status == 1 and "set up for an expire of 60 s: either its clock is behind" in done.printed, f"{done}")
     same(room.end(), CLOSED, "the end")
     same(word(room, "renew", "5000", left=61_900).status, 0, "a lease that was listed in whole seconds")
     need(pacemaker_cib.seconds_of(room.end()) <= time.time() + 50, room.end())

@@ -26,7 +26,7 @@ DB8 = b"ticket-db8"
 TICKET_BODY = frames.ticket_body(DB8, NO_ONE, 0, 0)
 ATTRIBUTE_BODY = frames.attribute_body(DB8, b"color", b"dark blue")
 ALL_ATTRIBUTES = frames.attribute_body(DB8, b"", b"")
-REPLIES = ["RLst", "RPer", "RALs", "RGnt", "RRvk", "RAtr"]
+REPLIES = ["RLst", "RTkt", "RPer", "RALs", "RGnt", "RRvk", "RAtr"]
 BODIES = {
     frames.BARE: b"",
     frames.TICKET: TICKET_BODY,
@@ -75,10 +75,11 @@ def client_commands(room):
             for letters in frames.ANSWER_TO:
                 asker.asks(letters, body_of(letters))
             asker.asks("CGnt", TICKET_BODY, "a second grant")
+            asker.asks("CTkt", TICKET_BODY, "a ticket that is asked for")
             asker.asks("Peer")
             # another ticket is unknown
             longest, value = b"~" * 63, bytes(range(0x20, 0x7F)).ljust(127, b"!")
-            for letters in ("CGnt", "CRvk"):
+            for letters in ("CTkt", "CGnt", "CRvk"):
                 asker.asks(letters, frames.ticket_body(longest, 1, 2**32 - 1, 2**32 - 1))
             for letters in ("ASet", "AGet", "ADel"):
                 for text in (b"", value):

@@ -127,6 +127,12 @@ class Shown:
     def copy(self):
         return copy.copy(self)
 
+    def seconds(self, came):
+        """The seconds that are left of the lease, which stand in what came if they may be those."""
+        # (it was heard in that second or later, and a part of a second counts as one)
+        least = self.first - time.time()
+        return came if self.first and least <= came <= self.valid_for else self.valid_for
+
     def line(self, ticket, came):
         """The line of a list, with the second that stands in another line where it may."""
         words = came.split()[2:3]
@@ -165,6 +171,19 @@ class Served:
             return b"".join(shown.line(ticket, line) for (ticket, shown), line in zip(tickets, lines))
 
         return due
+
+    def stands_due(self, body):
+        """The result and the body that tell how a ticket stands, of which a function says the body that was due."""
+        ticket = body[:64].rstrip(b"\0")
+        if ticket not in self.station.tickets:
+            return NOT_HERE, body[:64] + frames.numbers(frames.NO_ONE, 0, 0)
+        shown = self.shown[self.station.tickets.index(ticket)].copy()
+        leader = frames.NO_ONE if shown.owner == "none" else frames.member_id(shown.owner)
+
+        def due(came):
+            return body[:64] + frames.numbers(leader, 0, shown.seconds(int.from_bytes(came[72:76], "big")))
+
+        return 0, due
 
     def hears(self, parts, since):
         """A member's frame is let in."""
@@ -213,6 +232,8 @@ class Served:
         """The result and the body, as Asker.takes has it, that answer a request of this command."""
         if letters == "CLst":
             return 0, self.lists_due()
+        if letters == "CTkt":
+            return self.stands_due(body)
         if letters == "Peer":
             return 0, self.counts.copy().peers_due
         if letters in ("CGnt", "CRvk"):
@@ -383,6 +404,7 @@ class Asker:
         self.daemon.hears(gate.split(datagram), since)
         self.asks("Peer", what=f"Peer after {what}")
         self.asks("CLst", what=f"CLst after {what}")
+        self.asks("CTkt", gate.split(datagram).body, what=f"CTkt after {what}")
 
     def meets(self, datagrams):
         """Each of these is dropped, counted or answered as tests/gate.py says."""

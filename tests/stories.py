@@ -4,8 +4,11 @@ It is imported by the programs in tests/, and not run by itself.
 """
 
 import os
+import struct
 import time
 
+import frames
+import record_file
 from members import MANUAL, TICKET, Ran, now, wait_for
 
 # how much later than it may a thing happens at most, in seconds: if the machine has a processor for it, or has not
@@ -95,6 +98,37 @@ def lists(cluster, owner):
             moments = [end + more for end in (before, owner.record().until) for more in (-1, 0, 1)]
             wanted = {f"ticket: {NAME}, leader: {owner.address}, expires: {date(end)}\n" for end in moments}
         require(ran.status == 0 and ran.printed in wanted and not ran.said, f"{member.address} lists {ran}")
+
+
+def lease_of(member):
+    """The lease in the record of this member."""
+    with open(member.record_path(), "rb") as file:
+        return record_file.in_force(record_file.slots_in(file.read(record_file.FILE_BYTES))).record.lease
+
+
+def stands(cluster, owner):
+    """Every member that runs tells, of the one ticket, this owner and the seconds that are left of the lease in its
+    record. The owner alone tells the term of that lease. Returns the term."""
+    leases = []
+    for member in cluster.members:
+        if not member.is_running():
+            continue
+        leases = [lease_of(owner)] if owner else []
+        asked = now()
+        answer = member.ask("CTkt", frames.ticket_body(TICKET, frames.NO_ONE, 0, 0))
+        require(answer and answer.result == "ok" and len(answer.body) == 76, f"{member.address} answers {answer}")
+        told = struct.unpack(">3I", answer.body[64:])
+        # (it may be renewed meanwhile, and a member that only heard of it counts whole seconds)
+        leases += [lease_of(owner)] if owner else []
+        terms = {lease.term for lease in leases} if member is owner else {0}
+        lefts = [(lease.until / 1000 - now() - 1, lease.until / 1000 - asked + 2) for lease in leases]
+        if owner:
+            is_left = any(least <= told[2] <= most for least, most in lefts)
+            is_so = is_left and told[0] == frames.member_id(owner.address) and told[1] in terms
+        else:
+            is_so = told == (frames.NO_ONE, 0, 0)
+        require(is_so, f"{member.address} tells {told}, and the leases are {leases}")
+    return leases[-1].term if leases else None
 
 
 def counts_as(member):

@@ -198,7 +198,7 @@ def samples_of_ticket(view, answers):
 
 
 def samples_of_service(service: Service) -> Iterator[Tuple[str, str]]:
-    """What is measured of a service of this machine."""
+    """The samples of one service of this machine."""
     name, state = service.ticket, service.state
     if service.lives is not None:
         yield sample("booth_follower_up", int(service.lives), ticket=name)

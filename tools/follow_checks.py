@@ -17,7 +17,7 @@ from wording import several
 # In seconds, by the units of daemon and follower: after so long one that ended is started again (RestartSec); and how
 # long each takes then.
 RESTART, START = 1, 1
-# a follower asks for the list once a second, and has an end armed within another
+# a follower asks its daemon once a second, and has an end armed within another
 LIST, ARM = 1, 1
 # how long systemd may take to answer
 QUESTION = 3.0

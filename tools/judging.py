@@ -244,7 +244,7 @@ def difference(what, wanted, found):
 
 
 def of_clocks(configuration, answers):
-    """Members whose frames others drop with a key, since their clocks are too far apart."""
+    """If there is a key: members whose frames others drop, since their clocks are too far apart."""
     timed = sorted((answer.ahead, answer.member.address) for answer in answers if answer.ahead is not None)
     if configuration.authfile and timed and timed[-1][0] - timed[0][0] > configuration.skew:
         (behind, slow), (ahead, fast) = timed[0], timed[-1]

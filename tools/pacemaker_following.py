@@ -115,8 +115,9 @@ class Site:
         if left > times.expire + ROUNDED:
             raise Failed(
                 f"no end is set: the daemon lists a lease of {left:.1f} s, and it was set up for an expire of "
-                f"{times.expire} s: its clock is behind that of its records until it has renewed the lease, or expire "
-                f"was raised without booth-pacemaker setup {self.ticket} {' '.join(lease.resources)}"
+                f"{times.expire} s: either its clock is behind the clock of its records until it has renewed the "
+                f"lease, or expire was raised and this was not run afterwards: booth-pacemaker setup {self.ticket} "
+                f"{' '.join(lease.resources)}"
             )
 
     def start(self) -> None:
