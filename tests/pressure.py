@@ -25,10 +25,11 @@ TOP = os.path.dirname(HERE)
 sys.path[:0] = [HERE, f"{TOP}/tools"]
 
 import frames
-from devices import LeftOut, Wrong, built_library, require
+from devices import LeftOut, Wrong, require
 from members import TICKET, Cluster, Member, Times, now, path_in, wait_for
 from scratch import scratch
 from serving import NotServing, built_program, end_by_signals, own_addresses
+from slow_disk import CountedHost, SlowDisk, counted
 
 SECONDS_OF_A_RUN, SECONDS_BETWEEN_LOOKS, SLACK = 10, 0.1, 10
 SEED = 9929
@@ -38,40 +39,8 @@ LIFETIMES = 3
 FILES, LINKS_OPENED = 16, 10
 # how many writes are counted, and how many syncs each has
 WRITES, SYNCS_OF_A_WRITE = 10, 3
-
-# each sync waits for as many milliseconds as one file says first, and adds a byte to another
-SLOW = """
-#define _GNU_SOURCE
-#include <fcntl.h>
-#include <stdlib.h>
-#include <sys/syscall.h>
-#include <time.h>
-#include <unistd.h>
-
-static int slow(int file, long call)
-{
-    char text[32] = "";
-    const char *named = getenv("BOOTH_SLOW"), *noted = getenv("BOOTH_SYNCS");
-    int told = named ? open(named, O_RDONLY | O_CLOEXEC) : -1;
-    int notes = noted ? open(noted, O_WRONLY | O_APPEND | O_CREAT | O_CLOEXEC, 0600) : -1;
-    if (told >= 0) {
-        if (read(told, text, sizeof text - 1) > 0) {
-            struct timespec wait = {atol(text) / 1000, atol(text) % 1000 * 1000000};
-            nanosleep(&wait, 0);
-        }
-        close(told);
-    }
-    if (notes >= 0) {
-        if (write(notes, "s", 1) < 0)
-            _exit(1);
-        close(notes);
-    }
-    return (int)syscall(call, file);
-}
-
-int fsync(int file) { return slow(file, SYS_fsync); }
-int fdatasync(int file) { return slow(file, SYS_fdatasync); }
-"""
+# how many tickets are prepared; how long a slow sync takes, and a sync of members that renew
+TICKETS, SLOW_SYNC, RENEWAL_SYNC = 40, 0.15, 0.03
 
 
 class Programs(NamedTuple):
@@ -100,24 +69,6 @@ def boothd_of(programs: Programs) -> str:
     if programs.boothd is None:
         raise LeftOut("boothd is not built")
     return programs.boothd
-
-
-class SlowDisk:
-    """A program whose syncs take as long as is said."""
-
-    def __init__(self, folder: str, program: str) -> None:
-        self.told, self.program = os.path.join(folder, "slow"), os.path.join(folder, "slow-program")
-        library = built_library(folder, "slow-syncs", SLOW)
-        self.sync_takes(0)
-        with open(self.program, "w", encoding="utf-8") as file:
-            file.write(f'#!/bin/sh\nLD_PRELOAD={library} BOOTH_SLOW={self.told} exec {program} "$@"\n')
-        os.chmod(self.program, 0o755)
-
-    def sync_takes(self, seconds: float) -> None:
-        """Has each sync from now on take so long."""
-        with open(self.told + ".new", "w", encoding="ascii") as file:
-            file.write(str(int(seconds * 1000)))
-        os.rename(self.told + ".new", self.told)
 
 
 def holds_by_its_list(member: Member) -> Optional[bool]:
@@ -369,27 +320,105 @@ def a_file_system_that_takes_no_writes_is_no_vote(folder: str, programs: Program
     return "it answers, and the other site loses its lease without it"
 
 
-def run_keeps(programs: Programs, directory: str, count: int, **environ: str) -> "subprocess.CompletedProcess[str]":
+def run_keeps(
+    programs: Programs, directory: str, count: int, environ: Optional[Dict[str, str]] = None
+) -> "subprocess.CompletedProcess[str]":
     """Returns a run of `trials keeps`."""
     if programs.trials is None:
         raise LeftOut("trials is not built")
     how = {"stdin": subprocess.DEVNULL, "capture_output": True, "text": True, "timeout": SECONDS_OF_A_RUN}
-    return subprocess.run([programs.trials, "keeps", directory, str(count)], env={**os.environ, **environ}, **how)
+    return subprocess.run([programs.trials, "keeps", directory, str(count)], env=environ, **how)
 
 
-def a_write_has_three_syncs(folder: str, programs: Programs) -> str:
+def a_write_without_a_pause_has_three_syncs(folder: str, programs: Programs) -> str:
     """A sync that has nothing to write is not made: this process had all bytes of the file synced before."""
     noted, counts = os.path.join(folder, "syncs"), []
-    environ: Dict[str, str] = {"LD_PRELOAD": built_library(folder, "slow-syncs", SLOW), "BOOTH_SYNCS": noted}
+    environ = counted(folder, noted)
     for count in (WRITES, 2 * WRITES):
         with contextlib.suppress(FileNotFoundError):
             os.remove(noted)
-        done = run_keeps(programs, os.path.join(folder, f"of-{count}"), count, **environ)
+        done = run_keeps(programs, os.path.join(folder, f"of-{count}"), count, environ)
         require(done.returncode == 0, f"{count} writes: {done.stderr}")
         counts.append(os.path.getsize(noted))
     each = (counts[1] - counts[0]) / WRITES
     require(each == SYNCS_OF_A_WRITE, f"{each} syncs a write: {counts}")
     return f"{counts[0]} syncs in {WRITES} writes in a new directory, {counts[1]} in {2 * WRITES}"
+
+
+def a_write_after_a_pause_has_two_syncs(folder: str, programs: Programs) -> str:
+    """The pause has the third. It has none if the call may not wait as long as the last write or preparation took."""
+    one, other = TICKET, b"another"
+    with CountedHost(folder, programs.trials) as host:
+        for ticket in (one, one, other, other):
+            host.of_keep(ticket)
+        steps = (
+            ("two pauses", host.of_wait(1000) + host.of_wait(1000), 2),
+            ("a keep, another, and a third at once", host.of_keep(one) + host.of_keep(other) + host.of_keep(one), 7),
+            ("a call that may not wait", host.of_wait(0), 0),
+            ("three pauses, of which the last has nothing to do", sum(host.of_wait(1000) for _ in range(3)), 2),
+            ("a keep", host.of_keep(one), 2),
+            ("a slow keep", host.of_keep(other, SLOW_SYNC), 2),
+            ("a pause that is shorter", host.of_wait(100, SLOW_SYNC), 0),
+            ("a pause that is longer", host.of_wait(1000, SLOW_SYNC), 1),
+            ("a keep that was prepared, and a quick one", host.of_keep(one) + host.of_keep(one), 5),
+            ("a preparation that is slow", host.of_wait(500, 4 * SLOW_SYNC), 1),
+            ("the next pause", host.of_wait(500), 0),
+        )
+    for name, found, wanted in steps:
+        require(found == wanted, f"{name}: {found} syncs, and not {wanted}")
+    return f"{len(steps)} steps"
+
+
+def many_tickets_are_prepared_one_by_one(folder: str, programs: Programs) -> str:
+    """Each pause has one, so that nothing that comes waits for more than one."""
+    tickets = [b"ticket-%d" % number for number in range(TICKETS)]
+    with CountedHost(folder, programs.trials) as host:
+        for ticket in 2 * tickets:
+            host.of_keep(ticket)
+        pauses = [host.of_wait(1000) for _ in range(TICKETS + 1)]
+        require(pauses == [1] * TICKETS + [0], f"syncs of pauses: {pauses}")
+        keeps = [host.of_keep(ticket) for ticket in tickets]
+        require(keeps == [2] * TICKETS, f"syncs of keeps: {keeps}")
+    return f"{TICKETS} tickets"
+
+
+def renewals_heard_at(address: str, seconds: float) -> List[float]:
+    """Returns how long each renewal took: from the turn of its round to what is said of the lease, as is heard here."""
+    opened: Dict[bytes, float] = {}
+    took, end = [], time.monotonic() + seconds
+    with socket.socket(socket.AF_INET, socket.SOCK_DGRAM) as hearer:
+        hearer.bind((address, frames.PORT))
+        hearer.settimeout(SLACK)
+        while time.monotonic() < end:
+            came, moment = hearer.recv(frames.FRAME_BYTES), time.time()
+            head, ticket = frames.Head.read(came), came[frames.HEAD_BYTES : frames.HEAD_BYTES + 64]
+            if head.cmd == frames.code("HrtB"):
+                opened.setdefault(ticket, head.millis() / 1000)
+            elif head.cmd == frames.code("UpdE") and ticket in opened:
+                took.append(moment - opened.pop(ticket))
+    return took
+
+
+def a_renewal_waits_for_two_syncs_of_each_member(folder: str, programs: Programs) -> str:
+    """Of the holder, then of the voter, and of the holder again. The third member is silent, and hears it."""
+    slow, times = SlowDisk(folder, boothd_of(programs)), Times(expire=10, timeout=1, retries=3, renewal=5)
+    tickets = tuple(b"ticket-%d" % number for number in range(4))
+    addresses = list(itertools.islice(own_addresses(), 150, 153))
+    with Cluster(slow.program, folder, addresses, times, tickets=tickets) as cluster:
+        cluster.remember()
+        cluster.start(0, 1)
+        one = cluster.members[0]
+        slow.sync_takes(RENEWAL_SYNC)
+        for ticket in tickets:
+            one.about("CGnt", ticket)
+            time.sleep(times.renewal / len(tickets))
+        took = renewals_heard_at(addresses[2], 2 * times.renewal)
+        told = one.printed().decode()
+    require(len(took) >= len(tickets), f"{len(took)} renewals: {told}")
+    syncs = min(took) / RENEWAL_SYNC
+    # (with three syncs of each it would be nine; the two clocks differ by a millisecond or two)
+    require(5.5 < syncs < 7, f"the quickest of {len(took)} renewals took {syncs:.1f} syncs: {told}")
+    return f"{syncs:.2f} syncs in the quickest of {len(took)} renewals"
 
 
 def bytes_of_no_record_are_told(folder: str, programs: Programs) -> str:
@@ -416,7 +445,10 @@ def bytes_of_no_record_are_told(folder: str, programs: Programs) -> str:
 
 
 CHECKS = (
-    a_write_has_three_syncs,
+    a_write_without_a_pause_has_three_syncs,
+    a_write_after_a_pause_has_two_syncs,
+    many_tickets_are_prepared_one_by_one,
+    a_renewal_waits_for_two_syncs_of_each_member,
     bytes_of_no_record_are_told,
     few_open_files_leave_the_lease_alone,
     links_are_served_within_the_limit,

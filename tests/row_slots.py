@@ -103,8 +103,13 @@ def put(row: Row, _rows: List[Row]) -> List[Play]:
     return [(f"put {record_words(row.given)}", lines(held, file_of(row.wanted), held))]
 
 
+def preparation(row: Row, _rows: List[Row]) -> List[Play]:
+    """A prepare of the file of the row above: the record that it holds before and after, and the file that is left."""
+    return [("prepare", lines(row.given, file_of(row.wanted), row.given))]
+
+
 def failure(row: Row, rows: List[Row]) -> List[Play]:
-    """`put RECORD` or `reopen` that fails: the fault, what the file holds, its slots, and what they are read as."""
+    """`put RECORD`, `prepare` or `reopen` that fails: the fault, what the file holds, its slots, and what they are read as."""
     fault, held, file, read = row.wanted.split("; ")
     what, _, record = row.given.partition(" ")
     line = f"put {record_words(record)}" if record else what
@@ -142,6 +147,7 @@ def two_bytes(row: Row, _rows: List[Row]) -> List[Play]:
 PLAYS: Dict[str, Plays] = {
     "open": opening,
     "put": put,
+    "prepare": preparation,
     "fails": failure,
     "each byte": one_byte,
     "two bytes": two_bytes,

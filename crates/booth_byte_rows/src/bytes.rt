@@ -56,7 +56,7 @@ fn value(words: &mut Words<'_>, answer: &mut Answer) {
     }
 }
 
-// `path BYTES`, which are text.
+// `path BYTES`, in which the bytes are text.
 fn path(words: &mut Words<'_>, answer: &mut Answer) {
     match PathText::read(words.text().as_str()) {
         Ok(path) => spelled(answer, "path", path.as_str().as_bytes()),

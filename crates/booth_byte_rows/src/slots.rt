@@ -65,6 +65,13 @@ fn put(slots: &mut Slots<MemoryDisk>, words: &mut Words<'_>, answer: &mut Answer
     }
 }
 
+// `prepare`
+fn prepare(slots: &mut Slots<MemoryDisk>, answer: &mut Answer) {
+    if let Err(found) = slots.prepare() {
+        fault(answer, &found);
+    }
+}
+
 // `reopen`
 fn reopen(slots: &mut Slots<MemoryDisk>, answer: &mut Answer) {
     if let Err(found) = slots.reopen() {
@@ -93,6 +100,7 @@ impl RecordFile {
         };
         match call {
             "put" => put(slots, words, answer),
+            "prepare" => prepare(slots, answer),
             "reopen" => reopen(slots, answer),
             _ => words.refuse(),
         }

@@ -12,7 +12,7 @@ use Rattle.booth_rec.specs.Spelling.{spelling, long, record_in, FitsTypes, Spell
 use Rattle.booth_rec.specs.Disk.{SameOutside, IsWritten}
 use Rattle.booth_rec.specs.RecordFile.{Slot, bytes_at, slot_at, first_slot, slots_of, greatest, record_of_slot, number_of_slot, HoldsRecord, IsWhole}
 use Rattle.booth_rec.specs.Holding.{place_of, new_slot, other_of, others_of, spare_of, record_of, number_of, open_of, IsHolding}
-use Rattle.booth_rec.specs.Slots.{next_number, StandsFor, IsOldOrNew, entry, opened_in, filled_in, after, Closes, Closing}
+use Rattle.booth_rec.specs.Slots.{next_number, StandsFor, IsOldOrNew, entry, opened_in, filled_in, after, closed_in, closed_after, Closes, Closing}
 use Rattle.booth_rec.proofs.Greatest.{Has, untrue, aside, greatest_is_most, no_open, newest}
 use Rattle.booth_rec.proofs.SpellingLemmas.{length_of, read_back, is_record}
 use Rattle.booth_rec.proofs.FileLemmas.{bytes_there, same_slot, same_number, same_body, same_gate, slots_equal, body_of, gate_open, gate_closed}
@@ -365,3 +365,31 @@ known_after h gate next holding rec second fits f last is known ready same opene
     still_in_force =
         ap (λ (k : Half). greatest (first_slot 0 last ∷ first_slot 64 last ∷ new_slot k last ∷ [])) (twice h)
         ∙ newest (first_slot 0 last ∷ first_slot 64 last ∷ []) [] (new_slot h last) opened.opened (λ s has o. below s (of_old s has) o)
+
+closes_after : (holding : Holding) (h : Half) (f : List ℕ) → (new_slot h f).is_open ≡ false → (new_slot (other_of h) f).is_open ≡ open_of holding (other_of h)
+    → (half : Half) → (new_slot half f).is_open ≡ open_of (closed_in holding h) half
+closes_after holding First f here there First = here
+closes_after holding First f here there Second = there
+closes_after holding Second f here there First = there
+closes_after holding Second f here there Second = here
+
+standing_stays : (holding : Holding) (h : Half) → (closed_in holding h).standing ≡ holding.standing
+standing_stays holding First = refl
+standing_stays holding Second = refl
+
+pub known_closed : (h : Half) (gate : Bool) (next : ℕ) (holding : Holding) (f g : List ℕ) → h ≡ spare_of holding.standing
+    → IsHolding f holding → IsReady h gate next (record_of holding.standing) f → Closes h gate f g → IsHolding g (closed_after holding)
+known_closed h gate next holding f g is known ready closes =
+    subst (λ (k : Half). IsHolding g (closed_in holding k)) is
+    (let shut = closed h next (record_of holding.standing) gate f g ready closes in
+    let stands = ready_stands h next (record_of holding.standing) false g shut in
+    let same = closes_others h gate f g closes in
+    let still = sym (standing_stays holding h) in
+    let besides = ready.is_aside in
+    record {
+      whole = stands.whole;
+      stands = stands.stands ∙ ap record_of still;
+      numbered = ap number_of_slot (shut.is_aside ∙ ap greatest same ∙ sym besides) ∙ known.numbered ∙ ap number_of still;
+      aside = shut.is_aside ∙ ap (λ (k : Half). greatest (others_of k g)) (is ∙ ap spare_of still);
+      opens = closes_after holding h g shut.is_gate (other_gate h f g same ∙ known.opens (other_of h));
+    })

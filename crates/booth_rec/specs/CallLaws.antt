@@ -1,4 +1,4 @@
--- What a read gives may be left by a crash, and the moments since now are now alone.
+-- A crash may leave what a read returns, and the only moment since now is now.
 use Rattle.std.proofs.Common.{◌≡◌, ⊎_elim, ℕ, zero, suc, ◌+◌, ◌-◌, ◌<◌, ◌≤◌, List, [], ◌∷◌, ◌++◌, length, get_or, take, drop, refl, sym, ◌∙◌, ap, subst, arith, append_assoc, length-append, length-drop}
 use Rattle.std.proofs.lemmas.List.{get_or-replicate, get_or_past, get_or_append_left, get_or-append_right, get_or-take, get_or-drop, length-replicate, length-take-le, take_all}
 use Rattle.std.proofs.lemmas.Bool.{cases_lt}
@@ -16,7 +16,7 @@ zeros_at : (n i : ℕ) → i < n → get_or (zeros n) i 0 ≡ 0
 unfolding zeros
 zeros_at n i below = let none : ℕ = 0 in get_or-replicate n i none none below
 
--- zeros behind a list change no byte of it
+-- zeros after a list change no byte of it
 pub padded : (old : List ℕ) (n i : ℕ) → get_or (old ++ zeros n) i 0 ≡ get_or old i 0
 padded [] n i =
     ⊎_elim (λ below. zeros_at n i below) (λ past. get_or_past (zeros n) i 0 (omega (arith, past, length_zeros n)))
@@ -24,7 +24,7 @@ padded [] n i =
 padded (x ∷ old) n zero = refl
 padded (x ∷ old) n (suc i) = padded old n i
 
--- what stands before a write, and behind it
+-- the bytes before a write, and those after it
 abbrev front : ℕ → List ℕ → List ℕ
 front at old = take at (old ++ zeros at)
 
@@ -38,7 +38,7 @@ parts at bytes old = append_assoc (front at old) bytes (drop (at + length bytes)
 front_length : (at : ℕ) (old : List ℕ) → length (front at old) ≡ at
 front_length at old = length-take-le at (old ++ zeros at) (omega (arith, length-append old (zeros at), length_zeros at))
 
--- the byte at a place of what was written over
+-- the byte at a place of the overwritten bytes
 read_of : (at : ℕ) (bytes old : List ℕ) (i : ℕ)
     → get_or (overwritten at bytes old) i 0 ≡ get_or (front at old ++ rest at bytes old) i 0
 read_of at bytes old i = ap (λ (l : List ℕ). get_or l i 0) (parts at bytes old)
@@ -85,7 +85,7 @@ is_written at bytes old = record {
       );
 }
 
--- what a read gives may be left
+-- a crash may leave what a read returns
 pub leaves_seen : (seen : List ℕ) (left : List ℕ → Type 0) (calls : List Call) → left seen
     → left_after seen left calls (seen_after seen calls)
 leaves_seen seen left [] is = is
@@ -94,7 +94,7 @@ leaves_seen seen left (Write at bytes len ∷ calls) is =
     (seen, is, outside at (take len bytes) seen)
 leaves_seen seen left (Sync ∷ calls) is = leaves_seen seen (λ c. c ≡ seen) calls refl
 
--- all calls are the moment now
+-- all calls together are the moment now
 pub now_counts : (first : List ℕ) (calls : List Call) (t : ℕ) (c : List ℕ) → t ≤ length calls → MayLeave first calls c
     → MightHaveLeft first calls t c
 now_counts first calls t c le left = (

@@ -1,4 +1,4 @@
--- A disk in memory: what a read gives, what a crash may leave, and when its calls fail.
+-- A disk in memory: what a read returns, what a crash may leave, and when its calls fail.
 use Rattle.std.specs.Prelude.{◌≡◌, ◌⊎◌, ℕ, ◌+◌, ◌-◌, ◌^◌, ◌<◌, ◌≤◌, min, max, List, [], length}
 use Rattle.booth_rec.specs.declared.memory_disk.MemoryDisk.{MemoryDisk}
 use Rattle.booth_rec.specs.Disk.{Elapses}
@@ -10,13 +10,13 @@ memory_seen disk = seen_after disk.first.items disk.calls.items
 abbrev pub memory_may_leave : MemoryDisk → List ℕ → Type 0
 memory_may_leave disk = MayLeave disk.first.items disk.calls.items
 
--- time goes on from one to the other
+-- time passes from the old disk to the new one
 abbrev pub Passes : MemoryDisk → MemoryDisk → Type 0
 Passes old new = Elapses (length old.calls.items) (length new.calls.items)
     (MightHaveLeft old.first.items old.calls.items) (MightHaveLeft new.first.items new.calls.items)
     (memory_may_leave new)
 
--- so many calls were made that none passes
+-- so many calls were made that no further one succeeds
 abbrev pub IsOver : MemoryDisk → Type 0
 IsOver disk = disk.passes ≤ disk.made
 
@@ -24,11 +24,11 @@ IsOver disk = disk.passes ≤ disk.made
 abbrev pub HasRoom : MemoryDisk → ℕ → ℕ → Type 0
 HasRoom disk at len = (len ≤ 128) × (at + len ≤ disk.room)
 
--- a write that does not pass, or that is too long, or that ends past the room
+-- a write that does not succeed, or is too long, or ends past the room
 abbrev pub FailsToWrite : MemoryDisk → ℕ → ℕ → Type 0
 FailsToWrite disk at len = IsOver disk ⊎ (128 < len) ⊎ (disk.room < at + len)
 
--- a new disk: these bytes, all of them on the disk, and so many calls that pass
+-- a new disk: these bytes, all of them on the disk, and this many calls that succeed
 pub record IsNew (disk : MemoryDisk) (bytes : List ℕ) (passing roomy : ℕ) : Type 0 where
   pub started : disk.first.items ≡ bytes
   pub none : disk.calls.items ≡ []
@@ -37,7 +37,7 @@ pub record IsNew (disk : MemoryDisk) (bytes : List ℕ) (passing roomy : ℕ) : 
   pub unfailed : disk.faults ≡ 0
   pub width : disk.room ≡ max roomy 4096
 
--- bytes, calls and bounds are the same
+-- bytes, calls and bounds are unchanged
 pub record Keeps (old new : MemoryDisk) : Type 0 where
   pub bytes : new.bytes ≡ old.bytes
   pub first : new.first ≡ old.first
@@ -45,7 +45,7 @@ pub record Keeps (old new : MemoryDisk) : Type 0 where
   pub passes : new.passes ≡ old.passes
   pub room : new.room ≡ old.room
 
--- a call was made, and the bounds are the same
+-- a call was made, and the bounds are unchanged
 pub record Counts (old new : MemoryDisk) : Type 0 where
   pub one_more : new.made ≡ min (old.made + 1) (2 ^ 64 - 1)
   pub passing : new.passes ≡ old.passes

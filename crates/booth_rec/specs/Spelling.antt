@@ -1,4 +1,4 @@
--- How a record is spelled in bytes, and when bytes spell none: 32 bytes in version 1, 64 in version 2.
+-- The spelling of a record in bytes, and when bytes spell none: 32 bytes in version 1, 64 in version 2.
 use Rattle.std.specs.Prelude.{◌≡◌, ◌≢◌, ◌⊎◌, ℕ, ◌+◌, ◌<◌, ◌^◌, List, ◌++◌, length, take, drop, replicate, ◌==◌, Bool, true, if◌then◌else◌, Option, Some, None, is_some, Result, Ok, Err}
 use Rattle.std.specs.Option.{ForSome}
 use Rattle.std.specs.Int.{w32, w64, from_be_bytes, to_be_bytes, bit_at}
@@ -20,24 +20,24 @@ long n = to_be_bytes w64 n
 unfoldable pub zeros : ℕ → List ℕ
 zeros n = replicate n 0
 
--- a lease's term and its end; fields of what is not there are 0
+-- a lease's term and its end; the fields of a missing part are 0
 abbrev pub lease_fields : Option Lease → List ℕ
 lease_fields None = word 0 ++ long 0
 lease_fields (Some lease) = word lease.term ++ long lease.until
 
--- both versions begin with the version, the term, what of the record there is, and the lease
+-- both versions begin with the version, the term, the flags for the parts of the record, and the lease
 abbrev pub head : ℕ → ℕ → Record → List ℕ
 head version bits kept = word version ++ word kept.term ++ word bits ++ lease_fields kept.lease
 
 -- ---- version 1
 
--- 1 with a lease and else 0; behind the lease stand 8 zero bytes
+-- 1 with a lease and else 0; 8 zero bytes follow the lease
 abbrev pub first_spelling : Record → List ℕ
 first_spelling kept = head 1 (if is_some kept.lease then 1 else 0) kept ++ zeros 8
 
 -- ---- version 2
 
--- which of lease, bound and promise there are: 1, 2 and 4
+-- which of lease, vote and promise there are: 1, 2 and 4
 abbrev pub flags : Record → ℕ
 flags kept =
     (if is_some kept.lease then 1 else 0) + (if is_some kept.bound then 2 else 0)
@@ -47,12 +47,12 @@ abbrev pub bound_field : Option MemberId → List ℕ
 bound_field None = word 0
 bound_field (Some member) = word member.0
 
--- to whom it is, its term, a zero word, and its end
+-- the member of the promise, its term, a zero word, and its end
 abbrev pub promise_fields : Option Promise → List ℕ
 promise_fields None = word 0 ++ word 0 ++ word 0 ++ long 0
 promise_fields (Some promise) = word promise.to.0 ++ word promise.term ++ word 0 ++ long promise.until
 
--- bound, promise, the end of the abstention, and 8 zero bytes
+-- vote, promise, the end of the abstention, and 8 zero bytes
 abbrev pub pledge_fields : Record → List ℕ
 pledge_fields kept = bound_field kept.bound ++ promise_fields kept.promise ++ long kept.abstain ++ zeros 8
 
@@ -87,14 +87,14 @@ pub record Spells (bytes : List ℕ) (kept : Record) : Type 0 where
 
 -- ---- reading
 
--- the number that stands at a place
+-- the number at a place
 abbrev pub word_at : ℕ → List ℕ → ℕ
 word_at at bytes = from_be_bytes w32 (take 4 (drop at bytes))
 
 abbrev pub long_at : ℕ → List ℕ → ℕ
 long_at at bytes = from_be_bytes w64 (take 8 (drop at bytes))
 
--- whether the flag of this place is set: a lease has the first, a bound the second, a promise the third
+-- whether the flag at this place is set: a lease has the first, a vote the second, a promise the third
 abbrev pub has_flag : ℕ → List ℕ → Bool
 has_flag place bytes = bit_at (word_at 8 bytes) place == 1
 
@@ -123,19 +123,19 @@ second_record bytes = record {
   abstain = long_at 48 bytes;
 }
 
--- the record that the numbers of a body make: of version 2 where it has 64 bytes
+-- the record with the numbers of a body: of version 2 if it has 64 bytes
 unfoldable pub record_in : List ℕ → Record
 record_in bytes = if length bytes == 64 then second_record bytes else first_record bytes
 
--- the version stands first, and there are as many bytes as its spelling has
+-- the version comes first, and there are as many bytes as in its spelling
 abbrev pub HasFormat : List ℕ → Type 0
 HasFormat bytes = ((length bytes ≡ 32) × (word_at 0 bytes ≡ 1)) ⊎ ((length bytes ≡ 64) × (word_at 0 bytes ≡ 2))
 
--- bytes are a record where they spell what is read of them
+-- bytes are a record if they spell what is read from them
 abbrev pub IsRecord : List ℕ → Type 0
 IsRecord bytes = bytes ≡ spelling (record_in bytes)
 
--- What reading gives: the record that is spelled so, another version than bytes of this size have, or torn.
+-- The result of reading: the record with this spelling, or a version that does not fit the number of bytes, or torn.
 abbrev pub Reads : List ℕ → Result Record RecordFault → Type 0
 Reads bytes (Ok kept) = Spells bytes kept
 Reads bytes (Err Version) =

@@ -1,4 +1,4 @@
-//! A disk: the bytes of one file, what a read gives of them, and what a crash may leave.
+//! A disk: the bytes of one file, what a read returns, and what a crash may leave.
 ghost use Rattle.std.specs.Prelude.{◌≡◌, ◌≤◌, List, ℕ, Bool, true, length, IfOk, OnOk};
 ghost use Rattle.booth_rec.specs.Disk.{IsRead, IsWritten, SameOutside, NoMore, Follows, Only, Elapses, HasCause};
 
@@ -11,13 +11,13 @@ pub struct DiskFault;
 
 /// The bytes of one file, which read as zeros past their end.
 ///
-/// A disk may tell nothing of its bytes: what a contract says of them is of a disk that tells, and what it says of
-/// the count of faults is of every disk.
+/// A disk may hide its bytes from contracts: a statement about them is about a disk that shows them, and a statement
+/// about the count of faults is about every disk.
 pub trait Disk {
-    /// Whether it tells of its bytes.
+    /// Whether contracts see its bytes.
     ghost tells: { Self → Bool };
 
-    /// What a read gives.
+    /// What a read returns.
     ghost seen: { Self → List ℕ };
 
     /// What a crash at this moment may leave.
@@ -32,7 +32,7 @@ pub trait Disk {
     /// How often a call has failed. It never falls, and stays at the greatest u64.
     ghost faults: { Self → ℕ };
 
-    /// Reads from this place on, and says how many bytes it gave. They are fewer where the file ends earlier.
+    /// Reads from this place on, and returns how many bytes it read. They are fewer if the file ends earlier.
     fn read(&mut self, at: u64, into: &mut [u8]) -> Result<usize, DiskFault>
         ensures tells { tells self.new ≡ tells self.old }
         ensures given { tells self.old ≡ true →
@@ -56,7 +56,7 @@ pub trait Disk {
             (left_since self.old) (left_since self.new) (may_leave self.new) }
         ensures cause { HasCause (faults self.old) (faults self.new) result };
 
-    /// Has all bytes be on the disk: after it, a crash leaves what a read gives.
+    /// Writes all bytes to the disk: after it, a crash leaves what a read returns.
     fn sync(&mut self) -> Result<(), DiskFault>
         ensures tells { tells self.new ≡ tells self.old }
         ensures durable { tells self.old ≡ true → OnOk result (Only (seen self.new) (may_leave self.new)) }
@@ -67,7 +67,7 @@ pub trait Disk {
             (left_since self.old) (left_since self.new) (may_leave self.new) }
         ensures cause { HasCause (faults self.old) (faults self.new) result };
 
-    /// What a read gives is one of the things that a crash may leave.
+    /// What a read returns is one of the things that a crash may leave.
     ghost may_leave_seen: { (disk : Self) → may_leave disk (seen disk) };
 
     /// This moment is one of those since an earlier one.

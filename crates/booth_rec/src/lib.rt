@@ -1,4 +1,4 @@
-//! Records: what a member keeps of a ticket, its one spelling in bytes, and the file of four slots that it is kept in.
+//! Records: what a member writes to disk for a ticket, its one spelling in bytes, and the file of four slots for it.
 #![tactic(auto)]
 
 mod disk;

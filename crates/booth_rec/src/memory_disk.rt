@@ -1,4 +1,4 @@
-//! A disk in memory. It keeps the calls that changed it, so a crash may leave all that the trait allows.
+//! A disk in memory. It stores the calls that changed it, so that a crash may leave all that the trait allows.
 ghost use Rattle.std.specs.Prelude.{refl, ◌≡◌, ◌⊎◌, ◌↔◌, ◌+◌, ◌-◌, ◌<◌, ◌≤◌, ◌++◌, ◌^◌, [], ◌∷◌, length, take, drop, min, max, true, nat_lt, IsTrue, IsOk, IsErr, IfOk, OnOk, OnErr, vec_len, vec_capacity};
 ghost use Rattle.booth_rec.specs.Spelling.{zeros};
 ghost use Rattle.booth_rec.specs.Disk.{IsRead, IsWritten, SameOutside, NoMore, Follows, Only, Elapses, HasCause, Rose};
@@ -10,13 +10,13 @@ use std::alloc::{AllocError, Global};
 /// The most bytes that one call writes.
 const WRITE_BYTES: usize = 128;
 
-/// The fewest bytes that there is room for.
+/// The least number of bytes for which there is room.
 const ROOM: usize = 4096;
 
 /// A call that changed the disk.
 #[derive(Clone, Copy)]
 enum Call {
-    /// These bytes were written at this place, so many of them.
+    /// These bytes were written at this place.
     Write {
         at: usize,
         bytes: [u8; WRITE_BYTES],
@@ -25,10 +25,10 @@ enum Call {
     Sync,
 }
 
-/// A disk in memory, which lets so many calls pass and fails at each one after them.
+/// A disk in memory, whose calls succeed up to a given number and fail after that.
 #[derive(Drop)]
 pub struct MemoryDisk {
-    /// What a read gives.
+    /// What a read returns.
     bytes: Vec<u8>,
     /// What it began with.
     first: Vec<u8>,
@@ -46,7 +46,7 @@ pub struct MemoryDisk {
     ghost enough: { passes ≤ vec_capacity calls },
 }
 
-// The call of a write.
+// Returns the call of a write.
 fn write_call(at: usize, bytes: &[u8]) -> Call
     requires { length bytes.now ≤ 128 }
     ensures { IsWriteOf at bytes.now result }
@@ -61,7 +61,7 @@ fn write_call(at: usize, bytes: &[u8]) -> Call
     }
 }
 
-// Adds zeros to a list that is shorter than this.
+// Appends zeros to a list that is shorter than this.
 #[tactic(auto, unfolding(crate::specs::Spelling::zeros))]
 fn reach(list: &mut Vec<u8>, end: usize)
     requires { end ≤ vec_capacity list.old }
@@ -94,7 +94,7 @@ fn overwrite(list: &mut Vec<u8>, at: usize, bytes: &[u8])
     put_within(list, at, bytes);
 }
 
-// Gives what stands from a place on, as much as there is room for.
+// Copies the bytes from a place on, as many as fit, and returns how many.
 fn give(bytes: &[u8], at: usize, into: &mut [u8]) -> usize
     ensures { IsRead bytes.now at result into.old into.new }
 {
@@ -109,8 +109,8 @@ fn give(bytes: &[u8], at: usize, into: &mut [u8]) -> usize
 impl MemoryDisk {
     ghost use Rattle.booth_rec.specs.MemoryDisk.{memory_seen, IsNew, Keeps, HasRoom};
 
-    /// A disk with these bytes, all of them on the disk. It takes all its memory now: for 4,096 bytes, or for these
-    /// where they are more, and for as many calls as pass, each with up to 128 written bytes.
+    /// Returns a disk with these bytes, all of them on the disk. It allocates all its memory now: for 4,096 bytes, or
+    /// for these if they are more, and for all calls that succeed, each with up to 128 written bytes.
     pub fn new(alloc: Global, bytes: &[u8], passes: u64) -> Result<MemoryDisk, AllocError>
         ensures { IfOk result (λ disk. IsNew disk bytes.now passes (length bytes.now)) }
     {
@@ -131,14 +131,14 @@ impl MemoryDisk {
         })
     }
 
-    /// What a read gives, all of it.
+    /// Returns all bytes that a read returns.
     pub fn bytes(&self) -> &[u8]
         ensures { result.now ≡ memory_seen self.now }
     {
         &self.bytes
     }
 
-    // Counts a call, and says whether it passes.
+    // Counts a call, and returns whether it succeeds.
     fn passes(&mut self) -> bool
         ensures answer { result ≡ nat_lt self.old.made self.old.passes }
         ensures made { self.new.made ≡ min (self.old.made + 1) (2 ^ 64 - 1) }
@@ -161,7 +161,7 @@ impl MemoryDisk {
         DiskFault
     }
 
-    // Whether a write of so many bytes at this place ends within the room.
+    // Returns whether a write of this many bytes at this place ends within the room.
     fn has_room(&self, at: u64, len: usize) -> bool
         ensures { IsTrue result ↔ HasRoom self.now at len }
     {

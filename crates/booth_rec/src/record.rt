@@ -1,4 +1,4 @@
-//! What a member keeps of a ticket, and the records that say nothing beyond term and lease.
+//! What a member writes to disk for a ticket, and records with a term and a lease only.
 ghost use Rattle.std.specs.Prelude.{◌≡◌};
 ghost use Rattle.booth_rec.specs.Record.{plain, first_plain, is_second, as_second};
 
@@ -7,18 +7,18 @@ use booth_base::MemberId;
 /// The version of records that have a term and perhaps a lease.
 pub(crate) const FIRST_VERSION: u32 = 1;
 
-/// The version of records that also say what the member is pledged to.
+/// The version of records that also have the member's pledge.
 pub(crate) const SECOND_VERSION: u32 = 2;
 
-/// A lease: the term in which it was gained, and the reading of the site's clock before which it
-/// is in force (milliseconds since 1970).
+/// A lease: the term in which it was gained, and the reading of the site's clock before which it is in force
+/// (milliseconds since 1970).
 #[derive(Clone, Copy, Debug, PartialEq, Eq)]
 pub struct Lease {
     pub term: u32,
     pub until: u64,
 }
 
-/// An answer that binds: while it is live no round of another member is answered.
+/// A promise: while it is live the member answers no round of another member.
 #[derive(Clone, Copy, Debug, PartialEq, Eq)]
 pub struct Promise {
     pub to: MemberId,
@@ -27,22 +27,23 @@ pub struct Promise {
     pub until: u64,
 }
 
-/// What a member keeps of a ticket. Where nothing was kept, a record of version 1 with term 0 stands for it.
+/// What a member writes to disk for a ticket. If nothing was written, a record of version 1 with term 0 stands for
+/// it.
 #[derive(Clone, Copy, Debug, PartialEq, Eq)]
 pub struct Record {
     /// 1 or 2. A record of version 1 has a term and perhaps a lease, and nothing else.
     pub version: u32,
     pub term: u32,
     pub lease: Option<Lease>,
-    /// The only member whose rounds of this term are answered.
+    /// The only member whose rounds of this term this member answers.
     pub bound: Option<MemberId>,
     pub promise: Option<Promise>,
-    /// At readings below this no round is answered.
+    /// The member answers no round at readings below this.
     pub abstain: u64,
 }
 
 impl Record {
-    /// The record of version 2 with this term and lease that pledges nothing.
+    /// Returns the record of version 2 with this term and lease, without a pledge.
     pub fn plain(term: u32, lease: Option<Lease>) -> Record
         ensures { result ≡ plain term lease }
     {
@@ -56,7 +57,7 @@ impl Record {
         }
     }
 
-    /// The record of version 1 with this term and lease: of what its member was pledged to it says nothing.
+    /// Returns the record of version 1 with this term and lease: it has no pledge.
     pub fn first(term: u32, lease: Option<Lease>) -> Record
         ensures { result ≡ first_plain term lease }
     {
@@ -66,14 +67,14 @@ impl Record {
         }
     }
 
-    /// Whether it is of version 2, and so says what its member is pledged to.
+    /// Returns whether it is of version 2, and so has its member's pledge.
     pub fn is_second(&self) -> bool
         ensures { result ≡ is_second self.now }
     {
         self.version == SECOND_VERSION
     }
 
-    /// The same as a record of version 2.
+    /// Returns the same record in version 2.
     pub(crate) fn as_second(&self) -> Record
         ensures { result ≡ as_second self.now }
     {

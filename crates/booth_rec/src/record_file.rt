@@ -1,4 +1,4 @@
-//! The four slots of a record file, as bytes: what they hold, and which of them is in force.
+//! The four slots of a record file, as bytes: their contents, and which of them is in force.
 ghost use Rattle.std.specs.Prelude.{◌≡◌, ◌+◌, ◌≤◌, length, IfOk, OnErr};
 ghost use Rattle.booth_rec.specs.Spelling.{Spells, IsRecord};
 ghost use Rattle.booth_rec.specs.RecordFile.{bytes_at, slot_at, HoldsRecord, IsWhole};
@@ -10,16 +10,16 @@ use crate::{Record, RecordFault};
 /// How many bytes the slots have, up to the end of the last record.
 pub(crate) const FILE_BYTES: usize = 336;
 
-/// What the commit byte of an open slot reads; each other byte closes the slot.
+/// The commit byte of an open slot; any other byte closes the slot.
 pub(crate) const OPEN: u8 = 1;
 
-/// Where a slot's number stands in it.
+/// The place of a slot's number in the slot.
 pub(crate) const NUMBER_AT: usize = 8;
 
-/// Where a slot's record stands in it.
+/// The place of a slot's record in the slot.
 pub(crate) const BODY_AT: usize = 16;
 
-/// Where the two slots of version 1 begin. They are read, and nothing is put there.
+/// The places of the two slots of version 1. They are read, and no put goes there.
 const OLD_FIRST: usize = 0;
 
 const OLD_SECOND: usize = 64;
@@ -31,21 +31,22 @@ pub(crate) enum Half {
     Second,
 }
 
-/// What an open slot holds.
+/// The content of an open slot.
 #[derive(Clone, Copy)]
 pub(crate) struct Held {
     pub number: u64,
     pub kept: Record,
 }
 
-/// The record that a file stands for, and its slot, which is none where that is one of version 1.
+/// The record for which a file stands, and its slot, which is none for one of version 1.
 #[derive(Clone, Copy)]
 pub(crate) struct Standing {
     pub half: Option<Half>,
     pub held: Held,
 }
 
-/// What is known of a file: the record that it stands for, if it stands for one, and which slots of version 2 are open.
+/// What is known about a file: the record for which it stands, if there is one, and which slots of version 2 are
+/// open.
 #[derive(Clone, Copy)]
 pub(crate) struct Holding {
     pub standing: Option<Standing>,
@@ -54,7 +55,7 @@ pub(crate) struct Holding {
 }
 
 impl Half {
-    /// Where the slot begins.
+    /// Returns the place of the slot.
     pub(crate) fn place(self) -> usize
         ensures { result ≡ place_of self }
     {
@@ -75,8 +76,8 @@ impl Half {
 }
 
 impl Holding {
-    /// The slot that the next put takes: one of version 2 that the file does not stand for, the first where it stands
-    /// for none of the two.
+    /// Returns the slot for the next put: one of version 2 that the file does not stand for, the first if it stands
+    /// for neither.
     pub(crate) fn spare(&self) -> Half
         ensures { result ≡ spare_of self.now.standing }
     {
@@ -91,7 +92,7 @@ impl Holding {
         }
     }
 
-    /// Whether a slot of version 2 is open.
+    /// Returns whether a slot of version 2 is open.
     pub(crate) fn is_open(&self, half: Half) -> bool
         ensures { result ≡ open_of self.now half }
     {
@@ -102,7 +103,7 @@ impl Holding {
     }
 }
 
-// The record of so many bytes at a place.
+// Returns the record with this many bytes at a place.
 fn record_at(bytes: &[u8], at: usize, size: usize) -> Result<Record, RecordFault>
     requires { at + size ≤ length bytes.now }
     ensures ok { IfOk result (Spells (bytes_at at size bytes.now)) }
@@ -111,8 +112,8 @@ fn record_at(bytes: &[u8], at: usize, size: usize) -> Result<Record, RecordFault
     Record::decode(&bytes[at..at + size])
 }
 
-// What the slot at a place holds, whose record has so many bytes, or none where it is closed; a fault where it is open
-// and holds no record.
+// Returns the content of the slot at a place, whose record has this many bytes, or none if it is closed; a fault if
+// it is open and has no record.
 fn held_at(bytes: &[u8], place: usize, size: usize) -> Result<Option<Held>, RecordFault>
     requires { place + 16 + size ≤ length bytes.now }
     ensures ok { IfOk result (Holds (slot_at place size bytes.now)) }
@@ -128,14 +129,14 @@ fn held_at(bytes: &[u8], place: usize, size: usize) -> Result<Option<Held>, Reco
     }
 }
 
-// A record that stands in this slot of version 2, or in one of version 1.
+// Returns a record that is in this slot of version 2, or in one of version 1.
 fn standing_in(half: Option<Half>, held: Option<Held>) -> Option<Standing>
     ensures { result ≡ standing_in half held }
 {
     held.map(|held| Standing { half, held })
 }
 
-// Of two records in slots the one with the greater number, the first where they are equal.
+// Returns the record in a slot with the greater number, the first if they are equal.
 fn newer(earlier: Option<Standing>, later: Option<Standing>) -> Option<Standing>
     ensures { result ≡ newer earlier later }
 {
@@ -146,7 +147,8 @@ fn newer(earlier: Option<Standing>, later: Option<Standing>) -> Option<Standing>
     }
 }
 
-// What is known of a file whose slots hold this: the two of version 1, then the two of version 2.
+// Returns what is known about a file whose slots have these contents: the two of version 1, then the two of version
+// 2.
 fn known_of(
     old_first: Option<Held>,
     old_second: Option<Held>,
@@ -167,7 +169,7 @@ fn known_of(
     }
 }
 
-/// What is known of a file with these bytes; a fault where an open slot holds no record.
+/// Returns what is known about a file with these bytes; a fault if an open slot has no record.
 pub(crate) fn holding_in(bytes: &[u8]) -> Result<Holding, RecordFault>
     requires { length bytes.now ≡ 336 }
     ensures ok { IfOk result (IsHolding bytes.now) }

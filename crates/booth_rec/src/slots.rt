@@ -4,8 +4,8 @@ ghost use Rattle.booth_rec.specs.Record.{is_second, as_second};
 ghost use Rattle.booth_rec.specs.Spelling.{FitsTypes, zeros};
 ghost use Rattle.booth_rec.specs.Disk.{IsWritten, SameOutside, NoMore, Only, LeavesOnly, Rose, HasCause};
 ghost use Rattle.booth_rec.specs.RecordFile.{stands_for, IsWhole};
-ghost use Rattle.booth_rec.specs.Holding.{place_of, spare_of, record_of, number_of, IsHolding};
-ghost use Rattle.booth_rec.specs.Slots.{ReadsAlike, next_number, StandsFor, IsOldOrNew, IsSettled, Blames, entry, Closes, Closing, after};
+ghost use Rattle.booth_rec.specs.Holding.{place_of, spare_of, record_of, number_of, open_of, IsHolding};
+ghost use Rattle.booth_rec.specs.Slots.{ReadsAlike, next_number, StandsFor, IsOldOrNew, IsSettled, Blames, entry, Closes, Closing, after, closed_after};
 ghost use Rattle.booth_rec.specs.declared.slots.PutFault.{PutFault};
 ghost use Rattle.booth_rec.specs.declared.slots.ReopenFault.{ReopenFault};
 
@@ -19,12 +19,12 @@ use thiserror::Error;
 /// How many bytes a number and a record have in a slot.
 const ENTRY_BYTES: usize = BODY_AT - NUMBER_AT + SECOND_BYTES;
 
-/// Why a record file was not opened; the disk is handed back.
+/// Why a record file was not opened; the disk is returned.
 #[derive(Drop)]
 pub enum OpenFault<D> {
     /// A call of the disk failed.
     Disk(D),
-    /// An open slot holds no record.
+    /// An open slot has no record.
     Torn(D),
 }
 
@@ -48,7 +48,7 @@ pub enum PutFault {
     Disk,
 }
 
-/// A record file that is open: the record that it stands for, and where the next one goes.
+/// An open record file: the record for which it stands, and the place of the next one.
 #[derive(Drop)]
 pub struct Slots<D: Disk> {
     disk: D,
@@ -59,7 +59,7 @@ pub struct Slots<D: Disk> {
         IsSettled (D.seen disk) (D.may_leave disk) holding },
 }
 
-// Writes these bytes and has them be on the disk.
+// Writes these bytes, and syncs the disk.
 fn write_through<D: Disk>(disk: &mut D, at: u64, bytes: &[u8]) -> Result<(), DiskFault>
     requires { D.tells disk.old ≡ true → Only (D.seen disk.old) (D.may_leave disk.old) }
     ensures tells { D.tells disk.new ≡ D.tells disk.old }
@@ -74,8 +74,8 @@ fn write_through<D: Disk>(disk: &mut D, at: u64, bytes: &[u8]) -> Result<(), Dis
     disk.sync()
 }
 
-// Closes a slot that is open. A byte that reads as closed is not written: until the sync it may hold anything, and the
-// bytes behind it may be no record.
+// Closes an open slot. A byte that reads as closed is not written: until the sync it may hold anything, and the bytes
+// after it may be no record.
 fn close<D: Disk>(disk: &mut D, half: Half, is_open: bool) -> Result<(), DiskFault>
     requires { D.tells disk.old ≡ true → Only (D.seen disk.old) (D.may_leave disk.old) }
     ensures tells { D.tells disk.new ≡ D.tells disk.old }
@@ -93,7 +93,7 @@ fn close<D: Disk>(disk: &mut D, half: Half, is_open: bool) -> Result<(), DiskFau
     }
 }
 
-// A number and a record, as they stand in a slot.
+// Returns a number and a record, in the form of a slot.
 fn entry_of(number: u64, rec: Record) -> [u8; ENTRY_BYTES]
     requires { is_second rec ≡ true }
     ensures bytes { result ≡ entry number rec }
@@ -136,8 +136,8 @@ fn commit<D: Disk>(disk: &mut D, half: Half) -> Result<(), DiskFault>
     write_through(disk, half.place() as u64, &[OPEN])
 }
 
-// Puts a record into the slot that the file does not stand for: the slot is closed, filled and opened, and each step is
-// on the disk before the next begins.
+// Puts a record into the slot that is not in force: closes the slot, fills it and opens it, and syncs each step before
+// the next one begins.
 fn store<D: Disk>(
     disk: &mut D,
     holding: &Holding,
@@ -160,7 +160,7 @@ fn store<D: Disk>(
     commit(disk, half)
 }
 
-// What is known of a file after a record was put.
+// Returns what is known about a file after a put.
 fn holding_after(holding: &Holding, number: u64, rec: &Record) -> Holding
     ensures { result ≡ after holding.now number rec.now }
 {
@@ -175,7 +175,34 @@ fn holding_after(holding: &Holding, number: u64, rec: &Record) -> Holding
     }
 }
 
-// The bytes of a file before anything is read.
+// Closes the slot of the next put.
+fn close_spare<D: Disk>(disk: &mut D, holding: &Holding, number: u64) -> Result<(), DiskFault>
+    requires settled { D.tells disk.old ≡ true → IsSettled (D.seen disk.old) (D.may_leave disk.old) holding.now }
+    requires next { next_number (number_of holding.now.standing) ≡ Some number }
+    ensures tells { D.tells disk.new ≡ D.tells disk.old }
+    ensures closed { D.tells disk.old ≡ true → OnOk result (IsSettled (D.seen disk.new) (D.may_leave disk.new)
+        (closed_after holding.now)) }
+    ensures any_moment { D.tells disk.old ≡ true → LeavesOnly D.moment D.left_since disk.old disk.new
+        (StandsFor (record_of holding.now.standing)) }
+    ensures cause { HasCause (D.faults disk.old) (D.faults disk.new) result }
+{
+    let half = holding.spare();
+    close(disk, half, holding.is_open(half))
+}
+
+// Returns what is known about a file after its spare slot was closed.
+fn holding_closed(holding: &Holding) -> Holding
+    ensures { result ≡ closed_after holding.now }
+{
+    let half = holding.spare();
+    Holding {
+        standing: holding.standing,
+        first_is_open: holding.first_is_open && half != Half::First,
+        second_is_open: holding.second_is_open && half != Half::Second,
+    }
+}
+
+// Returns the bytes of a file before anything is read.
 #[tactic(auto, unfolding(crate::specs::Spelling::zeros))]
 fn blank() -> [u8; FILE_BYTES]
     ensures { result ≡ zeros 336 }
@@ -183,7 +210,7 @@ fn blank() -> [u8; FILE_BYTES]
     [0; FILE_BYTES]
 }
 
-// The bytes of all slots, all of them on the disk: what an earlier process wrote may not be there before the sync.
+// Reads the bytes of all slots, after a sync: what an earlier process wrote may not be on the disk before that.
 fn read_slots<D: Disk>(disk: &mut D) -> Result<[u8; FILE_BYTES], DiskFault>
     ensures tells { D.tells disk.new ≡ D.tells disk.old }
     ensures bytes { D.tells disk.old ≡ true → IfOk result (λ bytes. ReadsAlike bytes (D.seen disk.old)) }
@@ -200,7 +227,7 @@ fn read_slots<D: Disk>(disk: &mut D) -> Result<[u8; FILE_BYTES], DiskFault>
     Ok(bytes)
 }
 
-// Reads what a file holds.
+// Reads the content of a file.
 fn look<D: Disk>(disk: &mut D) -> Result<Holding, ReopenFault>
     ensures tells { D.tells disk.new ≡ D.tells disk.old }
     ensures found { D.tells disk.old ≡ true → IfOk result (λ holding.
@@ -222,7 +249,7 @@ fn look<D: Disk>(disk: &mut D) -> Result<Holding, ReopenFault>
     }
 }
 
-// The number of the next record, or none where the last was used.
+// Returns the number of the next record, or none if the last one was used.
 fn number_after(standing: Option<Standing>) -> Option<u64>
     ensures { result ≡ next_number (number_of standing) }
 {
@@ -233,12 +260,16 @@ fn number_after(standing: Option<Standing>) -> Option<u64>
 }
 
 impl<D: Disk> Slots<D> {
-    /// Opens a record file. A crash at any moment of it leaves what a crash before it might have left.
+    /// Opens a record file. A crash at any moment of the open leaves only what a crash before the open might have left.
+    ///
+    /// # Errors
+    ///
+    /// `Torn` if an open slot has no record; `Disk` if a call of the disk failed.
     pub fn open(disk: D) -> Result<Slots<D>, OpenFault<D>>
         ensures opened { IfOk result (λ slots. slots.has_failed ≡ false) }
         ensures stands { IfOk result (λ slots. D.tells disk ≡ true → (D.tells slots.disk ≡ true)
             × (D.seen slots.disk ≡ D.seen disk) × StandsFor (record_of slots.holding.standing) (D.seen disk)) }
-        // Each fault comes for its cause: an open slot that holds no record, or a call of the disk that failed.
+        // Each fault has its cause: an open slot without a record, or a call of the disk that failed.
         ensures fault { IfErr result (λ fault. Blames fault
             (λ failed. Rose (D.faults disk) (D.faults failed))
             (λ torn. D.tells disk ≡ true → (D.seen torn ≡ D.seen disk) × (IsWhole (D.seen disk) → ⊥))) }
@@ -261,8 +292,8 @@ impl<D: Disk> Slots<D> {
         }
     }
 
-    /// The record that the file stands for, and none where no slot is open. After a put that failed, and until the file
-    /// is opened again, it is the record before that put.
+    /// Returns the record for which the file stands, and none if no slot is open. After a put that failed, and until
+    /// the file is opened again, it is the record before that put.
     pub fn record(&self) -> Option<Record>
         ensures kept { result ≡ record_of self.now.holding.standing }
         ensures stands { self.now.has_failed ≡ false → D.tells self.now.disk ≡ true →
@@ -271,15 +302,15 @@ impl<D: Disk> Slots<D> {
         self.holding.standing.map(|standing| standing.held.kept)
     }
 
-    /// The disk of the file.
+    /// Returns the disk of the file.
     pub fn disk(&self) -> &D
         ensures { result.now ≡ self.now.disk }
     {
         &self.disk
     }
 
-    /// Puts a record in the place of the one before, as a record of version 2. A crash at any moment of it leaves a
-    /// file that stands for the record before or for the new one.
+    /// Puts a record in place of the one before, as a record of version 2. A crash at any moment of it leaves a file
+    /// that stands for the old record or for the new one.
     pub fn put(&mut self, rec: &Record) -> Result<(), PutFault>
         // Which fault it is.
         ensures again { IsErrOf result PutFault.Again ↔ (self.old.has_failed ≡ true) }
@@ -291,7 +322,7 @@ impl<D: Disk> Slots<D> {
         ensures unchanged { IsErrOf result PutFault.Again → self.new ≡ self.old }
         ensures later { D.faults self.old.disk ≤ D.faults self.new.disk }
         ensures tells { D.tells self.new.disk ≡ D.tells self.old.disk }
-        // What the store says then.
+        // What the store states then.
         ensures kept { OnOk result ((self.new.has_failed ≡ false)
             × (record_of self.new.holding.standing ≡ Some (as_second rec.now))
             × (number_of self.new.holding.standing ≡ next_number (number_of self.old.holding.standing))) }
@@ -324,8 +355,49 @@ impl<D: Disk> Slots<D> {
         }
     }
 
-    /// Opens the file again, after which puts are taken again. A crash at any moment of it leaves what a crash before
-    /// it might have left.
+    /// Closes the slot of the next put ahead of time, so that this put has one sync less. The file stands for the same
+    /// record before and after, and after a crash at any moment of the call.
+    pub fn prepare(&mut self) -> Result<(), PutFault>
+        // Which fault it is.
+        ensures again { IsErrOf result PutFault.Again ↔ (self.old.has_failed ≡ true) }
+        ensures spent { IsErrOf result PutFault.Spent ↔
+            (self.old.has_failed ≡ false) × (next_number (number_of self.old.holding.standing) ≡ None) }
+        ensures failed { IsErrOf result PutFault.Disk →
+            (self.new.has_failed ≡ true) × Rose (D.faults self.old.disk) (D.faults self.new.disk) }
+        ensures spared { IsErrOf result PutFault.Spent → self.new ≡ self.old }
+        ensures unchanged { IsErrOf result PutFault.Again → self.new ≡ self.old }
+        ensures later { D.faults self.old.disk ≤ D.faults self.new.disk }
+        ensures tells { D.tells self.new.disk ≡ D.tells self.old.disk }
+        ensures same { self.new.holding.standing ≡ self.old.holding.standing }
+        ensures closed { OnOk result ((self.new.has_failed ≡ false)
+            × (open_of self.new.holding (spare_of self.new.holding.standing) ≡ false)) }
+        // What a crash leaves: within the call, and after it.
+        ensures any_moment { self.old.has_failed ≡ false → D.tells self.old.disk ≡ true →
+            LeavesOnly D.moment D.left_since self.old.disk self.new.disk
+            (StandsFor (record_of self.old.holding.standing)) }
+        ensures durable { D.tells self.old.disk ≡ true →
+            OnOk result ((c : List ℕ) → D.may_leave self.new.disk c → StandsFor (record_of self.new.holding.standing) c) }
+    {
+        if self.has_failed {
+            return Err(PutFault::Again);
+        }
+        let Some(number) = number_after(self.holding.standing) else {
+            return Err(PutFault::Spent);
+        };
+        match close_spare(&mut self.disk, &self.holding, number) {
+            Ok(()) => {
+                self.holding = holding_closed(&self.holding);
+                Ok(())
+            }
+            Err(DiskFault) => {
+                self.has_failed = true;
+                Err(PutFault::Disk)
+            }
+        }
+    }
+
+    /// Opens the file again, after which puts are possible again. A crash at any moment of it leaves what a crash
+    /// before it might have left.
     pub fn reopen(&mut self) -> Result<(), ReopenFault>
         ensures opened { OnOk result (self.new.has_failed ≡ false) }
         ensures stands { D.tells self.old.disk ≡ true → OnOk result ((D.seen self.new.disk ≡ D.seen self.old.disk)

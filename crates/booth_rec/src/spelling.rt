@@ -1,4 +1,4 @@
-//! The one spelling of a record: 32 bytes of version 1, 64 of version 2. Numbers stand in network order.
+//! The one spelling of a record: 32 bytes in version 1, 64 in version 2. Numbers are in network byte order.
 ghost use Rattle.std.specs.Prelude.{◌≡◌, ◌⊎◌, ◌+◌, ◌<◌, ◌≤◌, ◌==◌, ◌↔◌, true, length, IsTrue, Ok};
 ghost use Rattle.std.specs.Int.{bit_at};
 ghost use Rattle.booth_rec.specs.Record.{is_second};
@@ -15,7 +15,7 @@ pub(crate) const FIRST_BYTES: usize = 32;
 /// How many bytes spell a record of version 2.
 pub(crate) const SECOND_BYTES: usize = 64;
 
-/// The places of the flags that say what a record has.
+/// The places of the flags for the parts of a record.
 const LEASE: u32 = 0;
 
 const BOUND: u32 = 1;
@@ -32,7 +32,7 @@ pub enum RecordFault {
 }
 
 impl Record {
-    /// The one spelling of a record of version 2.
+    /// Returns the one spelling of a record of version 2.
     pub fn encode(&self) -> [u8; 64]
         requires { is_second self.now ≡ true }
         ensures { result ≡ spelling self.now }
@@ -43,8 +43,12 @@ impl Record {
         bytes
     }
 
-    /// The record that the bytes spell, or the first fault: Torn where there are neither 32 nor 64 bytes, Version where
-    /// the version is not 1 of 32 bytes or 2 of 64, Torn where the bytes are no record's spelling.
+    /// Returns the record that the bytes spell.
+    ///
+    /// # Errors
+    ///
+    /// The first fault: Torn if there are neither 32 nor 64 bytes, Version if the version is not 1 in 32 bytes or 2
+    /// in 64, Torn if the bytes spell no record.
     pub fn decode(bytes: &[u8]) -> Result<Record, RecordFault>
         ensures reads { Reads bytes.now result }
         ensures again { (kept : Record) → Spells bytes.now kept → result ≡ Ok kept }
@@ -63,7 +67,7 @@ impl Record {
         }
     }
 
-    // The spelling of a record of version 1: its term and its lease.
+    // Returns the spelling of a record of version 1: its term and its lease.
     fn encode_first(&self) -> [u8; 32]
         ensures { result ≡ first_spelling self.now }
     {
@@ -72,7 +76,7 @@ impl Record {
         bytes
     }
 
-    // What both versions begin with: the version, the term, the flags and the lease.
+    // Returns the start of both versions: the version, the term, the flags and the lease.
     fn head(&self, version: u32, bits: u32) -> [u8; 24]
         ensures { result ≡ head version bits self.now }
     {
@@ -84,7 +88,7 @@ impl Record {
         bytes
     }
 
-    // What stands behind the lease in version 2: the bound, the promise, the end of the abstention, and 8 zeros.
+    // Returns what follows the lease in version 2: the vote, the promise, the end of the abstention, and 8 zeros.
     fn pledge_fields(&self) -> [u8; 40]
         ensures { result ≡ pledge_fields self.now }
     {
@@ -105,7 +109,7 @@ impl Record {
         }
     }
 
-    // Which of lease, bound and promise there are.
+    // Returns which of lease, vote and promise there are.
     fn flags(&self) -> u32
         ensures { result ≡ flags self.now }
     {
@@ -115,7 +119,7 @@ impl Record {
     }
 }
 
-// The term of a lease and its end; zeros without a lease.
+// Returns the term of a lease and its end; zeros without a lease.
 fn lease_fields(lease: Option<Lease>) -> [u8; 12]
     ensures { result ≡ lease_fields lease }
 {
@@ -127,7 +131,7 @@ fn lease_fields(lease: Option<Lease>) -> [u8; 12]
     bytes
 }
 
-// The member whose rounds alone are answered; zeros where there is none.
+// Returns the only member whose rounds the member answers; zeros if there is none.
 fn bound_field(bound: Option<MemberId>) -> [u8; 4]
     ensures { result ≡ bound_field bound }
 {
@@ -137,7 +141,7 @@ fn bound_field(bound: Option<MemberId>) -> [u8; 4]
     }
 }
 
-// To whom a promise is, its term, four zeros, and its end; zeros without a promise.
+// Returns the member of a promise, its term, four zeros, and its end; zeros without a promise.
 fn promise_fields(promise: Option<Promise>) -> [u8; 20]
     ensures { result ≡ promise_fields promise }
 {
@@ -150,7 +154,7 @@ fn promise_fields(promise: Option<Promise>) -> [u8; 20]
     bytes
 }
 
-// The number of 4 bytes at a place.
+// Returns the number of 4 bytes at a place.
 fn word_at(bytes: &[u8], at: usize) -> u32
     requires { at + 4 ≤ length bytes.now }
     ensures { result ≡ word_at at bytes.now }
@@ -158,7 +162,7 @@ fn word_at(bytes: &[u8], at: usize) -> u32
     u32::from_be_bytes([bytes[at], bytes[at + 1], bytes[at + 2], bytes[at + 3]])
 }
 
-/// The number of 8 bytes at a place.
+/// Returns the number of 8 bytes at a place.
 pub(crate) fn long_at(bytes: &[u8], at: usize) -> u64
     requires { at + 8 ≤ length bytes.now }
     ensures { result ≡ long_at at bytes.now }
@@ -175,7 +179,7 @@ pub(crate) fn long_at(bytes: &[u8], at: usize) -> u64
     ])
 }
 
-// Whether the flag of this place is set.
+// Returns whether the flag at this place is set.
 fn has_flag(bytes: &[u8], place: u32) -> bool
     requires long { 12 ≤ length bytes.now }
     requires place { place < 32 }
@@ -212,7 +216,7 @@ fn promise_in(bytes: &[u8]) -> Option<Promise>
     })
 }
 
-// The record that the numbers make: of version 2 where there are 64 bytes.
+// Returns the record with these numbers: of version 2 if there are 64 bytes.
 fn record_in(bytes: &[u8]) -> Record
     requires { (length bytes.now ≡ 32) ⊎ (length bytes.now ≡ 64) }
     ensures same { result ≡ record_in bytes.now }
