@@ -8,12 +8,14 @@ import subprocess
 import time
 
 from members import MANUAL, SECONDS_OF_BOOTH, Ran, now, wait_for
-from stories import BY_HAND, NAME, PATIENCE, is_held_by, passed, require, says, slack, story
+from show_stories import shown_by
+from stories import BY_HAND, NAME, PATIENCE, grants, is_held_by, passed, require, says, slack, story
 
 # What a site's handler does: it notes each run and its descriptors, and then prints, sleeps or fails if a file says so.
 HANDLER = """#!/bin/sh
 cd {folder}
 echo "$BOOTH_TICKET $BOOTH_TICKET_EXPIRES $1" >> "ran.$BOOTH_LOCAL"
+echo "$BOOTH_TICKET_EXPIRES ${{BOOTH_TICKET_TERM-none}}" >> "terms.$BOOTH_LOCAL"
 ls -l "/proc/$$/fd" > "descriptors.$BOOTH_LOCAL"
 echo $$ > "pid.$BOOTH_LOCAL"
 if [ -e "prints.$BOOTH_LOCAL" ]; then set -e; echo checking; echo checking >&2; fi
@@ -64,6 +66,11 @@ class Handler:
     def runs(self):
         """What each of its runs was told: the ticket, the end of its lease, and its word."""
         return [line.split() for line in self.read("ran").splitlines()]
+
+    def terms(self):
+        """The terms that it was told before an acquisition, and those before a renewal."""
+        told = [line.split() for line in self.read("terms").splitlines()]
+        return [term for end, term in told if end == "0"], [term for end, term in told if end != "0"]
 
     def is_running(self):
         return os.path.exists(f"/proc/{self.read('pid').strip()}")
@@ -151,6 +158,34 @@ def sites_with_a_handler(cluster):
     says(two, ("grant", "-w", NAME), 0, f"ticket {NAME} granted\n")
     require(not os.path.exists(f"/proc/{pid.strip()}"), "the handler that ran on runs still")
     passed("a lease ends whose handler runs on, and that one is ended before the next start")
+
+
+@story
+def a_handler_and_the_term_of_its_lease(cluster):
+    """a cluster whose handler is told the term of the lease"""
+    one, handler = cluster.members[0], Handler(cluster, cluster.members[0])
+    in_a_renewal = cluster.times.renewal + slack()
+    cluster.remember()
+    cluster.start()
+    grants(cluster, 0)
+    first = shown_by(one)["term"]
+    require(wait_for(lambda: handler.terms()[1], in_a_renewal), "no renewal started the handler")
+    acquired, renewed = handler.terms()
+    # (an acquisition may need a second election, and each has a run of the handler)
+    require(set(acquired) == {"0"} and renewed == [f"{first}"], f"the lease of term {first}, and told {handler.terms()}")
+    passed("a handler is told the term 0 before an acquisition, and before a renewal the one that booth shows")
+
+    one.kill()
+    one.start(cluster.program, cluster.conf)
+    # (the first renewal of a daemon that was started again has a new term)
+    shown = wait_for(lambda: (term := shown_by(one)["term"]) not in (None, first) and term, in_a_renewal)
+    require(shown, "the lease has no new term")
+    before = handler.terms()[1]
+    require(wait_for(lambda: len(handler.terms()[1]) > len(before), in_a_renewal), "no renewal started the handler")
+    require(len(before) > 1 and set(before) == {f"{first}"}, f"the lease of term {first}, and told {before}")
+    last = handler.terms()
+    require(last == (acquired, [*before, f"{shown}"]), f"the lease of term {shown}, and told {last}")
+    passed(f"after a restart it is told the term of the lease on the disk, {first}, and then that of the new one, {shown}")
 
 
 def lists_by_hand(cluster, owner):

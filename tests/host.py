@@ -18,7 +18,7 @@ sys.path.insert(0, f"{TOP}/tests")
 from host_handlers import CHECKS as HANDLER_CHECKS
 from host_lines import CHECKS as LINE_CHECKS
 from host_peers import CHECKS as PEER_CHECKS
-from real_host import FILE, Host, Wrong, first, plain, require
+from real_host import FILE, LOOPBACK, Host, Wrong, first, plain, require
 from row_driver import Unplayed
 from scratch import scratch
 
@@ -29,6 +29,12 @@ HOUR = 3_600_000
 def mode(path: str) -> int:
     """Returns who may do what with a file."""
     return os.stat(path).st_mode & 0o777
+
+
+def content(path: str) -> bytes:
+    """Returns the bytes of a file."""
+    with open(path, "rb") as file:
+        return file.read()
 
 
 @contextlib.contextmanager
@@ -123,8 +129,37 @@ def the_next_record_goes_into_the_other_slot(folder: str) -> None:
         second, third = slot(2, 2, 8), slot(3, 2, 9)[:80]
         for term, slots in ((8, second[:80]), (9, second + third), (10, slot(4, 2, 10) + third)):
             require(host.keep(plain(term)) and host.kept() == plain(term), f"term {term}")
-            with open(path, "rb") as file:
-                require(file.read() == old + slots, f"the file of term {term}")
+            require(content(path) == old + slots, f"the file of term {term}")
+
+
+def the_slot_of_the_next_record_is_closed_ahead(folder: str) -> None:
+    """By a call in which nothing comes, that may wait. All else of the file stays, and so does the record."""
+    path = f"{folder}/records/{FILE}"
+    with Host(folder) as host, Host(folder) as other:
+        peer = host.open_somewhere(LOOPBACK, "records")
+        require(other.open(LOOPBACK) and host.keep(plain(8)) and host.keep(plain(9)), "it is not kept")
+        older, last = bytes(128) + slot(1, 2, 8), slot(2, 2, 9)[:80]
+        require(host.next(0) == "quiet" and content(path) == older + last, "a call that may not wait")
+        require(other.send(peer, b"x" * 48) and host.heard().content == b"x" * 48, "a datagram that waits")
+        require(content(path) == older + last, "a call that brings a datagram")
+        require(host.next(5000) == "quiet", "a call in which nothing comes")
+        require(content(path) == bytes(128) + b"\0" + slot(1, 2, 8)[1:] + last, "the slot is not closed")
+        require(host.kept() == plain(9) and host.keep(plain(10)) and host.kept() == plain(10), "the next record")
+        require(content(path) == bytes(128) + slot(3, 2, 10) + last, "it is in another slot")
+
+
+def a_file_that_changed_is_not_prepared(folder: str) -> None:
+    """One that is gone is not made, and one that is torn stays as it is. The next keep of it has its answer."""
+    path, torn = f"{folder}/records/{FILE}", b"\1" + bytes(63)
+    with opened(folder, "records") as host:
+        require(host.keep(plain(8)) and host.keep(plain(9)), "it is not kept")
+        os.remove(path)
+        require(host.next(5000) == "quiet" and not os.path.exists(path), "one that is gone")
+        require(host.keep(plain(10)) and host.keep(plain(11)), "the next one")
+        with open(path, "wb") as file:
+            file.write(torn)
+        require(host.next(5000) == "quiet" and content(path) == torn, "one that is torn")
+        require(not host.keep(plain(12)), "it is kept in a torn file")
 
 
 def records_are_made_for_their_owner(folder: str) -> None:
@@ -289,6 +324,8 @@ CHECKS = (
     a_kept_record_is_read_by_another_host,
     a_commit_byte_before_no_record_is_a_failure,
     the_next_record_goes_into_the_other_slot,
+    the_slot_of_the_next_record_is_closed_ahead,
+    a_file_that_changed_is_not_prepared,
     records_are_made_for_their_owner,
     a_directory_that_was_there_is_kept_in,
     a_record_that_has_no_place_is_a_failure,

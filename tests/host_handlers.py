@@ -5,9 +5,11 @@ import os
 import time
 from typing import Callable, Iterator, Tuple
 
-from real_host import Host, Wrong, require
+from real_host import FILE, Host, Wrong, plain, require
 
 CONF = "/etc/booth/cluster-a.conf"
+# when a lease ends, in milliseconds since 1970
+UNTIL = 1_700_000_600_000
 # the words of a job's program, and the arguments and the term that it then has beside others of its ticket
 TERMS = [
     ("a renew 5 term=7", "a renew 5 7"),
@@ -100,13 +102,14 @@ def a_directory_without_programs_refuses_nothing(folder: str) -> None:
 
 
 def a_program_knows_what_it_is_run_for(folder: str) -> None:
-    """Six variables, the arguments, an empty standard input, and no other descriptor."""
+    """Seven variables, the arguments, an empty standard input, and no other descriptor."""
     script = "env | grep '^BOOTH_' | sort > seen; echo $# $1 $2 >> seen; cat; ls /proc/self/fd | wc -l >> seen"
     write_script(f"{folder}/sees", script)
     require(status(folder, "sees\tone   two ") == 0, "another status")
     wanted = (
         "BOOTH_CONF_NAME=cluster-a\nBOOTH_CONF_PATH=/etc/booth/cluster-a.conf\nBOOTH_LOCAL=192.168.201.100\n"
-        "BOOTH_TICKET=ticket-db8\nBOOTH_TICKET_EXPIRES=1700000600\nBOOTH_TICKET_LEFT=0\n2 one two\n4\n"
+        "BOOTH_TICKET=ticket-db8\nBOOTH_TICKET_EXPIRES=1700000600\nBOOTH_TICKET_LEFT=0\nBOOTH_TICKET_TERM=0\n"
+        "2 one two\n4\n"
     )
     require(content(f"{folder}/seen") == wanted, content(f"{folder}/seen"))
 
@@ -125,6 +128,44 @@ def a_program_knows_how_long_its_lease_runs(folder: str) -> None:
     require(58_000 < first <= 60_000, f"{first} ms are left of a minute")
     require(250 <= first - second < 10_000, f"{first} ms are left, and then {second}")
     require(others == [0, 0], f"{others} ms are left of no lease")
+
+
+def told_term(folder: str, host: Host, expires: int) -> int:
+    """Returns the term that a handler is told whose lease ends in this second."""
+    require(host.start(1, "./tells", expires) and over(host) == (1, 0), "it is not run")
+    return int(content(f"{folder}/term"))
+
+
+def check_terms(folder: str, host: Host, term: int, what: str) -> None:
+    """Checks that a handler is told this term before a renewal, and none before an acquisition."""
+    told = [told_term(folder, host, expires) for expires in (0, UNTIL // 1000)]
+    require(told == [0, term], f"{what}: {told}")
+
+
+def a_program_has_the_term_of_the_lease_that_was_kept_last(folder: str) -> None:
+    """A lease counts though its record is not kept, and its end only once that is kept. No record has none."""
+    write_script(f"{folder}/tells", "echo $BOOTH_TICKET_TERM >term")
+    path = f"{folder}/records/{FILE}"
+    with Host(folder) as host:
+        require(host.open(records="records", conf=CONF) and host.kept() == "none", "it is not opened")
+        check_terms(folder, host, 0, "no record")
+        for record, term in ((plain(7, UNTIL), 7), (f"2 9 8 {UNTIL} - - - - 0", 8), (plain(10), 0)):
+            require(host.keep(record), f"{record} is not kept")
+            check_terms(folder, host, term, record)
+        require(host.keep(plain(11, UNTIL)), "it is not kept")
+        os.rename(path, f"{folder}/aside")
+        os.mkdir(path)
+        require(not host.keep(plain(12)), "it is kept in a directory")
+        check_terms(folder, host, 11, "the end of a lease is not kept")
+        require(not host.keep(plain(13, UNTIL)), "it is kept in a directory")
+        check_terms(folder, host, 13, "a lease is not kept")
+        os.rmdir(path)
+        os.rename(f"{folder}/aside", path)
+    with Host(folder) as host:
+        require(host.open(records="records", conf=CONF), "it is not opened again")
+        check_terms(folder, host, 0, "nothing was read")
+        require(host.kept() == plain(11, UNTIL), "another record")
+        check_terms(folder, host, 11, "a record was read")
 
 
 def process(folder: str, words: str) -> int:
@@ -183,7 +224,7 @@ def a_program_beside_others_has_the_term_of_its_lease(folder: str) -> None:
     write_script(f"{folder}/program", 'echo "$* ${BOOTH_TICKET_TERM-none}" >said')
     with opened(folder) as host:
         require(host.start(1, "./program start term=7") and over(host) == (1, 0), "a handler")
-        require(content(f"{folder}/said") == "start term=7 none\n", f"a handler said {content(f'{folder}/said')}")
+        require(content(f"{folder}/said") == "start term=7 0\n", f"a handler said {content(f'{folder}/said')}")
         host.run_beside()
         for number, (words, said) in enumerate(TERMS, 2):
             require(host.start(number, f"./program {words}") and over(host) == (number, 0), words)
@@ -238,6 +279,7 @@ CHECKS: Tuple[Callable[[str], None], ...] = (
     a_directory_without_programs_refuses_nothing,
     a_program_knows_what_it_is_run_for,
     a_program_knows_how_long_its_lease_runs,
+    a_program_has_the_term_of_the_lease_that_was_kept_last,
     a_program_of_a_word_runs_beside_another,
     a_program_beside_others_has_the_term_of_its_lease,
     without_such_a_word_each_ends_the_one_before,

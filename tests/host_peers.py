@@ -1,8 +1,14 @@
-"""Checks of the real host's datagrams: whom it hears and reaches, in both families, and in which order."""
+"""Checks the real host's datagrams: from whom it receives, whom it reaches, in both families, and in which order."""
 
-from typing import Callable, Tuple
+import contextlib
+import socket
+import struct
+import time
+from typing import Callable, Iterator, List, Tuple
 
-from real_host import LOOPBACK, LOOPBACK_6, OTHER_LOOPBACK, Host, Peer, carried, plain, require
+from real_host import (
+    LOOPBACK, LOOPBACK_6, OTHER_LOOPBACK, THIRD_LOOPBACK, Host, Peer, carried, plain, require,
+)  # fmt: skip
 
 
 def a_host_without_an_address_reaches_both_families(folder: str) -> None:
@@ -160,6 +166,107 @@ def the_backlog_has_a_bound_in_bytes(folder: str) -> None:
     check_load(folder, LONG_ROUNDS, LONG_EACH, LONG_BYTES, keep)
 
 
+# a flood of one member: more than the backlog has room for, in rounds that the system has room for; then what another
+# member sends meanwhile. Each of the two may fill half of the backlog, and what is over waits in the system.
+FLOOD_ROUNDS, FLOOD_EACH, CALM_ROUNDS, CALM_EACH = 270, 64, 20, 20
+HALF_OF_THE_BACKLOG = 8_192
+
+
+@contextlib.contextmanager
+def three_members(folder: str) -> Iterator[Tuple[Host, Peer, Host, Host]]:
+    """Gives a host that keeps records, its place, and two hosts that it expects, at the same port."""
+    with Host(folder) as member, Host(folder) as other, Host(folder) as third:
+        for address in (LOOPBACK, OTHER_LOOPBACK, THIRD_LOOPBACK):
+            member.expect(address)
+        at = member.open_somewhere(LOOPBACK, "records")
+        require(other.open(OTHER_LOOPBACK, at.port) and third.open(THIRD_LOOPBACK, at.port), "the port is not free")
+        yield member, at, other, third
+
+
+def send_numbers(sender: Host, to: Peer, first: int, count: int) -> None:
+    """Sends so many numbers from this one on."""
+    for number in range(first, first + count):
+        require(sender.send(to, number.to_bytes(4, "big")), f"{number} is not sent")
+
+
+def heard_numbers(member: Host) -> List[Tuple[str, int]]:
+    """Returns the numbers that come, each with the address of its sender, until none comes."""
+    found = []
+    while True:
+        word, *given = member.next(50).split(" ")
+        if word != "datagram":
+            require(word == "quiet", word)
+            return found
+        found.append((given[0], int(given[2], 16)))
+
+
+def a_flood_of_one_member_leaves_the_others_their_room(folder: str) -> None:
+    """It fills its part of the backlog, and what is over stays with the system. All that another one sends comes."""
+    with three_members(folder) as (member, at, flooding, other):
+        for turn in range(FLOOD_ROUNDS):
+            send_numbers(flooding, at, turn * FLOOD_EACH, FLOOD_EACH)
+            require(member.keep(plain(1)), "it is not kept")
+        for turn in range(CALM_ROUNDS):
+            send_numbers(flooding, at, (FLOOD_ROUNDS + turn) * FLOOD_EACH, FLOOD_EACH)
+            send_numbers(other, at, turn * CALM_EACH, CALM_EACH)
+            require(member.keep(plain(1)), "it is not kept")
+        heard = heard_numbers(member)
+    calm = [number for address, number in heard if address == THIRD_LOOPBACK]
+    require(calm == list(range(CALM_ROUNDS * CALM_EACH)), f"{len(calm)} of the calm one")
+    flood = [number for address, number in heard if address == OTHER_LOOPBACK]
+    require(flood[:HALF_OF_THE_BACKLOG] == list(range(HALF_OF_THE_BACKLOG)), f"{len(flood)} of the flooding one")
+    first = next(place for place, (address, _) in enumerate(heard) if address == THIRD_LOOPBACK)
+    require(first == HALF_OF_THE_BACKLOG, f"{first} came before the calm one")
+
+
+def a_stranger_waits_behind_what_members_sent(folder: str) -> None:
+    """What strangers sent is not taken in if each member has a socket, and is heard later."""
+    with three_members(folder) as (member, at, other, third), Host(folder) as stranger:
+        stranger.open_somewhere(LOOPBACK)
+        for sender in (stranger, other, third):
+            send_numbers(sender, at, 0, 3)
+        require(member.keep(plain(1)), "it is not kept")
+        heard = [address for address, _ in heard_numbers(member)]
+    require(sorted(heard[:6]) == [OTHER_LOOPBACK] * 3 + [THIRD_LOOPBACK] * 3, f"{heard}")
+    require(heard[6:] == [LOOPBACK] * 3, f"{heard}")
+
+
+# types and codes of ICMP (RFC 792): Linux gives a connected socket a failure for each, of five different kinds
+NETWORK_ERRORS = ((12, 0), (3, 2), (3, 3), (3, 8), (3, 13))
+
+
+def checksum(content: bytes) -> bytes:
+    """Returns the checksum of a header with an even number of bytes (RFC 1071)."""
+    total = sum(struct.unpack(f"!{len(content) // 2}H", content))
+    total = (total >> 16) + (total & 0xFFFF)
+    return struct.pack("!H", ~(total + (total >> 16)) & 0xFFFF)
+
+
+def forge_error(kind: int, code: int, at: Peer, to: Peer) -> None:
+    """Tells a host that a datagram of its own could not be delivered. Only root can."""
+    ends = [socket.inet_aton(peer.address) for peer in (at, to)]
+    ip = struct.pack("!BBHHHBBH4s4s", 0x45, 0, 28, 0, 0, 64, socket.IPPROTO_UDP, 0, *ends)
+    datagram = ip[:10] + checksum(ip) + ip[12:] + struct.pack("!HHHH", at.port, to.port, 8, 0)
+    error = struct.pack("!BBHI", kind, code, 0, 0) + datagram
+    with socket.socket(socket.AF_INET, socket.SOCK_RAW, socket.IPPROTO_ICMP) as sender:
+        sender.bind((to.address, 0))
+        sender.sendto(error[:2] + checksum(error) + error[4:], (at.address, 0))
+
+
+def a_forged_error_of_the_network_is_no_failure(folder: str) -> None:
+    """A member is heard after it, and `next` fails for none. (Nothing is checked unless this is root.)"""
+    with three_members(folder) as (member, at, other, _):
+        for kind, code in NETWORK_ERRORS:
+            try:
+                forge_error(kind, code, at, Peer(OTHER_LOOPBACK, at.port))
+            except PermissionError:
+                return
+            time.sleep(0.01)
+            check_quiet(member)
+        send_numbers(other, at, 0, 1)
+        require(heard_numbers(member) == [(OTHER_LOOPBACK, 0)], "the member is not heard")
+
+
 CHECKS: Tuple[Callable[[str], None], ...] = (
     a_host_without_an_address_reaches_both_families,
     a_port_is_opened_by_one_host,
@@ -171,4 +278,7 @@ CHECKS: Tuple[Callable[[str], None], ...] = (
     all_that_comes_between_keeps_is_given_in_order,
     all_that_comes_between_sends_is_given_in_order,
     the_backlog_has_a_bound_in_bytes,
+    a_flood_of_one_member_leaves_the_others_their_room,
+    a_stranger_waits_behind_what_members_sent,
+    a_forged_error_of_the_network_is_no_failure,
 )

@@ -1,4 +1,4 @@
-"""A real host in a process of its own, whose calls are played.
+"""A real host in a process of its own, which makes the calls that a test gives it.
 
 It is imported by the programs in tests/, and not run by itself.
 """
@@ -12,14 +12,14 @@ TICKET = b"ticket-db8"
 # the file that a ticket's record is kept in: its name in hexadecimal
 FILE = TICKET.hex() + ".rec"
 
-LOOPBACK, OTHER_LOOPBACK, LOOPBACK_6 = "127.0.0.1", "127.0.0.2", "::1"
+LOOPBACK, OTHER_LOOPBACK, THIRD_LOOPBACK, LOOPBACK_6 = "127.0.0.1", "127.0.0.2", "127.0.0.3", "::1"
 
 # ports that are tried, one after another
 PORTS = range(19_829, 20_129)
 
 
 class Wrong(Exception):
-    """The host did not do what it has to."""
+    """The host did not do what it must."""
 
 
 def require(holds: bool, why: str) -> None:
@@ -141,8 +141,12 @@ class Host:
         self.session.say(f"notify {hexed(text)}")
 
     def beat(self) -> None:
-        """Tells the service manager that turns go on, where that is due."""
+        """Tells the service manager that turns continue, where that is due."""
         self.session.say("beat")
+
+    def expect(self, member: str) -> None:
+        """Gives a member a socket of its own at places that are opened from now on."""
+        self.session.say(f"expect {member}")
 
     def await_clock(self, records: str) -> None:
         """Waits for the clock of a directory of records."""
@@ -150,7 +154,7 @@ class Host:
 
 
 def carried(one: Host, other: Host, at: Peer, content: bytes) -> Peer:
-    """Sends bytes from one host to another, which has to hear them, and returns whom it heard them from."""
+    """Sends bytes from one host to another, which must hear them, and returns whom it heard them from."""
     require(one.send(at, content), "it is not sent")
     came = other.heard()
     require(came.content == content, "other bytes came")

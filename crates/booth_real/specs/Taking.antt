@@ -29,8 +29,8 @@ TakesIn None before after = after ≡ before
 TakesIn (Some All) before after = (came : List (Peer × List ℕ)) × (after ≡ before ++ came)
 TakesIn (Some (Asked asked)) before after = after ≡ before
 
--- If something waits, then either the first of it arrives and the others keep waiting, or a handler's end arrives and
--- all of it keeps waiting.
+-- If datagrams wait, then either the first one arrives and the others keep waiting, or the end of a handler arrives and
+-- all datagrams keep waiting.
 abbrev pub IsGiven : {E : Type 0} → List (Peer × List ℕ) → Result Arrival E → List ℕ → List (Peer × List ℕ) → Type 0
 IsGiven [] answer bytes after = after ≡ []
 IsGiven (first ∷ rest) (Ok (Datagram from)) bytes after = (first ≡ (from, bytes)) × (after ≡ rest)

@@ -189,8 +189,8 @@ impl Clocks {
         }
     }
 
-    // Reads the wall clock. After a failed reading no directory is opened later, since the reported time was no
-    // reading.
+    // Reads the wall clock. If this fails, the time that the host reports is no reading, and so the host opens no
+    // directory later.
     fn read_wall(&mut self) -> io::Result<Told> {
         match readings() {
             Ok(readings) => {

@@ -45,7 +45,7 @@ pub(crate) fn open_named(rt: &HostRuntime, path: &str, how: &OpenOptions) -> io:
     }
 }
 
-/// Opens the same to read and to write: then not even a named pipe that has replaced the file makes the call wait.
+/// Opens the file to read and to write. So the call does not wait even if a named pipe has replaced the file.
 pub(crate) fn open_to_change(rt: &HostRuntime, path: &str) -> io::Result<File> {
     open_named(rt, path, File::options().read(true).write(true))
 }

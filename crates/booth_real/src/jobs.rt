@@ -6,7 +6,9 @@
 ghost use Rattle.std.specs.Prelude.{◌≡◌, ◌<◌, IfSome, vec_len};
 
 use crate::clocks::Clocks;
-use crate::programs::{FileName, Told, is_directory, is_run_for, next_in_directory, start};
+use crate::programs::{
+    FileName, LeaseTerm, Told, is_directory, is_run_for, next_in_directory, start,
+};
 use crate::streams::ErrorStream;
 use booth_base::{Name, PathText};
 use booth_host::Job;
@@ -23,7 +25,7 @@ pub(crate) const SIGNALLED: i32 = 255;
 enum Lane {
     /// The lane of every job, unless there are two lanes.
     Main,
-    /// The lane of jobs that run at the same time as those of the main lane.
+    /// The lane of jobs that run at the same time as the jobs of the main lane.
     Beside,
 }
 
@@ -34,8 +36,7 @@ struct Running {
     lane: Lane,
     /// The path of the configuration when the job was started.
     conf_path: PathText,
-    /// Whether its programs get the term of the lease as a variable.
-    has_term: bool,
+    lease_term: LeaseTerm,
     error_stream: ErrorStream,
     /// The program of the handler's directory that was started last, if the handler is a directory.
     program: Option<FileName>,
@@ -79,14 +80,14 @@ impl Running {
         job: &Job,
         lane: Lane,
         conf_path: &PathText,
-        has_term: bool,
+        lease_term: LeaseTerm,
         error_stream: ErrorStream,
     ) -> Running {
         Running {
             job: copy_of(job),
             lane,
             conf_path: conf_path.copy(),
-            has_term,
+            lease_term,
             error_stream,
             program: None,
             child: None,
@@ -124,12 +125,12 @@ impl Running {
         Ok(())
     }
 
-    // Starts the same, and returns the child. The program is told how long the lease still lasts.
+    // Starts the same, and returns the child. The program gets a variable that says how long the lease still lasts.
     fn started(&self, rt: &HostRuntime, clocks: &Clocks) -> io::Result<Child> {
         let told = Told {
             left_ms: clocks.left_until(self.job.expires),
             conf_path: self.conf_path.as_str(),
-            has_term: self.has_term,
+            lease_term: self.lease_term,
         };
         start(
             rt,
@@ -184,7 +185,7 @@ impl Jobs {
     }
 
     /// Makes the programs with this argument run in a lane of their own, as a follower's programs do. From then on
-    /// all programs get the term of the lease as a variable.
+    /// the last word of a program may be the term of its lease.
     pub(crate) fn run_beside(&mut self, word: &'static str) {
         self.beside = Some(word);
     }
@@ -200,6 +201,16 @@ impl Jobs {
                 }
             }
             None => Lane::Main,
+        }
+    }
+
+    // Returns the source of the lease's term for a job, if the ticket's lease has this one. Before an acquisition
+    // there is no lease to renew, although the record may have one that is over.
+    fn lease_term(&self, job: &Job, lease_term: u32) -> LeaseTerm {
+        match self.beside {
+            Some(_) => LeaseTerm::LastWord,
+            None if job.expires == 0 => LeaseTerm::Known(0),
+            None => LeaseTerm::Known(lease_term),
         }
     }
 
@@ -250,20 +261,22 @@ impl Jobs {
         }
     }
 
-    /// Starts a job. It first kills the program that still runs in this lane of the ticket.
+    /// Starts a job of a ticket whose lease has this term, or 0 if it has no lease. It first kills the program that
+    /// still runs in this lane of the ticket.
     pub(crate) fn start(
         &mut self,
         rt: &HostRuntime,
         clocks: &Clocks,
         job: &Job,
         conf_path: &PathText,
+        lease_term: u32,
     ) -> io::Result<()> {
         self.reap();
         let lane = self.lane_of(job);
         self.end(&job.ticket, lane)?;
         self.running.reserve(1)?;
-        let has_term = self.beside.is_some();
-        let mut running = Running::new(job, lane, conf_path, has_term, self.error_stream);
+        let lease_term = self.lease_term(job, lease_term);
+        let mut running = Running::new(job, lane, conf_path, lease_term, self.error_stream);
         let begun = running.begin(rt, clocks);
         if begun.is_ok() {
             self.running.push_reserved(running);

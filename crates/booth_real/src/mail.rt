@@ -62,6 +62,11 @@ impl Mail {
         self.wake = Wake::on(file, mark);
     }
 
+    /// Returns whether that file is known to be readable.
+    pub(crate) fn is_woken(&self) -> bool {
+        self.wake.is_known()
+    }
+
     /// Closes the socket, and drops the datagrams that wait.
     pub(crate) fn close(&mut self)
         ensures closed { self.new.socket ≡ None }
@@ -80,6 +85,7 @@ impl Mail {
         ensures wake { self.new.wake ≡ self.old.wake }
     {
         self.close();
+        self.backlog.divide(socket.drained());
         self.socket = Some(socket);
     }
 
@@ -138,7 +144,7 @@ impl Mail {
         }
     }
 
-    /// Takes datagrams from the system as long as there is room. The system's queue holds a few hundred datagrams,
+    /// Takes datagrams from the system as long as they have room. The system's queue holds a few hundred datagrams,
     /// and a datagram that is lost there is sent again only after a time-out. After a failed receive it takes nothing
     /// until that failure was reported.
     pub(crate) fn take_in(&mut self)

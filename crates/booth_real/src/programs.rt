@@ -46,7 +46,8 @@ fn is_number(word: &str) -> bool {
 /// The beginning of a last word that is a lease's term and no argument.
 const TERM: &str = "term=";
 
-// Returns a program's words without the term, and the digits of the term: those of a last word `term=NUMBER`, or 0.
+// Returns a program's words without the term, and the digits of the term. These are the digits in a last word
+// `term=NUMBER`, or 0.
 fn with_term(words: &str) -> (&str, &str) {
     let Some((before, last)) = words.rsplit_once(' ') else {
         return (words, "0");
@@ -171,6 +172,15 @@ fn has_set(command: &mut Command, name: &str, value: &str) -> bool {
     command.env(name, value).is_ok()
 }
 
+/// The source of the lease's term, which a program gets as a variable.
+#[derive(Clone, Copy)]
+pub(crate) enum LeaseTerm {
+    /// The last word of the handler, for a follower's program.
+    LastWord,
+    /// This number, for a daemon's handler. It is 0 before an acquisition.
+    Known(u32),
+}
+
 /// What a program gets besides its job.
 #[derive(Clone, Copy)]
 pub(crate) struct Told<'a> {
@@ -178,8 +188,7 @@ pub(crate) struct Told<'a> {
     pub left_ms: u64,
     /// The path of the configuration.
     pub conf_path: &'a str,
-    /// Whether it is a follower's program, which gets the term of the lease.
-    pub has_term: bool,
+    pub lease_term: LeaseTerm,
 }
 
 // Sets the variables that describe a program's job.
@@ -210,10 +219,8 @@ fn add_arguments(command: &mut Command, words: &str) -> io::Result<()> {
     Ok(())
 }
 
-// Sets a follower's program's arguments, and the term of the lease as a variable.
-fn hand_term(command: &mut Command, handler: &PathText) -> io::Result<()> {
-    let (words, term) = with_term(handler.as_str());
-    add_arguments(command, words)?;
+// Sets the variable with the term of the lease.
+fn tell_term(command: &mut Command, term: &str) -> io::Result<()> {
     if has_set(command, "BOOTH_TICKET_TERM", term) {
         Ok(())
     } else {
@@ -221,13 +228,24 @@ fn hand_term(command: &mut Command, handler: &PathText) -> io::Result<()> {
     }
 }
 
+// Sets a program's arguments, and the variable with the term of the lease.
+fn hand_words(command: &mut Command, handler: &PathText, lease_term: LeaseTerm) -> io::Result<()> {
+    match lease_term {
+        LeaseTerm::LastWord => {
+            let (words, term) = with_term(handler.as_str());
+            add_arguments(command, words)?;
+            tell_term(command, term)
+        }
+        LeaseTerm::Known(term) => {
+            add_arguments(command, handler.as_str())?;
+            tell_term(command, digits(u64::from(term)).as_str())
+        }
+    }
+}
+
 // Sets a program's arguments and the variables that describe its job.
 fn prepare(command: &mut Command, job: &Job, told: Told<'_>) -> io::Result<()> {
-    if told.has_term {
-        hand_term(command, &job.handler)?;
-    } else {
-        add_arguments(command, job.handler.as_str())?;
-    }
+    hand_words(command, &job.handler, told.lease_term)?;
     tell(command, job, told)
 }
 
@@ -249,9 +267,9 @@ fn launch(command: &mut Command, rt: &HostRuntime, error_stream: ErrorStream) ->
 }
 
 /// Starts the handler itself, or the program with this name in its directory. The program gets the handler's
-/// arguments and an empty standard input. Its environment is this process's, with six variables more, or seven for a
-/// follower's program. Everything that it prints goes to this process's standard error, or to nothing if that was
-/// closed. No other file of this process is open in it.
+/// arguments and an empty standard input. Its environment is this process's, with seven variables more. Everything
+/// that it prints goes to this process's standard error, or to nothing if that was closed. No other file of this
+/// process is open in it.
 pub(crate) fn start(
     rt: &HostRuntime,
     job: &Job,

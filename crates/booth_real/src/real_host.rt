@@ -1,7 +1,7 @@
 //! The real host: a UDP socket, the system clock, files, child programs and the standard streams.
 //!
 //! No contract says what its calls do to the devices. It never returns `Stop`: a signal ends the process instead.
-ghost use Rattle.std.specs.Prelude.{◌≡◌, ◌≤◌, ◌⊎◌, ◌∷◌, [], None, IfOk, IfSome, OnErr, OnOk};
+ghost use Rattle.std.specs.Prelude.{◌≡◌, ◌≤◌, ◌⊎◌, ◌++◌, ◌∷◌, [], None, IfOk, IfSome, OnErr, OnOk};
 ghost use Rattle.booth_host.specs.Causes.{raised, HasCause, HasReadCause, IsCounted};
 ghost use Rattle.booth_host.specs.Past.{GrewBy};
 ghost use Rattle.booth_host.specs.declared.entry.Entry.{Entry};
@@ -12,11 +12,12 @@ use crate::files::contents;
 use crate::jobs::{Ended, Jobs, SIGNALLED};
 use crate::lock::take_lock;
 use crate::mail::{Mail, unopened};
+use crate::preparing::receive_or_prepare;
 use crate::socket::Socket;
 use crate::store::Store;
 use crate::streams::{Standing, error_stream, hold_streams, write_to};
 use crate::telling::{Telling, socket_text};
-use booth_base::{ByteText, Name, PathText, Peer};
+use booth_base::{Address, ByteText, Name, PathText, Peer};
 use booth_host::{Arrival, Datagram, Failed, Host, Job, Place, ReadFault};
 use booth_rec::Record;
 use std::alloc::{AllocError, Global};
@@ -36,6 +37,8 @@ const SENDS: u32 = 32;
 pub struct RealHost {
     rt: HostRuntime,
     mail: Mail,
+    /// The members that have a socket of their own at places that are opened from now on.
+    expected: Vec<Address>,
     /// The records directory, once a place with one was opened, and the source of the time.
     store: Store,
     telling: Telling,
@@ -73,6 +76,7 @@ impl RealHost {
         Ok(RealHost {
             rt,
             mail,
+            expected: Vec::new(alloc),
             store: Store::new(),
             telling: Telling::new(rt, alloc),
             sends: 0,
@@ -94,6 +98,24 @@ impl RealHost {
         ensures faults { self.new.faults ≡ self.old.faults }
     {
         self.mail.wake_on(fd, mark);
+    }
+
+    /// From now on this member has a socket of its own at each place with an address, if the system has one for it.
+    /// Datagrams of others then take no room from what the member sends. The call opens nothing.
+    ///
+    /// # Errors
+    ///
+    /// There is no memory for one more member.
+    pub fn expect(&mut self, member: Address) -> Result<(), AllocError>
+        ensures ok { OnOk result (self.new.expected.items ≡ self.old.expected.items ++ member ∷ []) }
+        ensures err { OnErr result (self.new.expected.items ≡ self.old.expected.items) }
+        ensures faults { self.new.faults ≡ self.old.faults }
+        ensures mail { self.new.mail ≡ self.old.mail }
+    {
+        match self.expected.push(member) {
+            Ok(()) => Ok(()),
+            Err(_) => Err(AllocError),
+        }
     }
 
     /// Makes each write of a record fail that takes longer than this many milliseconds, in directories that are
@@ -183,7 +205,8 @@ impl RealHost {
         self.conf_path = None;
         self.store.leave();
         let opened = Socket::open(&self.rt, place);
-        let socket = self.telling.told(&socket_text(place), opened)?;
+        let mut socket = self.telling.told(&socket_text(place), opened)?;
+        socket.set_apart(self.rt.alloc(), place, &self.expected);
         self.open_store(&place.records)?;
         self.mail.begin(socket);
         self.conf_path = Some(place.conf_path.copy());
@@ -207,7 +230,9 @@ impl RealHost {
         match &self.conf_path {
             Some(conf_path) => {
                 let clocks = self.store.clocks();
-                self.jobs.start(&self.rt, clocks, job, conf_path)
+                let lease_term = self.store.lease_term(&job.ticket);
+                self.jobs
+                    .start(&self.rt, clocks, job, conf_path, lease_term)
             }
             None => Err(unopened()),
         }
@@ -317,7 +342,8 @@ impl Host for RealHost {
     }
 
     /// A job that is over is returned before any datagram, and nothing waits for it. Datagrams that were taken in
-    /// follow, the oldest first.
+    /// follow, the oldest first. If nothing has arrived, the call may prepare a ticket's next write instead of
+    /// waiting; then it returns `Quiet` at once.
     fn next(&mut self, wait_ms: u64, into: &mut Datagram) -> Result<Arrival, Failed>
         ensures past { GrewBy None None (Entry.Next wait_ms result into.new ∷ []) }
         ensures cause { HasCause self.old.faults self.new.faults result }
@@ -330,7 +356,7 @@ impl Host for RealHost {
             into.clear();
             return Ok(arrival);
         }
-        let answer = self.mail.receive(wait_ms, into);
+        let answer = receive_or_prepare(&self.rt, &mut self.mail, &mut self.store, wait_ms, into);
         if let Err(error) = &answer {
             self.tell_unreceived(error);
             // A failure may return at once, and a caller that continues must not use a whole processor.

@@ -3,10 +3,12 @@
 //! A file is opened for one call only, and holds four slots (`booth_rec`). A missing file holds no record.
 ghost use Rattle.std.specs.Prelude.{◌≤◌, length};
 
+use crate::clocks::since_boot;
 use crate::deadline::Deadline;
 use crate::files::{if_found, make_named, open_to_change, open_to_look};
 use crate::lock::{lock_directory, lock_file};
 use crate::record_disk::{FileDisk, Known};
+use crate::tickets::Tickets;
 use arrayvec::ArrayString;
 use booth_base::{Name, PathText};
 use booth_rec::{OpenFault, PutFault, Record, Slots};
@@ -53,11 +55,15 @@ pub(crate) struct Records {
     has_failed: bool,
     /// The numbers of the files whose bytes are all on the disk because this process synced them.
     synced: HashSet<u64>,
+    /// What is remembered of the tickets of this directory.
+    tickets: Tickets,
+    /// How many milliseconds the last write took, or a slower preparation since, if that is known.
+    pace: Option<u64>,
     /// How many milliseconds a write may take, if that is limited.
     limit: Option<u64>,
     /// The lock's file; the lock lasts while it is open.
     lock: File,
-    /// The directory, whose own lock lasts while it is open: the lock's file could be deleted or replaced.
+    /// The open directory. It is locked too while it is open, because the lock's file could be deleted or replaced.
     own_lock: File,
 }
 
@@ -146,6 +152,19 @@ fn damaged(words: &str) -> io::Error {
     io::Error::new(ErrorKind::InvalidData, words)
 }
 
+// Returns how many milliseconds have passed since this reading of the time since the boot, if that is known.
+fn passed_since(began: io::Result<u64>) -> Option<u64> {
+    match (began, since_boot()) {
+        (Ok(began), Ok(now)) => Some(now.saturating_sub(began)),
+        (Ok(_), Err(_)) | (Err(_), _) => None,
+    }
+}
+
+// Returns the longer of two times, if both are known.
+fn longer(one: Option<u64>, other: Option<u64>) -> Option<u64> {
+    Some(one?.max(other?))
+}
+
 impl Records {
     /// Opens the directory at this path with its locks, and creates it in the directory above if it is missing. Fails
     /// if another process holds one of the locks. Each write in it fails that takes longer than the limit, in
@@ -165,6 +184,8 @@ impl Records {
             has_names: false,
             has_failed: false,
             synced: HashSet::new(alloc),
+            tickets: Tickets::new(alloc),
+            pace: None,
             limit,
             lock,
             own_lock,
@@ -175,7 +196,7 @@ impl Records {
         &self.directory
     }
 
-    // Returns why a call on this disk failed. From then on bytes are doubted, unless the system was not asked.
+    // Returns why a call on this disk failed. If the system was asked, the bytes on the disk are doubted from then on.
     fn failure(&mut self, disk: &FileDisk) -> io::Error {
         if !disk.is_late() {
             self.has_failed = true;
@@ -241,6 +262,19 @@ impl Records {
     /// Returns the contents of a ticket's file; a missing file holds nothing. Its bytes are doubted, since nothing is
     /// known of failures before this process.
     pub(crate) fn read(&mut self, rt: &HostRuntime, ticket: &Name) -> io::Result<Found> {
+        let found = self.look_for(rt, ticket)?;
+        self.tickets.note_read(ticket, found.record)?;
+        Ok(found)
+    }
+
+    /// Returns the term of this member's lease of a ticket, by the records that were read and written, or 0 if it has
+    /// none.
+    pub(crate) fn lease_term(&self, ticket: &Name) -> u32 {
+        self.tickets.lease_term(ticket)
+    }
+
+    // Returns the contents of a ticket's file.
+    fn look_for(&mut self, rt: &HostRuntime, ticket: &Name) -> io::Result<Found> {
         let path = self.path_of(ticket)?;
         match if_found(open_to_look(rt, path.as_str()))? {
             Some(file) => self.look(file),
@@ -272,13 +306,23 @@ impl Records {
         }
     }
 
+    // Returns the slots of the file with this number, to change them before the deadline. Only after a success are
+    // the bytes known to be on the disk again.
+    fn slots_to_change(
+        &mut self,
+        file: File,
+        number: u64,
+        deadline: Option<Deadline>,
+    ) -> io::Result<Slots<FileDisk>> {
+        let known = self.known_of(number);
+        self.synced.remove(&number);
+        self.slots(FileDisk::new(file, known, deadline))
+    }
+
     // Writes this record to an open file before the deadline.
     fn put(&mut self, file: File, record: &Record, deadline: Option<Deadline>) -> io::Result<()> {
         let number = file.metadata()?.ino();
-        let known = self.known_of(number);
-        // (after a success the bytes are known to be on the disk again)
-        self.synced.remove(&number);
-        let mut slots = self.slots(FileDisk::new(file, known, deadline))?;
+        let mut slots = self.slots_to_change(file, number, deadline)?;
         match slots.put(record) {
             Ok(()) => {
                 self.note_synced(number);
@@ -289,10 +333,8 @@ impl Records {
         }
     }
 
-    /// Writes this record to a ticket's file. On success the record, the file's name and the directory's name are on
-    /// the disk, and the write took no longer than the limit. A write that takes longer fails, and takes no further
-    /// step.
-    pub(crate) fn write(
+    // Writes this record to a ticket's file within the limit.
+    fn write_in_time(
         &mut self,
         rt: &HostRuntime,
         ticket: &Name,
@@ -307,5 +349,67 @@ impl Records {
             Some(deadline) => deadline.require(),
             None => Ok(()),
         }
+    }
+
+    /// Writes this record to a ticket's file. On success the record, the file's name and the directory's name are on
+    /// the disk, and the write took no longer than the limit. A write that takes longer fails, and takes no further
+    /// step.
+    pub(crate) fn write(
+        &mut self,
+        rt: &HostRuntime,
+        ticket: &Name,
+        record: &Record,
+    ) -> io::Result<()> {
+        let began = since_boot();
+        let written = self.write_in_time(rt, ticket, record);
+        self.pace = passed_since(began);
+        match &written {
+            Ok(()) => self.tickets.note_written(ticket, record),
+            Err(_) => self.tickets.note_unwritten(ticket, record),
+        }
+        written
+    }
+
+    /// Returns whether a next write can be prepared, and the last write took less than this many milliseconds. A
+    /// preparation has fewer steps than a write, so it should take less time too.
+    pub(crate) fn can_prepare(&self, limit_ms: u64) -> bool {
+        self.tickets.has_waiting() && self.pace.is_some_and(|pace| pace < limit_ms)
+    }
+
+    // Closes the slot of the next record in an open file before the deadline.
+    fn close_next(&mut self, file: File, deadline: Option<Deadline>) -> io::Result<()> {
+        let number = file.metadata()?.ino();
+        let mut slots = self.slots_to_change(file, number, deadline)?;
+        match slots.prepare() {
+            Ok(()) => {
+                self.note_synced(number);
+                Ok(())
+            }
+            Err(PutFault::Spent) => Ok(()),
+            Err(PutFault::Disk | PutFault::Again) => Err(self.failure(slots.disk())),
+        }
+    }
+
+    // Closes the slot of the next record of a ticket, if the ticket has a file. It takes no further step after the
+    // limit in milliseconds.
+    fn close_next_of(&mut self, rt: &HostRuntime, ticket: &Name, limit_ms: u64) -> io::Result<()> {
+        let deadline = Deadline::begin(Some(limit_ms));
+        let path = self.path_of(ticket)?;
+        match if_found(open_to_change(rt, path.as_str()))? {
+            Some(file) => self.close_next(file, deadline),
+            None => Ok(()),
+        }
+    }
+
+    /// Prepares the next write of the ticket that waits longest, if one waits, so that this write has two syncs and
+    /// not three. It takes no further step after the limit in milliseconds. If it fails, the write has all its steps.
+    pub(crate) fn prepare_one(&mut self, rt: &HostRuntime, limit_ms: u64) -> io::Result<()> {
+        let Some(ticket) = self.tickets.take_waiting() else {
+            return Ok(());
+        };
+        let began = since_boot();
+        let prepared = self.close_next_of(rt, &ticket, limit_ms);
+        self.pace = longer(self.pace, passed_since(began));
+        prepared
     }
 }

@@ -1,25 +1,29 @@
 //! The UDP socket, and addresses in the system's form.
-ghost use Rattle.std.specs.Prelude.{◌≡◌, ◌≤◌, ◌⊎◌, Some, None, IfOk, IsFalse, IsTrue, OnErr, OnOk, length};
+ghost use Rattle.std.specs.Prelude.{◌≡◌, ◌≤◌, ◌<◌, ◌⊎◌, Some, None, IfOk, IsFalse, IsTrue, OnErr, OnOk, length};
 ghost use Rattle.booth_host.specs.declared.datagram.TheConstants.{DATAGRAM_BYTES};
 ghost use Rattle.booth_real.specs.Hearing.{BringsTo, Hears, HearsAt, IsToAsk, turned};
 ghost use Rattle.booth_real.specs.Taking.{TakesIn, waiting};
-ghost use Rattle.booth_real.specs.declared.backlog.TheConstants.{BACKLOG_DATAGRAMS};
+ghost use Rattle.booth_real.specs.declared.backlog.TheConstants.{BACKLOG_DATAGRAMS, SOCKETS};
 ghost use Rattle.booth_real.specs.declared.socket.Takes.{Takes};
 
-use crate::backlog::{BACKLOG_DATAGRAMS, Backlog};
-use crate::wake::Wake;
+use crate::backlog::{BACKLOG_DATAGRAMS, Backlog, SOCKETS};
+use crate::member_sockets::{Reading, member_sockets};
+use crate::socket_room::{ROOM, ask_to_receive, ask_to_send};
+use crate::wake::{Wake, asked, ready_from};
 use booth_base::{Address, Peer};
 use booth_host::{Arrival, Datagram, Place};
-use libc::net::{POLLIN, SO_RCVBUF, SO_SNDBUF, SOL_SOCKET, poll, setsockopt};
-use libc::types::pollfd;
+use libc::net::poll;
+use std::alloc::Global;
 use std::io;
 use std::io::ErrorKind;
 use std::net::{IpAddr, Ipv4Addr, Ipv6Addr, SocketAddr, UdpSocket};
-use std::os::fd::{AsRawFd, RawFd};
+use std::os::fd::AsRawFd;
 
-/// The room that is requested for datagrams that were not sent or not received yet. The system grants as much as it
-/// allows (net.core.wmem_max and net.core.rmem_max), and doubles it.
-const ROOM: i32 = 1 << 30;
+/// The most datagrams that one `drain` takes from each socket, if members have sockets of their own.
+const IN_A_DRAIN: usize = 32;
+
+/// The most files that a wait watches: the file that ends it, and all sockets.
+const WATCHED: usize = SOCKETS + 1;
 
 /// Which peers a socket reaches.
 #[derive(Clone, Copy)]
@@ -54,10 +58,17 @@ impl Takes {
     }
 }
 
-/// A UDP socket.
+/// A UDP socket, with the sockets of members at the same address and port.
 #[derive(Drop)]
 pub(crate) struct Socket {
+    /// The socket at place 0. It makes all sends, and receives what no socket of a member receives.
     udp: UdpSocket,
+    /// The sockets of members, from place 1 on. Each one receives what its member sends.
+    members: Vec<UdpSocket>,
+    /// Whether each other member has a socket. Then only strangers send to the socket at place 0.
+    is_apart: bool,
+    /// Which socket is read next.
+    reading: Reading,
     reach: Reach,
     takes: Takes,
     /// A socket of the other family, only to send, once one was needed.
@@ -80,22 +91,6 @@ fn widened(address: IpAddr) -> IpAddr {
     }
 }
 
-fn room_bytes(room: i32) -> [u8; 16] {
-    let mut value = [0u8; 16];
-    value[..4].copy_from_slice(&room.to_ne_bytes());
-    value
-}
-
-// Requests this much room for what is sent. If the system refuses, the room stays as it is.
-fn ask_to_send(udp: &UdpSocket, room: i32) {
-    let _ = unsafe { setsockopt(udp.as_raw_fd(), SOL_SOCKET, SO_SNDBUF, &room_bytes(room), 4) };
-}
-
-// Does the same for what arrives.
-fn ask_to_receive(udp: &UdpSocket, room: i32) {
-    let _ = unsafe { setsockopt(udp.as_raw_fd(), SOL_SOCKET, SO_RCVBUF, &room_bytes(room), 4) };
-}
-
 // Opens a socket with all the room that it can get. Neither a send nor a receive waits; only `Socket::wait` does.
 fn bind_udp(rt: &HostRuntime, address: IpAddr, port: u16) -> io::Result<UdpSocket> {
     let udp = UdpSocket::bind(rt, SocketAddr::new(address, port))?;
@@ -111,6 +106,9 @@ fn bind(rt: &HostRuntime, address: IpAddr, port: u16, reach: Reach) -> io::Resul
     ask_to_receive(&udp, ROOM);
     Ok(Socket {
         udp,
+        members: Vec::new(rt.alloc()),
+        is_apart: false,
+        reading: Reading::new(),
         reach,
         takes: Takes::All,
         beside: None,
@@ -190,15 +188,6 @@ fn is_told(kind: ErrorKind) -> bool {
     )
 }
 
-// Returns a file in the form that `poll` takes. `poll` ignores a number below 0.
-fn asked(fd: RawFd) -> pollfd {
-    pollfd {
-        fd,
-        events: POLLIN,
-        revents: 0,
-    }
-}
-
 impl Socket {
     /// Opens a socket at this place. Without an address the socket reaches peers of both families, or IPv4 peers on a
     /// machine without IPv6. Without an address, a port and records it accepts datagrams only from the peer that it
@@ -215,6 +204,54 @@ impl Socket {
             socket.takes = Takes::Asked(None);
         }
         Ok(socket)
+    }
+
+    /// Gives each of these members a socket of its own, as far as the system has them. Then datagrams of others take
+    /// no room from what these members send.
+    pub(crate) fn set_apart(&mut self, alloc: Global, place: &Place, members: &[Address])
+        ensures { self.new.takes ≡ self.old.takes }
+    {
+        self.members = member_sockets(alloc, &self.udp, place, members);
+        for udp in &self.members {
+            ask_to_receive(udp, ROOM);
+        }
+        self.is_apart = !self.members.is_empty() && self.count() >= members.len();
+    }
+
+    // Returns the number of sockets.
+    fn count(&self) -> usize
+        ensures { result ≤ SOCKETS }
+    {
+        self.members.len().saturating_add(1).min(SOCKETS)
+    }
+
+    // Returns the socket at this place.
+    fn at(&self, place: usize) -> &UdpSocket {
+        match place.checked_sub(1) {
+            Some(member) => self.members.get(member).unwrap_or(&self.udp),
+            None => &self.udp,
+        }
+    }
+
+    // Returns the place of the first socket that is drained. What only strangers send to stays with the system.
+    fn first_drained(&self) -> usize {
+        if self.is_apart { 1 } else { 0 }
+    }
+
+    /// Returns how many sockets are drained, and at least 1.
+    pub(crate) fn drained(&self) -> usize
+        ensures { 0 < result }
+    {
+        self.count().saturating_sub(self.first_drained()).max(1)
+    }
+
+    // Returns the most datagrams that one `drain` takes from each socket.
+    fn quota(&self) -> usize {
+        if self.members.is_empty() {
+            BACKLOG_DATAGRAMS
+        } else {
+            IN_A_DRAIN
+        }
     }
 
     // Makes a socket that accepts one sender alone accept this peer. It opens another socket for that, since a
@@ -237,13 +274,24 @@ impl Socket {
     // Waits for this many milliseconds, but no longer than until a datagram has arrived or the other file can be
     // read, which is noted. Returns whether a datagram may have arrived. A signal also ends the wait.
     fn wait(&self, wait_ms: u64, wake: &Wake) -> bool {
-        let mut asked = [asked(self.udp.as_raw_fd()), asked(wake.file())];
-        let ready = poll(&mut asked, i32::try_from(wait_ms).unwrap_or(i32::MAX));
-        if asked[1].revents != 0 {
+        let mut watched = [asked(-1); WATCHED];
+        watched[0] = asked(wake.file());
+        watched[1] = asked(self.udp.as_raw_fd());
+        for (one, udp) in watched[2..].iter_mut().zip(self.members.iter()) {
+            *one = asked(udp.as_raw_fd());
+        }
+        let end = self.count() + 1;
+        let limit = i32::try_from(wait_ms).unwrap_or(i32::MAX);
+        let count = poll(&mut watched[..end], limit);
+        if watched[0].revents != 0 {
             wake.note();
         }
+        let ready = ready_from(&watched[1..end], self.reading.place());
+        if let Some(place) = ready {
+            self.reading.begin(place);
+        }
         // (what poll does not report, a receive does)
-        let is_there = ready < 0 || asked[0].revents != 0;
+        let is_there = count < 0 || ready.is_some();
         if is_there {
             wake.go_ahead();
         } else {
@@ -298,14 +346,15 @@ impl Socket {
         }
     }
 
-    // Returns the meaning of a receive's error.
-    fn unreceived(&self, error: io::Error) -> io::Result<Arrival>
+    // Returns the meaning of an error of a receive at this place. At a member's socket it is always the network's
+    // answer to an earlier datagram, which anybody can forge.
+    fn unreceived(&self, place: usize, error: io::Error) -> io::Result<Arrival>
         ensures { IfOk result (λ arrival. arrival ≡ Arrival.Quiet) }
     {
         match error.kind() {
             ErrorKind::WouldBlock | ErrorKind::Interrupted => Ok(Arrival::Quiet),
             kind => {
-                if self.asks() && is_told(kind) {
+                if place > 0 || (self.asks() && is_told(kind)) {
                     Ok(Arrival::Quiet)
                 } else {
                     Err(error)
@@ -352,13 +401,16 @@ impl Socket {
         }
     }
 
-    // Returns what has arrived, read through the buffer. Returns `Quiet` if nothing acceptable has, or if a signal
-    // interrupted the call.
+    // Reads what has arrived at the socket that is read next, through the buffer, and returns it. Returns `Quiet` if
+    // nothing acceptable has arrived, or if a signal interrupted the call. After several datagrams of one socket, or if
+    // it has none, it continues with the next socket.
     fn take(&self, buffer: &mut [u8], into: &mut Datagram) -> io::Result<Arrival>
         ensures { IfOk result (λ arrival. BringsTo (Some self.now.takes) arrival) }
     {
-        match self.udp.recv_from(buffer) {
+        let place = self.reading.place();
+        match self.at(place).recv_from(buffer) {
             Ok((count, from)) => {
+                self.reading.note(self.count());
                 let from = self.peer_at(from);
                 if !self.takes.hears(&from) {
                     return Ok(Arrival::Quiet);
@@ -366,7 +418,10 @@ impl Socket {
                 into.set(&buffer[..count]);
                 Ok(Arrival::Datagram(from))
             }
-            Err(error) => self.unreceived(error),
+            Err(error) => {
+                self.reading.pass(self.count());
+                self.unreceived(place, error)
+            }
         }
     }
 
@@ -379,8 +434,31 @@ impl Socket {
         }
     }
 
-    /// Moves the system's datagrams for this socket into the backlog, as long as there is room, without a wait. The
-    /// rest stays with the system. Fails if a receive fails. A client's socket moves nothing.
+    // Moves some datagrams from the socket at this place into the backlog, as long as its part has room.
+    #[tactic(auto, using(crate::proofs::WaitingLemmas::as_many))]
+    fn drain_one(&self, place: usize, buffer: &mut [u8], backlog: &mut Backlog) -> io::Result<()>
+        requires hears { self.now.takes ≡ Takes.All }
+        requires place { place < SOCKETS }
+        requires buffer { length buffer.old ≡ DATAGRAM_BYTES }
+        ensures buffer { length buffer.new ≡ DATAGRAM_BYTES }
+        ensures behind { TakesIn (Some self.now.takes) (waiting backlog.old) (waiting backlog.new) }
+    {
+        'taking: for _ in 0..self.quota() {
+            if !backlog.has_room_at(place) {
+                return Ok(());
+            }
+            match self.at(place).recv_from(buffer) {
+                Ok((count, from)) => backlog.put(place, &self.peer_at(from), &buffer[..count]),
+                Err(error) => return self.unreceived(place, error).map(|_| ()),
+            }
+        }
+        Ok(())
+    }
+
+    /// Moves the system's datagrams for these sockets into the backlog, without a wait: of each socket a few, as long
+    /// as its part of the backlog has room. The rest stays with the system. If each member has a socket, everything
+    /// that strangers sent stays there too, so that it never waits ahead of what a member sent. Fails if a receive
+    /// fails. A client's socket moves nothing.
     #[tactic(auto, using(crate::proofs::WaitingLemmas::as_many))]
     pub(crate) fn drain(&self, buffer: &mut [u8], backlog: &mut Backlog) -> io::Result<()>
         requires { length buffer.old ≡ DATAGRAM_BYTES }
@@ -391,14 +469,8 @@ impl Socket {
         if self.asks() {
             return Ok(());
         }
-        'taking: for _ in 0..BACKLOG_DATAGRAMS {
-            if !backlog.has_room() {
-                return Ok(());
-            }
-            match self.udp.recv_from(buffer) {
-                Ok((count, from)) => backlog.put(&self.peer_at(from), &buffer[..count]),
-                Err(error) => return self.unreceived(error).map(|_| ()),
-            }
+        'sockets: for place in self.first_drained()..self.count() {
+            self.drain_one(place, buffer, backlog)?;
         }
         Ok(())
     }

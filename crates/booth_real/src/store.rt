@@ -143,4 +143,29 @@ impl Store {
         self.clocks.settle(rt, records.directory())?;
         records.write(rt, ticket, record)
     }
+
+    /// Returns the term of this member's lease of a ticket, by the records that were read and written. It is 0 if the
+    /// member has no lease, or no directory is open.
+    pub(crate) fn lease_term(&self, ticket: &Name) -> u32 {
+        match &self.records {
+            Some(records) => records.lease_term(ticket),
+            None => 0,
+        }
+    }
+
+    /// Returns whether a next write can be prepared, probably in less than this many milliseconds.
+    pub(crate) fn can_prepare(&self, limit_ms: u64) -> bool {
+        match &self.records {
+            Some(records) => records.can_prepare(limit_ms),
+            None => false,
+        }
+    }
+
+    /// Prepares the next write of one ticket, so that it waits for two syncs and not for three. It takes no further
+    /// step after the limit in milliseconds. A failure is left to that write, which then has all its steps.
+    pub(crate) fn prepare_one(&mut self, rt: &HostRuntime, limit_ms: u64) {
+        if let Some(records) = &mut self.records {
+            let _ = records.prepare_one(rt, limit_ms);
+        }
+    }
 }

@@ -1,7 +1,9 @@
-//! The other file that ends a wait, and what is known of it.
+//! Files in the form that `poll` takes, and the other file that ends a wait, with what is known of it.
 
 ghost use Rattle.std.specs.Prelude.{◌≡◌};
 
+use libc::net::POLLIN;
+use libc::types::pollfd;
 use std::cell::Cell;
 use std::os::fd::RawFd;
 use std::rc::Rc;
@@ -18,6 +20,25 @@ pub(crate) struct Wake {
     known: Option<Rc<Cell<bool>>>,
     /// How many more receives are made without a check of the file.
     ahead: Cell<u32>,
+}
+
+/// Returns a file in the form that `poll` takes. `poll` ignores a number below 0.
+pub(crate) fn asked(fd: RawFd) -> pollfd {
+    pollfd {
+        fd,
+        events: POLLIN,
+        revents: 0,
+    }
+}
+
+/// Returns the first place at which a file can be read, at or after this place, or else before it.
+pub(crate) fn ready_from(watched: &[pollfd], place: usize) -> Option<usize> {
+    let place = place.min(watched.len());
+    let (before, from) = watched.split_at(place);
+    match from.iter().position(|one| one.revents != 0) {
+        Some(at) => Some(place.saturating_add(at)),
+        None => before.iter().position(|one| one.revents != 0),
+    }
 }
 
 impl Wake {

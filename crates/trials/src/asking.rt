@@ -64,8 +64,7 @@ fn ask_at<L: Ledger>(wheel: &mut Wheel, now: u64, steps: &mut Steps<L>) -> u64
     none
 }
 
-// Asks 16 times at each moment from 0 to `until`. No slot is due. A look at a bucket is a step, and there is no
-// other.
+// Asks 16 times at each moment from 0 to `until`. No slot is due. The only steps are looks at buckets.
 fn ask_each<L: Ledger>(wheel: &mut Wheel, until: u32, steps: &mut Steps<L>) -> u64
     requires far { AreFar wheel.old.deadlines }
     requires early { until < END }
@@ -106,7 +105,7 @@ fn ask(wheel: &mut Wheel, until: u32) -> u64
 }
 
 /// Sets this many slots to a far deadline, and asks 16 times at each moment from 0 to `until` which one is due.
-/// Returns how many times none was; None if `until` is too late or memory is out.
+/// Returns how many times none was; None if `until` is too late or the memory has run out.
 pub fn ask_at_each_moment(alloc: Global, slots: u32, until: u32) -> Option<u64>
     ensures { IfSome result (λ none. none ≡ 16 * (until + 1)) }
 {

@@ -50,9 +50,9 @@ fn remove_second_half(chains: &mut Chains<u32>, nodes: &[NodeId]) -> Option<u32>
     remove_each(chains, before, second)
 }
 
-/// Pushes this many items to one list, and removes those of its second half but the last, the first first. After each
-/// removal the last item of the first half is followed by the next one that is left. Returns how many were removed;
-/// None if a step went otherwise, or memory is out.
+/// Pushes this many items to one list. Then removes the items of its second half in order, except the last one. After
+/// each removal the last item of the first half is followed by the next one that is left. Returns how many were
+/// removed; None if a step went otherwise, or the memory has run out.
 pub fn remove_from_the_middle(alloc: Global, items: u32) -> Option<u32> {
     let mut chains = Chains::with_capacity(alloc, items, 1).ok()?;
     let nodes = push_each(alloc, &mut chains, items)?;

@@ -71,8 +71,8 @@ fn renew(wheel: &mut Wheel, slots: u32, spread: u32, until: u32) -> u64
     renew_counted::<Brand>(wheel, slots, spread, until, Blank::new(1))
 }
 
-/// Sets this many slots evenly from 1 to `spread`, and at each moment before `until` sets each slot that is due to
-/// `spread` later. Returns how many times a slot was due; None if memory is out.
+/// Sets this many slots evenly from 1 to `spread`. At each moment before `until`, it postpones each due slot by
+/// `spread`. Returns how many times a slot was due; None if the memory has run out.
 pub fn renew_each(alloc: Global, slots: u32, spread: u32, until: u32) -> Option<u64> {
     let mut wheel = Wheel::new(alloc, slots).ok()?;
     set_each(&mut wheel, slots, spread);

@@ -3,8 +3,8 @@ use Rattle.booth_host.specs.declared.datagram.TheConstants.{DATAGRAM_BYTES}
 use Rattle.booth_real.specs.Taking.{TakesIn, waiting}
 use Rattle.booth_real.proofs.socket.Socket.drain.Given as goal
 
-abbrev pub invariant-taking : goal.invariant-taking
-invariant-taking l = record {
+abbrev pub invariant-sockets : goal.invariant-sockets
+invariant-sockets l = record {
   size : length l.buffer ≡ DATAGRAM_BYTES;
   behind : TakesIn (Some l.self.takes) (waiting l.fn.backlog) (waiting l.backlog);
 }
