@@ -1,14 +1,11 @@
 //! The programs `booth` and `geostore`: their arguments, over the real host and links over TCP.
 
-use crate::default_site::with_default_site;
-use crate::explaining::{Run, explain};
-use crate::heard::HearingHost;
-use crate::live_followers::has_follower;
-use crate::ticket_option::with_ticket;
-use crate::transport::{part, transport};
-use crate::unmade::Unmade;
 use booth_cli::{Asked, MoveWords, Program, ask};
 use booth_links::{ClientHost, Transport};
+use booth_programs::{
+    HearingHost, Run, Unmade, chosen_transport, explain, has_follower, part, with_default_site,
+    with_ticket,
+};
 use booth_real::RealHost;
 use booth_tools::{Outcome, booth, geostore, passed};
 use clap::error::ErrorKind;
@@ -86,7 +83,7 @@ fn client_of(
     words: &[String],
 ) -> Result<Client, Unmade> {
     let parted = part(alloc, words)?;
-    let transport = transport(&rt, parted.transport)?;
+    let transport = chosen_transport(&rt, parted.transport)?;
     let words = match program {
         Program::Booth => with_ticket(rt, alloc, parted.words)?,
         Program::Geostore | Program::Boothd | Program::BoothFollow => parted.words,

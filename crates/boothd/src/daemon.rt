@@ -1,5 +1,5 @@
-//! The program `boothd`: its arguments, over the real host and the real links. A log on standard error has its calls,
-//! and a journal does if the environment names one.
+//! The program `boothd`: its arguments, over the real host and the real links. A log on standard error reports the
+//! daemon's calls. A journal records them if the environment names one.
 
 use crate::error_lines::ErrorLines;
 use crate::journal_path::journal_path;

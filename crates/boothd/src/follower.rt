@@ -1,10 +1,10 @@
 //! The program `booth-follow`: its arguments over the real host, and the lines about its turns.
 
-use crate::watcher::Watcher;
 use booth_cli::{Asked, Program, ask};
 use booth_followers::{Outcome, booth_follow};
 use booth_following::Setting;
 use booth_host::Host;
+use booth_programs::Watcher;
 use booth_real::{Notifier, RealHost, Speaker};
 use std::alloc::{AllocError, Global};
 use std::env::Env;

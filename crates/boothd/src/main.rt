@@ -4,29 +4,18 @@
 
 mod client;
 mod daemon;
-mod default_site;
 mod error_lines;
-mod explaining;
 mod follower;
-mod follower_texts;
-mod heard;
 mod journal_path;
 mod link_limit;
-mod live_followers;
-mod ticket_option;
-mod transport;
-mod unmade;
-mod watcher;
-mod word_lists;
 mod write_limit;
 
 use crate::client::{run_booth, run_geostore};
 use crate::daemon::run_daemon;
-use crate::explaining::{Run, explain};
 use crate::follower::run_follower;
-use crate::unmade::Unmade;
 use booth_cli::Program;
 use booth_outcomes::Outcome;
+use booth_programs::{Run, Unmade, explain};
 use booth_real::{Priority, Speaker};
 use std::alloc::{AllocError, Global};
 use std::env;

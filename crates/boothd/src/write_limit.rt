@@ -8,7 +8,8 @@ use std::env;
 /// The variable of the environment with a limit in milliseconds; 0 for none.
 const LIMIT: &str = "BOOTH_WRITE_LIMIT";
 
-/// How many writes follow one another in a renewal: the holder's own promise, those of the others, and the lease.
+/// How many writes follow one another in a renewal: the holder's own promise, the promises of the others, and the
+/// lease.
 const WRITES: u64 = 3;
 
 // Returns a third of the time between the renewal of a lease and its end.
