@@ -22,26 +22,26 @@ use Rattle.booth_audit.specs.Holdings.{Covers, Deeds, holdings_from}
 use Rattle.booth_audit.specs.Replay.{Event, deeds_of, replay}
 use Rattle.booth_journal.specs.Says.{Said, Says}
 
--- the id of the member at a place, or no one's
+-- The id of the member at a place. Without a place it is the id of no one.
 abbrev pub id_of : List Member → Option ℕ → MemberId
 id_of members None = NO_ONE
 id_of members (Some place) = option_map_or (λ (member : Member). member.id) (slice_get members place) NO_ONE
 
--- the node of that member, as its daemon runs it
+-- The node of that member, as its daemon runs it.
 abbrev pub node_of : ConfigSays → Option Ring → Option ℕ → NodeConfig
 node_of config ring at = record { config = config; ring = ring; me = id_of config.members at; second = true }
 
 -- ---- one journal
 
--- A text consists of calls, and all its starts are those of one member that has no earlier journal.
+-- A text consists of calls. All its starts are starts of one member that has no earlier journal.
 pub record IsMembers (config : ConfigSays) (earlier : List (Option ℕ)) (text : List ℕ) (at : Option ℕ)
     (all : List Said) : Type 0 where
   pub says : Says text all
   pub whose : IsOf config.members all at
   pub other : (place : ℕ) → at ≡ Some place → Has earlier at → ⊥
 
--- A text is the journal of the member at a place: the rules demanded each call, each start read records that its
--- member may have written, and this is what the member did.
+-- A text is the journal of the member at a place. The rules demanded each call, and each start read records that its
+-- member may have written. `heard` has the member's place, its id and its events.
 pub record IsTrue (config : ConfigSays) (ring : Option Ring) (earlier : List (Option ℕ)) (text : List ℕ)
     (heard : Heard) : Type 0 where
   pub said : List Said
@@ -54,7 +54,7 @@ pub record IsTrue (config : ConfigSays) (ring : Option Ring) (earlier : List (Op
 abbrev pub member_places : List Heard → List (Option ℕ)
 member_places all = map (λ (heard : Heard). heard.member) all
 
--- texts, each of another member than those before it
+-- The texts are true journals, each of another member than the texts before it.
 abbrev pub AreTrue : ConfigSays → Option Ring → List Heard → List (List ℕ) → List Heard → Type 0
 AreTrue config ring earlier [] [] = Unit {0}
 AreTrue config ring earlier (text ∷ texts) (heard ∷ more) =
@@ -75,9 +75,9 @@ pub record IsAudited (config : ConfigSays) (ring : Option Ring) (texts : List (L
   pub held : holdings ≡ holdings_from (map deeds_by heard) 0 config.tickets
   pub covers : Covers config.tickets (map deeds_by heard) holdings
 
--- ---- a journal that is no member's, or that does not fit what its member did
+-- ---- a journal that belongs to no member, or that does not fit what its member did
 
--- a journal of a member, and what the member did before the first call that was not demanded
+-- A journal of a member, with what the member did before the first call that was not demanded.
 pub record Replays (config : ConfigSays) (ring : Option Ring) (earlier : List (Option ℕ)) (text : List ℕ)
     (events : List Event) (strays : Option ℕ) : Type 0 where
   pub said : List Said
@@ -85,20 +85,20 @@ pub record Replays (config : ConfigSays) (ring : Option Ring) (earlier : List (O
   pub members : IsMembers config earlier text at said
   pub replayed : replay (node_of config ring at) said ≡ record { events = events; strays = strays }
 
--- A text that consists of calls, which are not those of one more member.
+-- A text consists of calls, but they are not the calls of any member that still lacks a journal.
 pub record IsNoMembers (config : ConfigSays) (earlier : List (Option ℕ)) (text : List ℕ) : Type 0 where
   pub said : List Said
   pub says : Says text said
   pub wrong : (member : Option ℕ) → IsMembers config earlier text member said → ⊥
 
--- the call at this line was not demanded, and each start before it read records that its member may have written
+-- The call at this line was not demanded, and each start before it read records that its member may have written.
 pub record DiffersAt (config : ConfigSays) (ring : Option Ring) (earlier : List (Option ℕ)) (text : List ℕ)
     (line : ℕ) : Type 0 where
   pub events : List Event
   pub replays : Replays config ring earlier text events (Some line)
   pub kept : AllReadKept [] (deeds_of events)
 
--- this line is the first with a record that its member may not have written
+-- This line is the first with a record that its member may not have written.
 pub record IsNotKeptAt (config : ConfigSays) (ring : Option Ring) (earlier : List (Option ℕ)) (text : List ℕ)
     (line : ℕ) : Type 0 where
   pub events : List Event
@@ -106,7 +106,7 @@ pub record IsNotKeptAt (config : ConfigSays) (ring : Option Ring) (earlier : Lis
   pub replays : Replays config ring earlier text events strays
   pub wrong : FirstNotKept events line
 
--- what is wrong with one journal, if those before it are of these members
+-- The fault of one journal, if the journals before it are of these members.
 abbrev pub IsWrong : ConfigSays → Option Ring → List (Option ℕ) → List ℕ → JournalFault → Type 0
 IsWrong config ring earlier text (wrongs.Line line) = IsFirstFault text line
 IsWrong config ring earlier text wrongs.Member = IsNoMembers config earlier text
@@ -116,7 +116,7 @@ IsWrong config ring earlier text wrongs.OutOfMemory = Unit {0}
 
 -- ---- faults
 
--- the first journal that is wrong
+-- The first journal that is wrong, with its fault.
 pub record HasWrong (config : ConfigSays) (ring : Option Ring) (texts : List (List ℕ)) (place : ℕ)
     (fault : JournalFault) : Type 0 where
   pub text : List ℕ
@@ -125,7 +125,7 @@ pub record HasWrong (config : ConfigSays) (ring : Option Ring) (texts : List (Li
   pub before : AreTrue config ring [] (take place texts) earlier
   pub wrong : IsWrong config ring (member_places earlier) text fault
 
--- No journal is wrong, and this line of one is the first with a message that no journal has as a send.
+-- No journal is wrong, and this line of one is the first with a received message that no journal has as a send.
 pub record HasUnsent (config : ConfigSays) (ring : Option Ring) (texts : List (List ℕ)) (place line : ℕ)
     : Type 0 where
   pub heard : List Heard
@@ -135,7 +135,7 @@ pub record HasUnsent (config : ConfigSays) (ring : Option Ring) (texts : List (L
   pub before : All (λ (other : Heard). AllHearSent heard [] (deeds_of other.events)) (take place heard)
   pub wrong : FirstUnsent heard one.events line
 
--- the meaning of a fault; out of memory may come in place of any answer
+-- The meaning of a fault. Out of memory may come in place of any answer.
 abbrev pub HasFault : ConfigSays → Option Ring → List (List ℕ) → AuditFault → Type 0
 HasFault config ring texts (faults.Line place line) = HasWrong config ring texts place (wrongs.Line line)
 HasFault config ring texts (faults.Member place) = HasWrong config ring texts place wrongs.Member

@@ -23,13 +23,13 @@ use Rattle.booth_audit.specs.Turns.{cut_of, events_from, with_events}
 
 -- ---- the rest of the text
 
--- Calls that are left in a text: the bytes after them are these, from this line on.
+-- These calls are left in a text: these bytes, from this line on, spell them.
 pub record AreLeft (text : List ℕ) (line : ℕ) (rest : List ℕ) (at : ℕ) (left : List Said) : Type 0 where
   pub says : Says rest left
   pub within : at + length rest ≤ line + length text
   pub no_longer : length rest ≤ length text
 
--- the replay after a session: the next call was not demanded, or no session is under way
+-- The replay after a session: the next call was not demanded, or no session is under way.
 abbrev pub after_session : NodeConfig → Bool → ℕ → List Said → Replayed
 after_session node true at left = record { events = []; strays = Some at }
 after_session node false at left = replayed node Idle at left
@@ -46,8 +46,8 @@ pub record IsOver (node : NodeConfig) (whole : Replayed) (events : List Event) (
 abbrev pub kept_calls : List TicketConf → List Call
 kept_calls tickets = map (λ (ticket : TicketConf). calls.Kept ticket.name) tickets
 
--- The replay of a start that has read these records and must still make these calls: the next call is at this line,
--- and if there is none the session begins there.
+-- The replay of a start that has read these records and must still make these calls. Its next call is at this line.
+-- If no call is left to make, the session begins there.
 abbrev pub start_on : NodeConfig → ℕ → List (Option Record) → List Call → ℕ → List Said → Replayed
 start_on node reading records [] line left =
     with_event (record { what = Starts node reading records; line = line - 2 })
@@ -55,7 +55,7 @@ start_on node reading records [] line left =
 start_on node reading records (call ∷ more) line left =
     replayed node (Starting reading records (call ∷ more)) line left
 
--- A start without a session: its lines ended in this way, or one of its calls failed.
+-- The replay of a start without a session: its lines ended in this way, or one of its calls failed.
 abbrev pub IsNone : NodeConfig → Option End → ℕ → List Said → Replayed → Type 0
 IsNone node None line left whole = whole ≡ replayed node Idle line left
 IsNone node (Some Over) line left whole = whole ≡ replayed node Idle line left
@@ -63,7 +63,7 @@ IsNone node (Some Cut) line left whole =
     (said : Said) × (rest : List Said) × (left ≡ said ∷ rest) × (whole ≡ replayed node Idle (line + 1) rest)
 IsNone node (Some Differs) line left whole = whole ≡ record { events = []; strays = Some line }
 
--- a start has read all records, or it has no session
+-- A start has read all records, or it has no session.
 abbrev pub IsStarted : NodeConfig → ℕ → Option (List (Option Record)) → LinesLeft → List Said → Replayed
     → Type 0
 IsStarted node reading None place left whole = IsNone node place.end place.line left whole
@@ -71,7 +71,7 @@ IsStarted node reading (Some records) place left whole =
     (length records ≡ length node.config.tickets)
     × (whole ≡ start_on node reading records [] place.line left)
 
--- the state of a start that was read up to this place
+-- The state of a start that was read up to this place.
 pub record HasStarted (node : NodeConfig) (reading : ℕ) (whole : Replayed) (records : Option (List (Option Record)))
     (old new : LinesLeft) : Type 0 where
   pub then_left : List Said
@@ -80,7 +80,8 @@ pub record HasStarted (node : NodeConfig) (reading : ℕ) (whole : Replayed) (re
 
 -- ---- after a session
 
--- The text that is left if lines ended in this way at this line: a call without an answer is skipped.
+-- The text that is still to be read after the lines of a session ended in this way at this line. A call without an
+-- answer is skipped.
 abbrev pub IsBehind : Option End → List ℕ → ℕ → Bool → List ℕ → ℕ → Type 0
 IsBehind (Some Cut) rest line strays behind at =
     (strays ≡ false) × (at ≡ line + 1)
@@ -91,11 +92,11 @@ IsBehind end rest line strays behind at = (strays ≡ false) × (at ≡ line) ×
 
 -- ---- turns
 
--- the calls that a turn records, in two parts, of which the first has this many entries
+-- The calls that a turn records, in two parts. The first part has this many entries.
 abbrev pub ArePartsOf : Option (List Entry) → ℕ → List Entry → List Entry → Type 0
 ArePartsOf past count read unread = (past ≡ Some (read ++ unread)) × (length read ≡ count)
 
--- the interrupted call, which is at this line, is tallied too
+-- The tally with the interrupted call, which is at this line.
 abbrev pub cut_tallied : MemberSays → Option End → ℕ → List Entry → Tally → Tally
 cut_tallied member (Some Cut) line (first ∷ later) tally =
     tallied member tally (record { what = IsCut (cut_of first); line = line })
@@ -132,7 +133,8 @@ pub record IsGoing (member : MemberSays) (first state : State) (text : List ℕ)
   pub stands : after_entries (Doing member.node (Ends first)) (deeds_of events) ≡ Doing member.node (Ends state)
   pub tallied : new ≡ tallied_all member old events
 
--- The calls of a member from a place at which it is down or starts, up to a place at which no session is under way.
+-- The calls of a member. At their first place the member is down or starts, and at their last place no session is
+-- under way.
 pub record IsRun (member : MemberSays) (whole : Replayed) (text : List ℕ) (line : ℕ) (old new : Tally)
     (strays : Bool) (rest : List ℕ) (at : ℕ) : Type 0 where
   pub events : List Event
@@ -140,11 +142,12 @@ pub record IsRun (member : MemberSays) (whole : Replayed) (text : List ℕ) (lin
   pub sessions : (stand : Stand) → AreSessions stand (deeds_of events)
   pub tallied : new ≡ tallied_all member old events
 
--- the replay of a start that read its clock with this result
+-- The replay of a start that read its clock with this result.
 abbrev pub started_at : NodeConfig → ℕ → ℕ → List Said → Replayed
 started_at node reading line left = replayed node (Starting reading [] (start_calls node)) line left
 
--- The next start with its session, when no session is under way: it reads a line, or its call was not demanded.
+-- The next start with its session, when no session is under way. The start reads a line, or its call was not
+-- demanded.
 pub record IsNext (member : MemberSays) (text : List ℕ) (line : ℕ) (left : List Said) (old new : Tally)
     (strays : Bool) (rest : List ℕ) (at : ℕ) : Type 0 where
   pub run : IsRun member (replayed member.node Idle line left) text line old new strays rest at
@@ -152,7 +155,7 @@ pub record IsNext (member : MemberSays) (text : List ℕ) (line : ℕ) (left : L
 
 -- ---- journals
 
--- The sessions of a journal so far; no session is under way after them.
+-- The sessions of a journal so far. No session is under way after them.
 pub record IsIdle (member : MemberSays) (text : List ℕ) (all : List Said) (tally : Tally) (rest : List ℕ) (at : ℕ)
     : Type 0 where
   pub events : List Event
@@ -162,7 +165,7 @@ pub record IsIdle (member : MemberSays) (text : List ℕ) (all : List Said) (tal
   pub sessions : AreSessions Down (deeds_of events)
   pub tallied : tally ≡ tallied_all member (nothing_tallied member.node.config.tickets) events
 
--- What a whole journal says about its member, up to the first call that was not demanded, and its tally.
+-- The content of a whole journal about its member, up to the first call that was not demanded, and its tally.
 pub record IsReplayed (member : MemberSays) (all : List Said) (strays : Option ℕ) (tally : Tally) : Type 0 where
   pub events : List Event
   pub is : replayed member.node Idle 1 all ≡ record { events = events; strays = strays }

@@ -1,4 +1,4 @@
--- Which call the rules demand of a member, and the effect of its answer.
+-- The call that the rules demand of a member, and the effect of its answer.
 use Rattle.std.specs.Prelude.{ℕ, Bool, false, List, [], bytes_eq, Option, None, Some, Result, Ok, Err}
 use Rattle.booth_base.specs.Tree.{Ends, Does}
 use Rattle.booth_auth.specs.Sealed.{sealed}
@@ -23,15 +23,15 @@ call_of node (Send peer message) = calls.Send peer (sealed node.ring message)
 call_of node (Keep name tried) = calls.Keep name (written tried)
 call_of node (Start job) = calls.Job job.number job.ticket job.expires
 
--- A turn begins with a wait; then the member reads its clock; then it does each action. Nothing is demanded of a
--- member that is down.
+-- The demanded call. A turn begins with a wait; then the member reads its clock; then it does each action. The rules
+-- demand no call of a member that is down.
 abbrev pub demanded : Stand → Option Call
 demanded Down = None
 demanded (Doing node (Ends old)) = Some calls.Next
 demanded (Doing node (Does ask go)) = Some (call_of node ask)
 demanded (Hearing node old answer bytes) = Some calls.Now
 
--- two calls are equal if their journal lines are
+-- Two calls are equal if their journal lines are equal.
 abbrev pub is_call : Call → Call → Bool
 is_call one other = bytes_eq (call_text one) (call_text other)
 
@@ -48,7 +48,7 @@ abbrev pub done_by : Answer → Result (Unit {0}) Failed
 done_by answers.Done = Ok tt
 done_by answer = Err (record {})
 
--- the input: an arrival without a datagram has no bytes
+-- The input in an answer. An arrival without a datagram has no bytes.
 abbrev pub arrival_by : Answer → Result Arrival Failed
 arrival_by answers.Quiet = Ok arrivals.Quiet
 arrival_by answers.Stop = Ok arrivals.Stop
@@ -64,15 +64,15 @@ abbrev pub reading_by : Answer → ℕ
 reading_by (answers.Reading reading) = reading
 reading_by answer = 0
 
--- A call with its answer. What the journal does not contain is as the rules demanded it: the handler of a job, and
--- its address.
+-- A call with its answer. The journal does not contain the handler of a job and its address: these are as the rules
+-- demanded them.
 abbrev pub entry_by : NodeConfig → Ask → Answer → Entry
 entry_by node (Send peer message) answer = entries.Send peer (sealed node.ring message) (done_by answer)
 entry_by node (Keep name tried) answer = entries.Keep name tried (done_by answer)
 entry_by node (Start job) answer =
     entries.Start job.number job.ticket job.handler job.local job.expires (done_by answer)
 
--- the demanded call, with an answer
+-- The demanded call, with an answer.
 abbrev pub made : Stand → Answer → Option Entry
 made Down answer = None
 made (Doing node (Ends old)) answer = Some (entries.Next 100 (arrival_by answer) (bytes_by answer))
@@ -84,7 +84,7 @@ cut_by node (Send peer message) = CutSend peer (sealed node.ring message)
 cut_by node (Keep name tried) = CutKeep name tried
 cut_by node (Start job) = CutStart job
 
--- the demanded call, without its answer
+-- The demanded call, without its answer.
 abbrev pub cut : Stand → Option CutCall
 cut Down = None
 cut (Doing node (Ends old)) = Some CutNext

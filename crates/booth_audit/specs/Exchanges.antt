@@ -1,4 +1,4 @@
--- What all members sent and received, and the fault of the first message that was received and not sent.
+-- The messages that all members sent and received, and the fault of the first message that was received and not sent.
 use Rattle.std.specs.Prelude.{◌≡◌, ℕ, List, [], ◌∷◌, map, slice_get, take, Some, Result, Ok, Err}
 use Rattle.std.specs.List.{All}
 use Rattle.booth_node.specs.Session.{AreSessions, Down}
@@ -19,7 +19,7 @@ sender_in exchange = record { id = exchange.id; sent = exchange.sent.now }
 abbrev pub senders_in : List Exchange → List Sender
 senders_in exchanges = map sender_in exchanges
 
--- every message that the member received was sent
+-- Every message that the member received was sent.
 abbrev pub HeardWell : List Sender → Exchange → Type 0
 HeardWell senders exchange = All (λ (hears : Hears). IsHeardOf senders hears.bytes) exchange.heard.now
 
@@ -30,16 +30,16 @@ pub record IsFirstIn (senders : List Sender) (exchanges : List Exchange) (place 
   pub earlier : All (HeardWell senders) (take place exchanges)
   pub wrong : IsFirstUnsent senders exchange.heard.now line
 
--- All messages were sent, or this is the first that was not; out of memory may come in place of both.
+-- All messages were sent, or this is the first message that was not sent. Out of memory may come in place of both.
 abbrev pub IsToldSo : List Sender → List Exchange → Result (Unit {0}) AuditFault → Type 0
 IsToldSo senders exchanges (Ok done) = All (HeardWell senders) exchanges
 IsToldSo senders exchanges (Err (faults.Unsent place line)) = IsFirstIn senders exchanges place line
 IsToldSo senders exchanges (Err faults.OutOfMemory) = Unit {0}
 IsToldSo senders exchanges (Err fault) = ⊥
 
--- ---- by journals
+-- ---- exchanges and their journals
 
--- The exchange has what the journal says that its member did.
+-- The exchange has the messages that the journal shows for its member.
 pub record Tells (one : Heard) (exchange : Exchange) : Type 0 where
   pub member : MemberSays
   pub same_id : exchange.id ≡ one.id
@@ -49,7 +49,7 @@ pub record Tells (one : Heard) (exchange : Exchange) : Type 0 where
   pub own : AllOwn member.node (deeds_of one.events)
   pub counted : AreCounted one.events
 
--- for each journal, in order
+-- Each exchange fits its journal, in order.
 abbrev pub AllTell : List Heard → List Exchange → Type 0
 AllTell [] [] = Unit {0}
 AllTell (one ∷ all) (exchange ∷ exchanges) = Tells one exchange × AllTell all exchanges
@@ -71,7 +71,7 @@ IsUnsentFault all (Err (faults.Unsent place line)) = IsUnsentIn all place line
 IsUnsentFault all (Err faults.OutOfMemory) = Unit {0}
 IsUnsentFault all (Err fault) = ⊥
 
--- The answer about the exchanges is the fault of their journals, or that there is none.
+-- The answer about the exchanges is the fault of their journals, or states that there is no fault.
 abbrev pub ExchangesTell : Type 0
 ExchangesTell =
     (all : List Heard) (exchanges : List Exchange) (result : Result (Unit {0}) AuditFault) → AllTell all exchanges

@@ -1,4 +1,4 @@
--- The faults of journals, each by itself.
+-- The faults of journals, each defined by itself.
 use Rattle.std.specs.Prelude.{◌≡◌, ◌<◌, ◌+◌, ◌-◌, ◌*◌, ◌++◌, ℕ, List, [], ◌∷◌, length, position}
 use Rattle.std.specs.Prelude.{slice_get, Option, None, Some, Ok}
 use Rattle.std.specs.List.{All, flat_map}
@@ -27,7 +27,7 @@ use Rattle.booth_journal.specs.Says.{Said}
 
 -- ---- the owner of a journal
 
--- the address at which a start listens
+-- The address at which a start listens.
 abbrev pub opened_by : Call → List (Option Address)
 opened_by (calls.Open local) = local ∷ []
 opened_by call = []
@@ -35,37 +35,38 @@ opened_by call = []
 abbrev pub opened_in : List Said → List (Option Address)
 opened_in all = flat_map (λ (said : Said). opened_by said.call) all
 
--- the member that listens there; no member listens at any address
+-- The place of the member that listens at this address. If a start listens at any address, there is no such member.
 abbrev pub place_of : List Member → Option Address → Option ℕ
 place_of members None = None
 place_of members (Some address) = position (is_at address) members
 
--- The starts that listen at these addresses are those of the member at a place. Without an address they are no one's.
+-- The starts that listen at these addresses belong to the member at a place. Without an address they belong to no
+-- one.
 abbrev pub AreOf : List Member → List (Option Address) → Option ℕ → Type 0
 AreOf members locals None = locals ≡ []
 AreOf members locals (Some place) =
     (locals ≡ [] → ⊥) × All (λ (local : Option Address). place_of members local ≡ Some place) locals
 
--- the same for all starts of a journal. A journal in which no start listened is no one's
+-- All starts of a journal belong to this owner. A journal in which no start listened belongs to no one.
 abbrev pub IsOf : List Member → List Said → Option ℕ → Type 0
 IsOf members all owner = AreOf members (opened_in all) owner
 
 -- ---- records
 
--- a start reads, for each ticket, a record that its member may have written
+-- For each ticket, a start reads a record that its member may have written.
 abbrev pub ReadsKept : List SessionEntry → SessionEntry → Type 0
 ReadsKept before (Starts node reading records) =
     (place : ℕ) (conf : TicketConf) → slice_get node.config.tickets place ≡ Some conf
     → Has (may_after_all conf.name (no_record ∷ []) before) (record_at records place)
 ReadsKept before what = Unit {0}
 
--- each start after these entries does
+-- Each start after these entries reads only records that its member may have written.
 abbrev pub AllReadKept : List SessionEntry → List SessionEntry → Type 0
 AllReadKept before [] = Unit {0}
 AllReadKept before (what ∷ more) = ReadsKept before what × AllReadKept (before ++ what ∷ []) more
 
--- the member may not have written the record of the ticket at this place, but may have written those of the tickets
--- before it
+-- The member may not have written the record of the ticket at this place, but may have written the records of the
+-- tickets before it.
 pub record MayNotRead (before : List SessionEntry) (tickets : List TicketConf) (records : List (Option Record))
     (place : ℕ) : Type 0 where
   pub conf : TicketConf
@@ -74,7 +75,8 @@ pub record MayNotRead (before : List SessionEntry) (tickets : List TicketConf) (
   pub others : (earlier : ℕ) (other : TicketConf) → earlier < place → slice_get tickets earlier ≡ Some other
       → Has (may_after_all other.name (no_record ∷ []) before) (record_at records earlier)
 
--- each read of a start has two lines, and the last read begins at the line of the start
+-- The line of the answer to the read at a place. Each read of a start has two lines, and the last read begins at the
+-- line of the start.
 abbrev pub answer_line : ℕ → ℕ → ℕ → ℕ
 answer_line count place last = last + 1 - 2 * (count - 1 - place)
 
@@ -84,7 +86,7 @@ ReadsWrong before (Starts node reading records) last line =
     × (line ≡ answer_line (length node.config.tickets) place last)
 ReadsWrong before what last line = ⊥
 
--- the line of the first record that the member may not have written
+-- The line of the first record that the member may not have written.
 pub record FirstNotKept (events : List Event) (line : ℕ) : Type 0 where
   pub before : List Event
   pub event : Event
@@ -95,13 +97,13 @@ pub record FirstNotKept (events : List Event) (line : ℕ) : Type 0 where
 
 -- ---- messages
 
--- the owner of a journal, the id of that member, and what the member did
+-- The owner of a journal, the owner's id, and its events.
 pub record Heard : Type 0 where
   pub member : Option ℕ
   pub id : MemberId
   pub events : List Event
 
--- The member whose id a message carries sent the same message, according to its journal. A send that failed or was
+-- According to its journal, the member whose id a message carries sent the same message. A send that failed or was
 -- interrupted counts.
 pub record WasSent (all : List Heard) (message : PlainMessage) : Type 0 where
   pub sender : Heard
@@ -113,7 +115,7 @@ pub record WasSent (all : List Heard) (message : PlainMessage) : Type 0 where
   pub sent : IsSend event.what bytes
   pub same : decoded bytes ≡ Ok message
 
--- if the turn accepts a member's message at this reading, that message was sent
+-- If the turn accepts a member's message at this reading, that message was sent.
 abbrev pub HearsSent : List Heard → Stand → SessionEntry → Type 0
 HearsSent all (Hearing node old (Ok (arrivals.Datagram from)) bytes) (Makes (entries.Now reading)) =
     (message : PlainMessage)
@@ -121,13 +123,13 @@ HearsSent all (Hearing node old (Ok (arrivals.Datagram from)) bytes) (Makes (ent
     → direction_of message.head.cmd ≡ BetweenMembers → WasSent all message
 HearsSent all stand what = Unit {0}
 
--- the same for each reading of a turn after these entries
+-- Each reading of a turn after these entries accepts only sent messages.
 abbrev pub AllHearSent : List Heard → List SessionEntry → List SessionEntry → Type 0
 AllHearSent all before [] = Unit {0}
 AllHearSent all before (what ∷ more) =
     HearsSent all (after_entries Down before) what × AllHearSent all (before ++ what ∷ []) more
 
--- The line of the first datagram with a member's message that no journal has as a send of that member: it is the
+-- The line of the first datagram whose message no journal has as a send of the member that it names. The line is the
 -- answer of the wait before the reading at which the message is accepted.
 pub record FirstUnsent (all : List Heard) (events : List Event) (line : ℕ) : Type 0 where
   pub before : List Event

@@ -1,4 +1,5 @@
--- What a member received from others: the datagrams with messages between members that its turns accepted.
+-- The messages that a member received from others: the datagrams with messages between members that its turns
+-- accepted.
 use Rattle.std.specs.Prelude.{◌≡◌, ◌↔◌, ◌≤◌, ◌-◌, ◌++◌, ℕ, Bool, true, false, List, [], ◌∷◌}
 use Rattle.std.specs.Prelude.{Option, None, Some, Result, Ok, Err, IfOk, if◌then◌else◌}
 use Rattle.std.specs.List.{All}
@@ -25,7 +26,7 @@ use Rattle.booth_audit.specs.Noted.{MemberSays}
 use Rattle.booth_audit.specs.Own.{AllOwn}
 use Rattle.booth_audit.specs.Replay.{Event, deeds_of, replay}
 
--- The bytes of a datagram that arrived with the last call and is not judged yet, and the accepted messages, in the
+-- The bytes of a datagram that arrived with the last call and is not judged yet, and the accepted messages in the
 -- order of the lines.
 pub record Hearings : Type 0 where
   pub waiting : Option (List ℕ)
@@ -44,28 +45,28 @@ abbrev pub is_members : Result PlainMessage DropFault → Bool
 is_members (Ok message) = is_between (direction_of message.head.cmd)
 is_members (Err fault) = false
 
--- at this reading the gate accepts a message between members
+-- The gate accepts a message between members at this reading.
 abbrev pub lets_in : NodeConfig → ℕ → List ℕ → Bool
 lets_in node now bytes = is_members (verdict node.config node.ring node.me now bytes)
 
--- The message that is accepted when the clock is read, at this line, if a datagram waits: the datagram arrived with
+-- The message that is accepted when the clock is read, at this line, if a datagram waits. The datagram arrived with
 -- the answer one line before.
 abbrev pub let_in : NodeConfig → ℕ → ℕ → Option (List ℕ) → List Hears
 let_in node now line None = []
 let_in node now line (Some bytes) =
     if lets_in node now bytes then record { bytes = bytes; line = line - 1 } ∷ [] else []
 
--- the bytes of a datagram that arrived
+-- The bytes of a datagram that arrived.
 abbrev pub brought : Result Arrival Failed → List ℕ → Option (List ℕ)
 brought (Ok (arrivals.Datagram from)) bytes = Some bytes
 brought answer bytes = None
 
--- a datagram waits for the very next event
+-- The datagram that waits after an event. It waits for the very next event only.
 abbrev pub waits_after : SessionEntry → Option (List ℕ)
 waits_after (Makes (entries.Next wait answer bytes)) = brought answer bytes
 waits_after what = None
 
--- the message accepted by an event at this line, if this reading is in use before it
+-- The message that an event at this line accepts, if this reading is in use before it.
 abbrev pub heard_by : NodeConfig → ℕ → ℕ → SessionEntry → Option (List ℕ) → List Hears
 heard_by node last line (Makes (entries.Now reading)) waiting = let_in node (used last reading) line waiting
 heard_by node last line what waiting = []
@@ -76,7 +77,7 @@ hearings_noted member last hearings event = record {
   all = hearings.all ++ heard_by member.node last event.line event.what hearings.waiting;
 }
 
--- after a start, and after a call without an answer, no datagram waits
+-- After a start, and after a call without an answer, no datagram waits.
 abbrev pub IsPassed : Hearings → Hearings → Type 0
 IsPassed old new =
     ((member : MemberSays) (last line : ℕ) (node : NodeConfig) (reading : ℕ) (records : List (Option Record))
@@ -86,30 +87,30 @@ IsPassed old new =
 
 -- ---- all events
 
--- if this reading is in use before them
+-- The received messages after all events, if this reading is in use before them.
 abbrev pub hearings_all : MemberSays → ℕ → Hearings → List Event → Hearings
 hearings_all member last hearings [] = hearings
 hearings_all member last hearings (event ∷ events) =
     hearings_all member (used_after last event.what) (hearings_noted member last hearings event) events
 
--- the messages that a member received, by all that it did
+-- The messages that a member received, from all that it did.
 abbrev pub heard_in : MemberSays → List Event → List Hears
 heard_in member events = (hearings_all member 0 nothing_heard events).all
 
--- ---- noted messages against sent ones
+-- ---- noted messages, compared with sent messages
 
--- the member whose id the message carries sent it
+-- The member whose id the message carries sent it.
 abbrev pub IsSent : List Heard → Hears → Type 0
 IsSent all hears = IfOk (decoded hears.bytes) (WasSent all)
 
--- For sessions of one member: each turn receives only sent messages exactly if each noted message was sent; and the
--- first noted message that was not sent is the first such message that a turn receives.
+-- Two properties of the sessions of one member. Each turn receives only sent messages exactly if each noted message
+-- was sent. The first noted message that was not sent is the first unsent message that a turn receives.
 pub record TellsUnsent (member : MemberSays) (events : List Event) (all : List Heard) : Type 0 where
   pub sent : AllHearSent all [] (deeds_of events) ↔ All (IsSent all) (heard_in member events)
   pub first : (before after : List Hears) (one : Hears) → heard_in member events ≡ before ++ one ∷ after
       → All (IsSent all) before → (IsSent all one → ⊥) → FirstUnsent all events one.line
 
--- the lines of a journal are counted from 1 on
+-- The lines of a journal are counted from 1 on.
 abbrev pub AreCounted : List Event → Type 0
 AreCounted events = All (λ (event : Event). 1 ≤ event.line) events
 

@@ -13,12 +13,12 @@ use Rattle.booth_audit.specs.Left.{LinesLeft}
 use Rattle.booth_audit.specs.Reads.{Reads}
 use Rattle.booth_audit.specs.Turns.{IsReplayOf}
 
--- the part of it that contracts see
+-- The part of the host that contracts see.
 pub record Seen : Type 0 where
   pub place : LinesLeft
   pub past : Option (List Entry)
 
--- what it has read so far
+-- The lines that the host has read so far, for these entries.
 pub record HasRead (text : List ℕ) (line : ℕ) (left : List Said) (place : LinesLeft) (entries : List Entry)
     : Type 0 where
   pub then_left : List Said
@@ -27,7 +27,7 @@ pub record HasRead (text : List ℕ) (line : ℕ) (left : List Said) (place : Li
   pub bound : line + length text ≤ 2 ^ 63
   pub reads : Reads entries line left place.end place.line then_left
 
--- as long as it records its calls
+-- The host has read the lines for its recorded calls, as long as it records its calls.
 abbrev pub IsReplay : List ℕ → ℕ → Seen → Type 0
 IsReplay text line seen =
     (entries : List Entry) → seen.past ≡ Some entries → (left : List Said) → Says text left
@@ -35,9 +35,9 @@ IsReplay text line seen =
 
 -- ---- a turn
 
--- A turn from one state to another, replayed over a text with these calls, the first at this line. After the turn
--- these bytes are left, from this line on; the lines ended in this way, or have not ended; and the host has recorded
--- all calls.
+-- A turn from one state to another, replayed over a text with these calls, the first of which is at this line. After
+-- the turn these bytes are left, from this line on. The lines ended in this way, or have not ended, and the host has
+-- recorded all calls.
 pub record IsTurned (node : NodeConfig) (old new : State) (text : List ℕ) (line : ℕ) (left : List Said)
     (rest : List ℕ) (at : ℕ) (end : Option End) (past : Option (List Entry)) : Type 0 where
   pub entries : List Entry

@@ -1,4 +1,4 @@
--- How the first call left in a journal compares with the call that is requested.
+-- The comparison of the first call left in a journal with the call that is requested.
 use Rattle.std.specs.Prelude.{◌≡◌, ◌&&◌, not, ℕ, Bool, List, [], ◌∷◌, bytes_eq, codes, if◌then◌else◌}
 use Rattle.std.specs.Prelude.{Option, None, Some, Result, Ok, Err}
 use Rattle.booth_host.specs.declared.host.Arrival.{Arrival}
@@ -16,7 +16,8 @@ use Rattle.booth_audit.specs.declared.end.End.TheVariants.{Over, Cut, Differs}
 abbrev pub is_now_text : List ℕ → Bool
 is_now_text text = bytes_eq (codes "now") text
 
--- A reading of the clock is the requested one if the next call opens no socket. Otherwise it begins a start.
+-- Whether a reading of the clock begins a start. If a reading is requested and the next call opens no socket, it is
+-- the requested reading instead.
 abbrev pub begins_start : List ℕ → List ℕ → List Said → Bool
 begins_start text call more = is_now_text call && not (is_now_text text && not (begins_with_open more))
 
@@ -29,14 +30,14 @@ judged_by text call answer more =
     if begins_start text call more then Err Over else
     if bytes_eq text call then by_answer answer else Err Differs
 
--- its answer, if the call has this text
+-- The answer of the first call, if the call has this text. Otherwise the way in which the lines end.
 abbrev pub judged : List ℕ → List Said → Result Answer End
 judged text [] = Err Over
 judged text (said ∷ more) = judged_by text (call_text said.call) said.answer more
 
 -- ---- bytes
 
--- an arrival without a datagram has no bytes
+-- An arrival without a datagram has no bytes.
 abbrev pub HasBytes : Result Arrival Failed → List ℕ → Type 0
 HasBytes (Ok (arrivals.Datagram from)) bytes = Unit {0}
 HasBytes answer bytes = bytes ≡ []

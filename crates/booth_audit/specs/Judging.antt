@@ -1,4 +1,4 @@
--- How journals are judged, first one by one and then all together.
+-- The results of journals, which are judged first one by one and then all together.
 use Rattle.std.specs.Prelude.{◌≡◌, ◌==◌, ℕ, Bool, false, List, [], ◌∷◌, map}
 use Rattle.std.specs.Prelude.{Option, None, Some, Result, Ok, Err}
 use Rattle.std.specs.List.{flat_map}
@@ -18,7 +18,7 @@ use Rattle.booth_audit.specs.Faults.{Heard}
 use Rattle.booth_audit.specs.Noted.{MemberSays}
 use Rattle.booth_audit.specs.Tally.{Tally, nothing_tallied, tallied_all}
 
--- the fault of the journal at a place
+-- The fault of the journal at a place.
 abbrev pub fault_at : JournalFault → ℕ → AuditFault
 fault_at (wrongs.Line line) journal = faults.Line journal line
 fault_at wrongs.Member journal = faults.Member journal
@@ -26,12 +26,12 @@ fault_at (wrongs.Differs line) journal = faults.Differs journal line
 fault_at (wrongs.Kept line) journal = faults.Kept journal line
 fault_at wrongs.OutOfMemory journal = faults.OutOfMemory
 
--- the owner of a journal, and its tally
+-- The owner of a journal, and its tally.
 pub record JudgedSays : Type 0 where
   pub owner : Option ℕ
   pub tally : Tally
 
--- the member at a place; no one has none
+-- The member at a place. Without a place it is no one.
 abbrev pub member_at : ConfigSays → Option Ring → Option ℕ → MemberSays
 member_at config ring at = record {
   node = node_of config ring at;
@@ -51,14 +51,14 @@ AreTallied config ring (heard ∷ more) (judged ∷ all) =
     IsTallied config ring heard judged × AreTallied config ring more all
 AreTallied config ring heard all = ⊥
 
--- a true journal of one more member, and its tally
+-- A true journal of one more member, and its tally.
 pub record IsTrueSo (config : ConfigSays) (ring : Option Ring) (earlier : List (Option ℕ)) (text : List ℕ)
     (judged : JudgedSays) : Type 0 where
   pub heard : Heard
   pub is : IsTrue config ring earlier text heard
   pub tallied : IsTallied config ring heard judged
 
--- the result for one journal, if those before it are of these members
+-- The result for one journal, if the journals before it are of these members.
 abbrev pub IsJudged : ConfigSays → Option Ring → List (Option ℕ) → List ℕ → Result JudgedSays JournalFault
     → Type 0
 IsJudged config ring earlier text (Ok judged) = IsTrueSo config ring earlier text judged
@@ -67,14 +67,14 @@ IsJudged config ring earlier text (Err fault) = IsWrong config ring earlier text
 abbrev pub owners_of : List JudgedSays → List (Option ℕ)
 owners_of all = map (λ (judged : JudgedSays). judged.owner) all
 
--- these journals are true, and these are their tallies
+-- These journals are true, and these are their tallies.
 pub record AreTrueSo (config : ConfigSays) (ring : Option Ring) (texts : List (List ℕ)) (all : List JudgedSays)
     : Type 0 where
   pub heard : List Heard
   pub each : AreTrue config ring [] texts heard
   pub tallied : AreTallied config ring heard all
 
--- the result after the replay of a member's journal
+-- The result after the replay of a member's journal.
 abbrev pub concluded : ℕ → Tally → Option ℕ → Option ℕ → Result JudgedSays JournalFault
 concluded place tally (Some line) strays = Err (wrongs.Kept line)
 concluded place tally None (Some line) = Err (wrongs.Differs line)
@@ -89,7 +89,7 @@ is_of_place place judged = is_place place judged.owner
 
 -- ---- all journals
 
--- what each member sent and received
+-- The messages that each member sent and received.
 abbrev pub AreExchanges : List Member → List JudgedSays → List Exchange → Type 0
 AreExchanges members [] [] = Unit {0}
 AreExchanges members (judged ∷ all) (exchange ∷ exchanges) =
@@ -97,14 +97,14 @@ AreExchanges members (judged ∷ all) (exchange ∷ exchanges) =
     × (exchange.heard.now ≡ judged.tally.hearings.all) × AreExchanges members all exchanges
 AreExchanges members all exchanges = ⊥
 
--- All received messages were sent, or this is the fault of the first that was not; out of memory may come in place of
--- both.
+-- All received messages were sent, or this is the fault of the first message that was not sent. Out of memory may
+-- come in place of both.
 abbrev pub IsToldOf : List Member → List JudgedSays → Result (Unit {0}) AuditFault → Type 0
 IsToldOf members all (Err faults.OutOfMemory) = Unit {0}
 IsToldOf members all result =
     (exchanges : List Exchange) × AreExchanges members all exchanges
     × IsToldSo (senders_in exchanges) exchanges result
 
--- the holdings of all journals, one behind the other
+-- The holdings of all journals, one after the other.
 abbrev pub held_by : List JudgedSays → List Holding
 held_by all = flat_map (λ (judged : JudgedSays). judged.tally.noted.held) all

@@ -1,4 +1,4 @@
--- The records that a member may have written for each ticket, noted as its journal goes on.
+-- The records that a member may have written for each ticket, noted during the replay of its journal.
 use Rattle.std.proofs.Common.{zero, suc}
 use Rattle.std.specs.Prelude.{◌≡◌, ℕ, List, [], ◌∷◌, map, position, slice_get, Option, None, Some, is_ok}
 use Rattle.booth_conf.specs.Lookups.{is_called}
@@ -11,11 +11,11 @@ use Rattle.booth_rec.specs.declared.record.Record.{Record}
 use Rattle.booth_rec.specs.Record.{no_record, record_or_none}
 use Rattle.booth_audit.specs.Own.{AllOwn}
 
--- at first a member has no record of any ticket
+-- The records before any entry: a member has no record of any ticket.
 abbrev pub first_may : List TicketConf → List (List Record)
 first_may tickets = map (λ (conf : TicketConf). no_record ∷ []) tickets
 
--- only the record that was read, for each ticket
+-- The records after a start: for each ticket, only the record that was read.
 abbrev pub read_may : List (Option Record) → List (List Record)
 read_may records = map (λ (found : Option Record). record_or_none found ∷ []) records
 
@@ -24,12 +24,12 @@ change_at place change [] = []
 change_at zero change (may ∷ others) = change may ∷ others
 change_at (suc place) change (may ∷ others) = may ∷ change_at place change others
 
--- if there is such a ticket
+-- The records with a change for the ticket at a place, if there is such a ticket.
 abbrev pub change_if : Option ℕ → (List Record → List Record) → List (List Record) → List (List Record)
 change_if None change all = all
 change_if (Some place) change all = change_at place change all
 
--- the records that the member may have written for each ticket, in file order, after one more entry
+-- The records that the member may have written for each ticket, in file order, after one more entry.
 abbrev pub may_noted : List TicketConf → List (List Record) → SessionEntry → List (List Record)
 may_noted tickets all (Starts node reading records) = read_may records
 may_noted tickets all (Makes (entries.Keep name kept answer)) =
@@ -42,7 +42,7 @@ abbrev pub all_may_noted : List TicketConf → List (List Record) → List Sessi
 all_may_noted tickets all [] = all
 all_may_noted tickets all (what ∷ more) = all_may_noted tickets (may_noted tickets all what) more
 
--- If all starts are this member's, the noted records of a ticket are those that the member may have written.
+-- If all starts are this member's, the noted records of a ticket are the records that the member may have written.
 abbrev pub MayIsNoted : Type 0
 MayIsNoted =
     (node : NodeConfig) (place : ℕ) (conf : TicketConf) → slice_get node.config.tickets place ≡ Some conf

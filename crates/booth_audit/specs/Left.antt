@@ -1,4 +1,4 @@
--- The result of a requested call, if these bytes of a journal are left.
+-- The result of a requested call, if these bytes of a journal are not read yet.
 use Rattle.std.specs.Prelude.{◌≡◌, ◌≤◌, ◌+◌, ◌-◌, ◌^◌, ◌⊎◌, ℕ, List, ◌∷◌, length, min}
 use Rattle.std.specs.Prelude.{Option, None, Some, IsSome, Result, Ok, Err}
 use Rattle.booth_rec.specs.declared.record.Record.{Record}
@@ -14,13 +14,13 @@ use Rattle.booth_audit.specs.Judged.{HasBytes, judged}
 
 -- ---- the bytes that are left
 
--- the bytes that are left, the number of their first line, and how the lines ended, if they have
+-- The bytes that are left, the number of their first line, and how the lines ended, if they have.
 pub record LinesLeft : Type 0 where
   pub rest : List ℕ
   pub line : ℕ
   pub end : Option End
 
--- the first call has this text and this answer, and these bytes follow
+-- The first call has this text and this answer, and these bytes follow.
 pub record IsTaken (text rest : List ℕ) (left : List Said) (bytes behind : List ℕ) : Type 0 where
   pub said : Said
   pub more : List Said
@@ -37,45 +37,45 @@ pub record IsTaken (text rest : List ℕ) (left : List Said) (bytes behind : Lis
 
 -- ---- the result of a call
 
--- two lines more
+-- The number of the line after two more lines.
 abbrev pub lines_on : ℕ → ℕ
 lines_on line = min (line + 2) (2 ^ 64 - 1)
 
--- the lines had ended before
+-- The lines had ended before.
 pub record IsBehind (old new : LinesLeft) : Type 0 where
   pub ended : IsSome old.end
   pub same : new ≡ old
 
--- they end here
+-- The lines end here.
 pub record EndsHere (left : List Said) (text : List ℕ) (old new : LinesLeft) : Type 0 where
   pub running : old.end ≡ None
   pub how : End
   pub judges : judged text left ≡ Err how
   pub same : new ≡ record { rest = old.rest; line = old.line; end = Some how }
 
--- the line of an answer was read
+-- The line of an answer was read.
 pub record IsReadHere (left : List Said) (text : List ℕ) (old new : LinesLeft) (bytes : List ℕ) : Type 0 where
   pub running : old.end ≡ None
   pub taken : IsTaken text old.rest left bytes new.rest
   pub line : new.line ≡ lines_on old.line
   pub end : new.end ≡ None
 
--- no line was read
+-- No line was read.
 abbrev pub IsUnread : List Said → List ℕ → LinesLeft → LinesLeft → Type 0
 IsUnread left text old new = IsBehind old new ⊎ EndsHere left text old new
 
--- the answer was read, and P holds for it
+-- The answer was read, and P holds for it.
 abbrev pub IsAnsweredHere : List Said → List ℕ → (Answer → Type 0) → LinesLeft → LinesLeft → Type 0
 IsAnsweredHere left text P old new =
     (bytes : List ℕ) × (here : IsReadHere left text old new bytes) × P here.taken.answer
 
--- The result of a call with this text if these calls are left. If no answer was read, one is made up.
+-- The result of a call with this text if these calls are left. If no answer was read, the result is made up.
 abbrev pub Comes : List Said → List ℕ → (Answer → Type 0) → LinesLeft → LinesLeft → Type 0
 Comes left text P old new = IsUnread left text old new ⊎ IsAnsweredHere left text P old new
 
 -- ---- answers in the form of a host
 
--- an answer of a call that was done or failed
+-- The answer of a call that was done or failed.
 abbrev pub IsDoneBy : Result (Unit {0}) Failed → Answer → Type 0
 IsDoneBy done answer = IsDone answer → answer ≡ done_answer done
 

@@ -1,4 +1,4 @@
--- What is noted about the events of a member: which tickets it held when, and what it sent.
+-- The notes about the events of a member: when it held each ticket, and what it sent.
 use Rattle.std.specs.Prelude.{◌≡◌, ◌+◌, ◌++◌, ◌==◌, ℕ, Bool, true, List, [], ◌∷◌, position, slice_get}
 use Rattle.std.specs.Prelude.{Option, Some}
 use Rattle.std.specs.List.{filter}
@@ -19,12 +19,12 @@ use Rattle.booth_audit.specs.declared.holding.Holding.{Holding}
 use Rattle.booth_audit.specs.Holdings.{holding_by, holdings_in, used_after_all}
 use Rattle.booth_audit.specs.Replay.{Event, deeds_of}
 
--- a member, and its place in the configuration
+-- A member, and its place in the configuration.
 pub record MemberSays : Type 0 where
   pub node : NodeConfig
   pub place : ℕ
 
--- the member at a place of a configuration, with this ring
+-- The member at a place of a configuration, with this ring.
 pub record IsMember (config : ConfigSays) (ring : Option Ring) (place : ℕ) (member : MemberSays) : Type 0 where
   pub conf : Member
   pub is : slice_get config.members place ≡ Some conf
@@ -33,7 +33,7 @@ pub record IsMember (config : ConfigSays) (ring : Option Ring) (place : ℕ) (me
     place = place;
   }
 
--- the reading in use, the holdings, and the bytes of each send, both in the order of the lines
+-- The reading in use, the holdings, and the bytes of each send. Holdings and sends are in the order of the lines.
 pub record Noted : Type 0 where
   pub last : ℕ
   pub held : List Holding
@@ -44,13 +44,13 @@ nothing_noted = record { last = 0; held = []; sent = [] }
 
 -- ---- holdings
 
--- those of a start, from the ticket at this place on
+-- The holdings of a start, from the ticket at this place on.
 abbrev pub held_from : ℕ → ℕ → ℕ → List (Option Record) → List Holding
 held_from ticket member from [] = []
 held_from ticket member from (found ∷ records) =
     holding_by ticket member from (record_or_none found).lease ++ held_from (ticket + 1) member from records
 
--- that of a write, if the ticket with this name is at this place
+-- The holding of a write, if the ticket with this name is at this place.
 abbrev pub kept_at : Option ℕ → ℕ → ℕ → Record → List Holding
 kept_at place member from kept = option_map_or (λ ticket. holding_by ticket member from kept.lease) place []
 
@@ -65,8 +65,8 @@ with_sent notes bytes = record notes { sent = notes.sent ++ bytes ∷ [] }
 
 -- ---- all events
 
--- A start that read leases and each write of a lease, whether done, failed or interrupted, give holdings; each send
--- counts, whether done, failed or interrupted.
+-- The notes after an entry. A start that read leases gives holdings, and so does each write of a lease; each send
+-- counts. For writes and sends it makes no difference whether they were done, failed or interrupted.
 abbrev pub noted : MemberSays → Noted → SessionEntry → Noted
 noted member notes (Starts node reading records) = record notes {
   last = start_reading reading;
@@ -83,12 +83,12 @@ abbrev pub noted_all : MemberSays → Noted → List Event → Noted
 noted_all member notes [] = notes
 noted_all member notes (event ∷ events) = noted_all member (noted member notes event.what) events
 
--- ---- what is noted, ticket by ticket
+-- ---- the notes, ticket by ticket
 
 abbrev pub is_of : ℕ → Holding → Bool
 is_of ticket holding = holding.ticket == ticket
 
--- The reading in use is the one that follows from what the member did, and so are the holdings of each ticket.
+-- The noted reading in use, and the noted holdings of each ticket, follow from what the member did.
 abbrev pub NotesAreDeeds : Type 0
 NotesAreDeeds =
     (member : MemberSays) (ticket : ℕ) (conf : TicketConf)

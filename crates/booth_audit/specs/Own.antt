@@ -5,7 +5,7 @@ use Rattle.booth_node.specs.declared.node_config.NodeConfig.{NodeConfig}
 use Rattle.booth_node.specs.Session.{SessionEntry, Starts}
 use Rattle.booth_audit.specs.Replay.{deeds_of, replay}
 
--- a start is this member's
+-- A start is this member's.
 abbrev pub IsOwn : NodeConfig → SessionEntry → Type 0
 IsOwn node (Starts other reading records) = other ≡ node
 IsOwn node what = Unit {0}
@@ -14,6 +14,6 @@ abbrev pub AllOwn : NodeConfig → List SessionEntry → Type 0
 AllOwn node [] = Unit {0}
 AllOwn node (what ∷ more) = IsOwn node what × AllOwn node more
 
--- all starts of a replay are those of its member
+-- All starts of a replay are starts of its member.
 abbrev pub ReplaysAreOwn : Type 0
 ReplaysAreOwn = (node : NodeConfig) (all : List Said) → AllOwn node (deeds_of (replay node all).events)

@@ -1,4 +1,4 @@
--- The owner of a journal, and the journal of no one.
+-- The owner of a journal, and the journal that belongs to no one.
 use Rattle.std.specs.Prelude.{◌≡◌, ◌⊎◌, ℕ, List, [], ◌∷◌, Option, None, Some, Result, Ok, Err}
 use Rattle.booth_base.specs.declared.address.Address.{Address}
 use Rattle.booth_conf.specs.declared.members.Member.{Member}
@@ -10,7 +10,7 @@ use Rattle.booth_audit.specs.declared.owners.OwnerFault.TheVariants.{NotOne, Out
 use Rattle.booth_audit.specs.Faults.{IsOf, opened_by, opened_in, place_of}
 use Rattle.booth_audit.specs.Replay.{replay}
 
--- if a call opens a socket, the place of the member whose start it is
+-- If a call opens a socket, this is the place of the member whose start it is.
 abbrev pub HasPlace : List Member → Call → Result (Option ℕ) OwnerFault → Type 0
 HasPlace members call (Ok None) = opened_by call ≡ []
 HasPlace members call (Ok (Some place)) =
@@ -19,25 +19,25 @@ HasPlace members call (Err NotOne) =
     (local : Option Address) × (opened_by call ≡ local ∷ []) × (place_of members local ≡ None)
 HasPlace members call (Err OutOfMemory) = Unit {0}
 
--- the owner of the starts among these calls; NotOne only if they are neither no one's nor those of one member
+-- The owner of the starts among these calls. NotOne comes only if they belong neither to no one nor to one member.
 abbrev pub IsOwner : List Member → List Said → Result (Option ℕ) OwnerFault → Type 0
 IsOwner members all (Ok owner) = IsOf members all owner
 IsOwner members all (Err NotOne) = (owner : Option ℕ) → IsOf members all owner → ⊥
 IsOwner members all (Err OutOfMemory) = Unit {0}
 
--- The journal of no one, in which no start listened: it has no session, and its first call that is no reading of the
--- clock was not demanded.
+-- A journal in which no start listened belongs to no one. It has no session, and its first call that is not a reading
+-- of the clock was not demanded.
 abbrev pub IsNobodys : List Said → Option ℕ → Type 0
 IsNobodys all strays =
     (node : NodeConfig) → opened_in all ≡ [] → replay node all ≡ record { events = []; strays = strays }
 
--- the owner of starts, the last of which is that of the member at this place
+-- The owner of starts, the last of which belongs to the member at this place.
 abbrev pub IsOneOwner : Option ℕ → ℕ → Result (Option ℕ) OwnerFault → Type 0
 IsOneOwner owner place (Ok after) = (after ≡ Some place) × ((owner ≡ None) ⊎ (owner ≡ Some place))
 IsOneOwner owner place (Err NotOne) = (earlier : ℕ) × (owner ≡ Some earlier) × (earlier ≡ place → ⊥)
 IsOneOwner owner place (Err OutOfMemory) = ⊥
 
--- the owner of the starts so far and of one more call
+-- The owner of the starts so far and of one more call.
 abbrev pub IsNextOwner : List Member → Option ℕ → Call → Result (Option ℕ) OwnerFault → Type 0
 IsNextOwner members owner call (Ok after) =
     (HasPlace members call (Ok None) × (after ≡ owner))
@@ -46,7 +46,7 @@ IsNextOwner members owner call (Err fault) =
     HasPlace members call (Err fault)
     ⊎ ((place : ℕ) × HasPlace members call (Ok (Some place)) × IsOneOwner owner place (Err fault))
 
--- how many lines a call has, by the line of its answer
+-- The number of lines of a call, by the line of its answer.
 abbrev pub lines_of : Option (List ℕ) → ℕ
 lines_of None = 1
 lines_of (Some bytes) = 2

@@ -17,7 +17,7 @@ use Rattle.booth_audit.specs.Faults.{answer_line}
 use Rattle.booth_audit.specs.Left.{found_answer}
 use Rattle.booth_audit.specs.Replay.{Going, replayed, with_event}
 
--- These calls read the records of these tickets, one after the other, and the others are left.
+-- These calls read the records of these tickets, one after the other, and the other calls are left.
 abbrev pub AreRead : List TicketConf → List (Option Record) → List Said → List Said → Type 0
 AreRead [] [] left more = left ≡ more
 AreRead (ticket ∷ tickets) (found ∷ records) left more =
@@ -26,16 +26,16 @@ AreRead (ticket ∷ tickets) (found ∷ records) left more =
     × AreRead tickets records others more
 AreRead tickets records left more = ⊥
 
--- the content of a line, if these calls begin at the first line
+-- The content of a line, if these calls begin at the first line.
 abbrev pub line_at : ℕ → List Said → ℕ → Option (List ℕ)
 line_at first left line = slice_get (flat_map lines_saying left) (line - first)
 
--- the line of the last of this many reads
+-- The line of the last of this many reads.
 abbrev pub last_read : ℕ → ℕ → ℕ
 last_read count first = first + 2 * count - 2
 
--- A start whose reads begin at this line has the line of the last one, and `answer_line` is the line of the answer
--- with the record of the ticket at a place.
+-- A start whose reads begin at this line has the line of its last read. `answer_line` is the line of the answer with
+-- the record of the ticket at a place.
 abbrev pub StartsHaveLines : Type 0
 StartsHaveLines =
     (node : NodeConfig) (reading first : ℕ) (records : List (Option Record)) (left more : List Said)

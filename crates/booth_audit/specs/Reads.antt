@@ -1,5 +1,5 @@
--- Requested calls, if a journal has these calls: those that its lines answer, and those after the first that they do
--- not.
+-- How requested calls are answered from a journal: first the calls that its lines answer, and then the calls after the
+-- first one that the lines do not answer.
 use Rattle.std.specs.Prelude.{◌≡◌, ◌+◌, ◌⊎◌, ℕ, List, [], ◌∷◌, Option, None, Some, Ok, Err}
 use Rattle.booth_host.specs.declared.entry.Entry.{Entry}
 use Rattle.booth_host.specs.declared.entry.Entry.TheVariants as entries
@@ -12,7 +12,7 @@ use Rattle.booth_audit.specs.Judged.{HasBytes, judged}
 
 -- ---- entries and lines
 
--- the text of an entry's call
+-- The text of an entry's call.
 abbrev pub text_said : Option (Call × Answer) → List ℕ
 text_said None = []
 text_said (Some both) = call_text both.0
@@ -20,16 +20,16 @@ text_said (Some both) = call_text both.0
 abbrev pub asked_text : Entry → List ℕ
 asked_text entry = text_said (said entry)
 
--- the answer of an entry is this one
+-- The entry has this answer.
 abbrev pub HasAnswer : Entry → Answer → Type 0
 HasAnswer entry answer = (call : Call) × (said entry ≡ Some (call, answer))
 
--- a wait without a datagram has no bytes
+-- A wait without a datagram has no bytes.
 abbrev pub IsClear : Entry → Type 0
 IsClear (entries.Next wait answer bytes) = HasBytes answer bytes
 IsClear entry = Unit {0}
 
--- the first of these calls is the entry's, with its answer, and the others are left
+-- The first of these calls is the entry's, with its answer, and the other calls are left.
 pub record IsEntry (entry : Entry) (left : List Said) (more : List Said) : Type 0 where
   pub said_so : Said
   pub answer : Answer
@@ -40,14 +40,14 @@ pub record IsEntry (entry : Entry) (left : List Said) (more : List Said) : Type 
   pub has : HasAnswer entry answer
   pub clear : IsClear entry
 
--- the lines end in this way at this entry
+-- The lines end in this way at this entry.
 pub record IsLast (entry : Entry) (left : List Said) (end : Option End) : Type 0 where
   pub how : End
   pub judges : judged (asked_text entry) left ≡ Err how
   pub is : end ≡ Some how
 
--- These entries were requested when these calls were left, the first at this line: the lines ended in this way, if
--- they did, at this line, and these calls are left afterwards.
+-- These entries were requested when these calls were left, the first of which is at this line. The lines ended in
+-- this way at this line, or have not ended, and these calls are left afterwards.
 abbrev pub Reads : List Entry → ℕ → List Said → Option End → ℕ → List Said → Type 0
 Reads [] line left end at then_left = (end ≡ None) × (at ≡ line) × (then_left ≡ left)
 Reads (entry ∷ entries) line left end at then_left =

@@ -1,4 +1,4 @@
--- What a member did according to its journal, up to the first call that was not demanded.
+-- The events of a member according to its journal, up to the first call that was not demanded.
 use Rattle.std.specs.Prelude.{◌+◌, ◌&&◌, not, ℕ, Bool, false, List, [], ◌∷◌, ◌++◌, length, map, if◌then◌else◌}
 use Rattle.std.specs.Prelude.{Option, None, Some}
 use Rattle.booth_base.specs.Tree.{Ends}
@@ -19,14 +19,15 @@ use Rattle.booth_audit.specs.Demand.{cut, is_call, is_demanded, made}
 
 -- ---- the place in a journal
 
--- No session is under way; or a start is, which has read its clock and these records and must still make these calls;
--- or a session is.
+-- The place in a journal. No session is under way; or a start is under way, which has read its clock and these
+-- records and must still make these calls; or a session is under way.
 pub data Place : Type 0 where
   Idle : Place
   Starting : (reading : ℕ) (records : List (Option Record)) (calls : List Call) → Place
   Going : Stand → Place
 
--- the meaning of one call there: nothing that counts, an action of the member, or another call than the demanded one
+-- The meaning of one call at a place: nothing that counts, an action of the member, or another call than the demanded
+-- one.
 pub data Step : Type 0 where
   Passes : Place → Step
   Did : SessionEntry → Place → Step
@@ -34,23 +35,24 @@ pub data Step : Type 0 where
 
 -- ---- starts
 
--- after it has read its clock, a start opens its socket, and reads the record of each ticket in file order
+-- The calls of a start after it has read its clock: it opens its socket, and reads the record of each ticket in file
+-- order.
 abbrev pub start_calls : NodeConfig → List Call
 start_calls node =
     calls.Open (Some (own_address node)) ∷ map (λ (ticket : TicketConf). calls.Kept ticket.name) node.config.tickets
 
--- A start begins with a reading of the clock. A start that could not read its clock has no session.
+-- A start begins with a reading of the clock. If the reading failed, the start has no session.
 abbrev pub begun : NodeConfig → Option Answer → Step
 begun node (Some (answers.Reading reading)) = Passes (Starting reading [] (start_calls node))
 begun node answer = Passes Idle
 
--- a start that has made all its calls has a session
+-- A start that has made all its calls has a session.
 abbrev pub goes_on : NodeConfig → ℕ → List (Option Record) → List Call → Step
 goes_on node reading records [] =
     Did (Starts node reading records) (Going (Doing node (Ends (opened node records reading))))
 goes_on node reading records (call ∷ more) = Passes (Starting reading records (call ∷ more))
 
--- after a call that failed or has no answer, the start has no session
+-- After a call that failed or has no answer, the start has no session.
 abbrev pub answered : NodeConfig → ℕ → List (Option Record) → List Call → Option Answer → Step
 answered node reading records more (Some answers.Done) = goes_on node reading records more
 answered node reading records more (Some answers.Absent) = goes_on node reading (records ++ None ∷ []) more
@@ -72,7 +74,7 @@ abbrev pub is_cut_short : Option CutCall → Step
 is_cut_short None = Strays
 is_cut_short (Some call) = Did (IsCut call) Idle
 
--- a call without its answer is the last of its session
+-- A call without its answer is the last of its session.
 abbrev pub makes_with : Stand → Option Answer → Step
 makes_with stand None = is_cut_short (cut stand)
 makes_with stand (Some answer) = makes stand (made stand answer)
@@ -86,30 +88,30 @@ abbrev pub is_read_by : Place → List Said → Bool
 is_read_by (Going (Hearing node old answer bytes)) more = not (begins_with_open more)
 is_read_by place more = false
 
--- A reading of the clock belongs to a turn exactly if one is demanded there and the next call opens no socket. Any
--- other begins a start.
+-- Whether a reading of the clock begins a start. It belongs to a turn instead exactly if a reading is demanded there
+-- and the next call opens no socket.
 abbrev pub begins_start : Place → Said → List Said → Bool
 begins_start place said more = is_now said.call && not (is_read_by place more)
 
--- any call but a start's first
+-- The meaning of any call except the first of a start.
 abbrev pub follows : NodeConfig → Place → Said → Step
 follows node Idle said = Strays
 follows node (Starting reading records demands) said = starts_with node reading records demands said
 follows node (Going stand) said = if is_demanded stand said.call then makes_with stand said.answer else Strays
 
--- this call, followed by these others
+-- The meaning of this call, if these others follow.
 abbrev pub stepped : NodeConfig → Place → Said → List Said → Step
 stepped node place said more =
     if begins_start place said more then begun node said.answer else follows node place said
 
 -- ---- a journal
 
--- What a member did, and the line of the call; for a start, the line of its last call.
+-- An event: what a member did, and the line of the call. For a start, it is the line of its last call.
 pub record Event : Type 0 where
   pub what : SessionEntry
   pub line : ℕ
 
--- all that it did before the first call that was not demanded, and the line of that call
+-- The events before the first call that was not demanded, and the line of that call.
 pub record Replayed : Type 0 where
   pub events : List Event
   pub strays : Option ℕ
@@ -122,17 +124,17 @@ by_step (Passes place) line rest = rest place
 by_step (Did what place) line rest = with_event (record { what = what; line = line }) (rest place)
 by_step Strays line rest = record { events = []; strays = Some line }
 
--- the number of the line after a call that begins at this line
+-- The number of the line after a call that begins at this line.
 abbrev pub line_behind : ℕ → Said → ℕ
 line_behind line said = line + length (lines_saying said)
 
--- these calls, the first of which is at this line
+-- The replay of these calls, the first of which is at this line.
 abbrev pub replayed : NodeConfig → Place → ℕ → List Said → Replayed
 replayed node place line [] = record { events = []; strays = None }
 replayed node place line (said ∷ more) =
     by_step (stepped node place said more) line (λ after. replayed node after (line_behind line said) more)
 
--- a whole journal of this member
+-- The replay of a whole journal of this member.
 abbrev pub replay : NodeConfig → List Said → Replayed
 replay node all = replayed node Idle 1 all
 

@@ -7,8 +7,8 @@ use Rattle.booth_journal.specs.declared.audit_fault.AuditFault.TheVariants.{OutO
 use Rattle.booth_audit.specs.declared.holding.Holding.{Holding}
 use Rattle.booth_audit.specs.Audit.{HasFault, IsAudited}
 
--- Journals without a fault have only out of memory as another answer, and one list of holdings. Two faults of
--- journals are equal, or one of them is out of memory.
+-- If journals have no fault, their only other answer is out of memory, and they have one list of holdings. Two faults
+-- of the same journals are equal, or one of them is out of memory.
 pub record HasOneAnswer (config : ConfigSays) (ring : Option Ring) (texts : List (List ℕ)) : Type 0 where
   pub none : (holdings : List Holding) (fault : AuditFault) → IsAudited config ring texts holdings
       → HasFault config ring texts fault → fault ≡ OutOfMemory

@@ -11,8 +11,8 @@ use Rattle.booth_audit.specs.declared.end.End.TheVariants.{Over, Cut, Differs}
 use Rattle.booth_audit.specs.Judged.{is_now_text, judged}
 use Rattle.booth_audit.specs.Replay.{Idle, Replayed, Starting, answered, by_step, replayed}
 
--- The replay of a start, whose next call is requested and which has these further calls to make, by what the lines
--- have for that call. If the lines end here, the start has no session.
+-- The replay of a start, by the lines for its next call. The next call is requested, and the start has these further
+-- calls to make. If the lines end here, the start has no session.
 abbrev pub StartGoesOn : NodeConfig → ℕ → List (Option Record) → List Call → ℕ → List Said → Replayed
     → Result Answer End → Type 0
 StartGoesOn node reading records more line left whole (Ok answer) =
@@ -25,7 +25,7 @@ StartGoesOn node reading records more line left whole (Err Cut) =
 StartGoesOn node reading records more line left whole (Err Differs) =
     whole ≡ record { events = []; strays = Some line }
 
--- each call of a start continues like this
+-- Each call of a start continues in this way.
 abbrev pub StartsAreReplayed : Type 0
 StartsAreReplayed =
     (node : NodeConfig) (reading : ℕ) (records : List (Option Record)) (call : Call) (more : List Call) (line : ℕ)

@@ -6,7 +6,7 @@ use Rattle.booth_audit.specs.Noted.{MemberSays, Noted, noted, nothing_noted}
 use Rattle.booth_audit.specs.Replay.{Event}
 use Rattle.booth_audit.specs.Watched.{Watched, first_watched, watched}
 
--- what was noted about the member, what the watch over its starts has found, and what it received from others
+-- The notes about the member, the result of the watch over its starts, and the messages that it received from others.
 pub record Tally : Type 0 where
   pub noted : Noted
   pub watched : Watched
@@ -15,7 +15,7 @@ pub record Tally : Type 0 where
 abbrev pub nothing_tallied : List TicketConf → Tally
 nothing_tallied tickets = record { noted = nothing_noted; watched = first_watched tickets; hearings = nothing_heard }
 
--- one event, with its line
+-- The tally after one event, with its line.
 abbrev pub tallied : MemberSays → Tally → Event → Tally
 tallied member tally event = record {
   noted = noted member tally.noted event.what;

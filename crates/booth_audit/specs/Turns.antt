@@ -18,12 +18,12 @@ use Rattle.booth_audit.specs.Replay.{Event, Going, Idle, Replayed, replayed, wit
 
 -- ---- events
 
--- entries as events, the first at this line: each has two lines
+-- Entries as events, the first of which is at this line. Each has two lines.
 abbrev pub events_from : ℕ → List Entry → List Event
 events_from line [] = []
 events_from line (entry ∷ entries) = record { what = Makes entry; line = line } ∷ events_from (line + 2) entries
 
--- these events, and then the others
+-- The replay with these events, and then the others.
 abbrev pub with_events : List Event → Replayed → Replayed
 with_events [] rest = rest
 with_events (event ∷ events) rest = with_event event (with_events events rest)
@@ -31,7 +31,7 @@ with_events (event ∷ events) rest = with_event event (with_events events rest)
 abbrev pub made_by : List Entry → List SessionEntry
 made_by entries = map (λ (entry : Entry). Makes entry) entries
 
--- the call of an entry of a turn, as an interrupted one
+-- The call of an entry of a turn, as an interrupted call.
 abbrev pub cut_of : Entry → CutCall
 cut_of (entries.Now reading) = CutNow
 cut_of (entries.Send to bytes answer) = CutSend to bytes
@@ -40,9 +40,9 @@ cut_of (entries.Start number ticket handler local expires answer) =
     CutStart (record { number = number; ticket = ticket; handler = handler; local = local; expires = expires })
 cut_of entry = CutNext
 
--- ---- how a replay continues
+-- ---- the continuation of a replay
 
--- The next call is without an answer, and the last of its session: that of the first of these entries.
+-- The next call has no answer, and is the last of its session. It is the call of the first of these entries.
 pub record IsCutHere (node : NodeConfig) (stand : Stand) (at : ℕ) (left : List Said) (unread : List Entry)
     (rest : Replayed) : Type 0 where
   pub said : Said
@@ -54,7 +54,7 @@ pub record IsCutHere (node : NodeConfig) (stand : Stand) (at : ℕ) (left : List
   pub may : MayBeCut stand (cut_of first)
   pub on : rest ≡ with_event (record { what = IsCut (cut_of first); line = at }) (replayed node Idle (at + 1) more)
 
--- The replay if the member is in this state and the lines of its session ended in this way, or have not ended; these
+-- The replay from a member's state, after the lines of its session ended in this way, or before they ended. These
 -- entries were not read.
 abbrev pub GoesOn : NodeConfig → Stand → Option End → ℕ → List Said → List Entry → Replayed → Type 0
 GoesOn node stand None at left unread rest = (unread ≡ []) × (rest ≡ replayed node (Going stand) at left)
@@ -62,7 +62,8 @@ GoesOn node stand (Some Over) at left unread rest = rest ≡ replayed node Idle 
 GoesOn node stand (Some Cut) at left unread rest = IsCutHere node stand at left unread rest
 GoesOn node stand (Some Differs) at left unread rest = rest ≡ record { events = []; strays = Some at }
 
--- Entries of which the first were read: the replay has them as events, and continues in the way the lines ended.
+-- Entries, the first of which were read. The replay has these as events, and continues in the way in which the lines
+-- ended.
 pub record IsReplayOf (node : NodeConfig) (old new : Stand) (entries : List Entry) (line : ℕ) (left : List Said)
     (end : Option End) (at : ℕ) (then_left : List Said) : Type 0 where
   pub read : List Entry
@@ -77,7 +78,7 @@ pub record IsReplayOf (node : NodeConfig) (old new : Stand) (entries : List Entr
 
 -- ---- turns
 
--- A turn of a member with a host that replays lines is what the replay of these lines has.
+-- A turn of a member with a host that replays lines equals the replay of these lines.
 abbrev pub TurnsAreReplayed : Type 0
 TurnsAreReplayed =
     (node : NodeConfig) (old new : State) (turn : Turn) (entries : List Entry) (line : ℕ) (left : List Said)

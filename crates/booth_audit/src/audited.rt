@@ -26,7 +26,7 @@ impl Audit {
         Audit { holdings }
     }
 
-    /// Returns the holdings, by tickets, then by journals, then by lines.
+    /// Returns the holdings, ordered by ticket, then journal, then line.
     pub fn holdings(&self) -> &[Holding]
         ensures { result.now ≡ self.now }
     {

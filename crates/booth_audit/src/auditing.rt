@@ -19,7 +19,7 @@ use std::alloc::{AllocError, Global};
 /// The limit for the number of journals, so that a fault can name a journal by its place.
 const JOURNALS_END: u64 = 1 << 32;
 
-// Judges each journal, up to the first that is wrong.
+// Judges each journal, up to the first one that is wrong.
 fn judge_all(
     alloc: Global,
     config: &Config,
@@ -44,7 +44,7 @@ fn judge_all(
     Ok(all)
 }
 
-// Returns the id of the member at a place, or no one's.
+// Returns the id of the member at a place, or the id of no one.
 fn id_of(config: &Config, owner: Option<u32>) -> MemberId
     ensures { result ≡ id_of config.now.members owner }
 {
@@ -57,7 +57,7 @@ fn id_of(config: &Config, owner: Option<u32>) -> MemberId
     }
 }
 
-// Returns what all members sent and received, according to their journals.
+// Returns the messages that all members sent and received, according to their journals.
 fn exchanges_of<'a>(
     alloc: Global,
     config: &Config,
@@ -104,8 +104,8 @@ fn holdings_of(alloc: Global, all: &[Judged]) -> Result<Vec<Holding>, AllocError
 ///
 /// # Errors
 ///
-/// The first fault of the first journal that is wrong; else the first message that was received and not sent; or
-/// `OutOfMemory`, which may come in place of any answer.
+/// Returns the first fault of the first journal that is wrong. If no journal is wrong, returns the first message that
+/// was received and not sent. `OutOfMemory` may come in place of any answer.
 pub fn audit(
     alloc: Global,
     config: &Config,

@@ -1,12 +1,12 @@
-//! How the lines of a session end.
+//! The ways in which the lines of a session end.
 
-/// How the lines of a session end.
+/// The way in which the lines of a session end.
 #[derive(Clone, Copy)]
 pub(crate) enum End {
     /// No call is left, or another start begins.
     Over,
-    /// The requested call is here without an answer.
+    /// The next line has the requested call, but no answer to it.
     Cut,
-    /// Another call than the requested one is here.
+    /// The next line has another call than the requested one.
     Differs,
 }

@@ -1,4 +1,4 @@
-//! The check that everything that members received was sent.
+//! The check that all messages that members received were sent.
 ghost use Rattle.std.specs.Prelude.{◌<◌, ◌^◌, IfOk, List, length};
 ghost use Rattle.booth_audit.specs.Exchanges.{IsToldSo, senders_in};
 ghost use Rattle.booth_audit.specs.Sends.{KnowsAll, Sender};
@@ -9,7 +9,7 @@ use booth_base::{ByteText, MemberId};
 use booth_journal::AuditFault;
 use std::alloc::{AllocError, Global};
 
-/// What the member with this id sent and received, according to its journal.
+/// The messages that the member with this id sent and received, according to its journal.
 #[derive(Clone, Copy)]
 pub(crate) struct Exchange<'a> {
     pub id: MemberId,
@@ -46,7 +46,7 @@ fn first_unsent(sends: &mut Sends, exchanges: &[Exchange<'_>]) -> Result<(), Aud
 ///
 /// # Errors
 ///
-/// The fault of the first journal with a message that was not sent, or out of memory.
+/// Returns the fault of the first journal with a message that was not sent, or `OutOfMemory`.
 pub(crate) fn check_exchanges(alloc: Global, exchanges: &[Exchange<'_>]) -> Result<(), AuditFault>
     requires { length exchanges.now < 2 ^ 32 }
     ensures { IsToldSo (senders_in exchanges.now) exchanges.now result }

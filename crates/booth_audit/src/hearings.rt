@@ -1,4 +1,4 @@
-//! What a member received from others, noted while its journal is replayed.
+//! The messages that a member received from others, noted while its journal is replayed.
 ghost use Rattle.std.specs.Prelude.{◌≡◌, ◌++◌, None, OnOk, Some};
 ghost use Rattle.std.specs.Option.{option_copied};
 ghost use Rattle.booth_node.specs.Session.{Makes};
@@ -22,7 +22,7 @@ pub(crate) struct Hears {
     pub line: u64,
 }
 
-/// What a member received so far, and the datagram that is not judged yet.
+/// The messages that a member received so far, and the datagram that is not judged yet.
 #[derive(Drop)]
 pub(crate) struct HearingNotes {
     alloc: Global,
@@ -97,7 +97,7 @@ impl HearingNotes {
         Ok(())
     }
 
-    // Notes a reading of the clock, by which this one comes into use.
+    // Notes a reading of the clock, after which this reading (`now`) is in use.
     fn read(&mut self, whose: &Whose<'_>, now: u64, line: u64) -> Result<(), AllocError>
         ensures { OnOk result (self.new ≡ record {
           waiting = None;

@@ -1,7 +1,7 @@
-//! Which member held which ticket when.
+//! The time during which a member held a ticket.
 
-/// A member had a lease of a ticket on its disk, or tried to write one. Both are named by their places in the
-/// configuration.
+/// A member had a lease of a ticket on its disk, or tried to write one. Ticket and member are given by their places
+/// in the configuration.
 #[derive(Clone, Copy)]
 pub struct Holding {
     pub ticket: u32,

@@ -1,4 +1,4 @@
-//! What is wrong with one journal.
+//! The fault of one journal.
 ghost use Rattle.std.specs.Prelude.{◌≡◌};
 ghost use Rattle.booth_audit.specs.Judging.{fault_at};
 
@@ -9,13 +9,13 @@ use booth_journal::AuditFault;
 pub(crate) enum JournalFault {
     /// This line cannot be read as a line of a journal.
     Line(u64),
-    /// The journal is not that of one member, or its member has an earlier one.
+    /// The journal does not belong to one member, or its member has an earlier journal.
     Member,
     /// This line has another call than the rules demanded.
     Differs(u64),
     /// According to this line a start read a record that the member may not have written.
     Kept(u64),
-    /// Memory is out.
+    /// The memory has run out.
     OutOfMemory,
 }
 

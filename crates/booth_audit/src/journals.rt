@@ -8,11 +8,11 @@ use crate::{Tally, Whose};
 use booth_journal::Draft;
 use std::alloc::{AllocError, Global};
 
-/// What a journal says about its member.
+/// The content of a journal about its member.
 #[derive(Drop)]
 pub struct Journal {
     pub tally: Tally,
-    /// The line of the first call that was not demanded. The tally has nothing after it.
+    /// The line of the first call that was not demanded. The tally contains no event after it.
     pub strays: Option<u64>,
 }
 

@@ -34,7 +34,7 @@ impl Model for Judged {
     ghost view = { λ j. record { owner = j.owner; tally = j.tally } };
 }
 
-// Judges the journal of no one, whose lines were read.
+// Judges the journal that belongs to no one, whose lines were read.
 fn judge_nobodys(alloc: Global, config: &Config, text: &[u8]) -> Result<Judged, JournalFault>
     requires short { length text.now < 2 ^ 63 }
     requires says { (all : List Said) × Says text.now all }

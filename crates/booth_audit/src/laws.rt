@@ -22,32 +22,32 @@ pub fn holdings_cover()
     ensures { HoldingsCover }
 {}
 
-/// A turn with a host that replays lines of a journal is what the replay of these lines has.
+/// A turn with a host that replays lines of a journal equals the replay of these lines.
 pub fn turns_are_replayed()
     ensures { TurnsAreReplayed }
 {}
 
-/// Each call of a start is what the replay of its journal has there, by what the lines have for that call.
+/// Each call of a start equals the call in the replay of its journal, by the lines for that call.
 pub fn starts_are_replayed()
     ensures { StartsAreReplayed }
 {}
 
-/// What is noted about a member follows from what it did: the reading in use, and the holdings of each ticket.
+/// The notes about a member follow from what it did: the reading in use, and the holdings of each ticket.
 pub fn notes_are_deeds()
     ensures { NotesAreDeeds }
 {}
 
-/// All starts of a replay are those of its member.
+/// All starts of a replay are starts of its member.
 pub fn replays_are_own()
     ensures { ReplaysAreOwn }
 {}
 
-/// The noted records of a ticket are those that its member may have written.
+/// The noted records of a ticket are the records that its member may have written.
 pub fn may_is_noted()
     ensures { MayIsNoted }
 {}
 
-/// A start has the line of its last read, and the record of each ticket is in the line that a fault names.
+/// A start has the line of its last read. The record of each ticket is in the line that a fault names.
 pub fn starts_have_lines()
     ensures { StartsHaveLines }
 {}
@@ -57,8 +57,8 @@ pub fn tickets_are_found()
     ensures { TicketsAreFound }
 {}
 
-/// The watch over a member's events reports the line of the first record that a start read and its member may not
-/// have written.
+/// The watch over a member's events reports the line of the first record that a start read and that its member may
+/// not have written.
 pub fn watch_tells_first()
     ensures { WatchTellsFirst }
 {}
@@ -73,7 +73,7 @@ pub fn replays_are_counted()
     ensures { ReplaysAreCounted }
 {}
 
-/// What the journals have as sends is what their members sent.
+/// The sends in the journals are what their members sent.
 pub fn senders_tell()
     ensures { SendersTell }
 {}
@@ -83,12 +83,13 @@ pub fn unsent_is_found()
     ensures { UnsentIsFound }
 {}
 
-/// The answer about the exchanges of journals is the fault of the journals, or that there is none.
+/// The answer about the exchanges of journals is the fault of the journals, or states that there is no fault.
 pub fn exchanges_tell()
     ensures { ExchangesTell }
 {}
 
-/// An audit has one answer for given journals: no fault and these holdings, or this fault; apart from out of memory.
+/// An audit has one answer for given journals: no fault and these holdings, or this fault. Only out of memory may
+/// come in place of it.
 pub fn audits_have_one_answer()
     ensures { AuditsHaveOneAnswer }
 {}

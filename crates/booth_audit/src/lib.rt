@@ -1,5 +1,5 @@
-//! The audit of the journals of a cluster: it replays each journal by the rules, watches its starts, looks for each
-//! received message among the sent ones, and reports which member held which ticket when.
+//! The audit of the journals of a cluster. It replays each journal by the rules, watches its starts, and looks for
+//! each received message among the sent ones. It reports which member held which ticket when.
 #![tactic(auto)]
 
 mod audited;

@@ -14,7 +14,7 @@ use booth_rec::Record;
 use std::alloc::Global;
 use std::marker::Model;
 
-/// The lines that are left, and how they ended, if they have.
+/// The lines that are left, and the way in which they ended, if they have.
 #[derive(Drop)]
 pub(crate) struct Lines<'a> {
     rest: &'a [u8],
@@ -61,7 +61,11 @@ fn begins_start(text: &[u8], call: &[u8], behind: &[u8]) -> bool
     is_open_next(behind)
 }
 
-// Returns the line of the answer to the call with this text and what follows it, or how the lines end here.
+// Returns the line of the answer to the call with this text and the bytes after it.
+//
+// # Errors
+//
+// Returns the way in which the lines end here.
 fn found<'a>(text: &[u8], rest: &'a [u8]) -> Result<(&'a [u8], &'a [u8]), End>
     ensures taken { (left : List Said) → Says rest.now left → IfOk result (λ parts.
         IsTaken text.now rest.now left parts.0.now parts.1.now) }
@@ -108,7 +112,7 @@ impl<'a> Lines<'a> {
         self.line
     }
 
-    /// Returns how the lines ended, if they have.
+    /// Returns the way in which the lines ended, if they have.
     pub(crate) fn end(&self) -> Option<End>
         ensures { result ≡ self.now.end }
     {
@@ -138,7 +142,7 @@ impl<'a> Lines<'a> {
         }
     }
 
-    /// Returns whether the call with this text was done, or none if memory for its answer is out.
+    /// Returns whether the call with this text was done, or `None` if memory for its answer is out.
     pub(crate) fn done(&mut self, text: &[u8]) -> Option<Result<(), Failed>>
         ensures { (left : List Said) → Says self.old.rest left → IfSome result (λ done.
             Comes left text.now (IsDoneBy done) self.old self.new) }

@@ -1,4 +1,5 @@
-//! The records that a member may have written for each ticket, and the first record of a start that is none of them.
+//! The records that a member may have written for each ticket, and the first record of a start that is not one of
+//! them.
 ghost use Rattle.std.specs.Prelude.{◌≡◌, ◌≤◌, ◌^◌, [], ◌∷◌, IfOk, OnOk, is_ok};
 ghost use Rattle.booth_node.specs.Records.{may_after_keep};
 ghost use Rattle.booth_rec.specs.Record.{record_or_none};
@@ -12,8 +13,8 @@ use booth_rec::Record;
 use std::alloc::{AllocError, Global};
 use std::marker::Model;
 
-/// The records that a member may have written for a ticket, the latest first: the last one that was read or written,
-/// and those whose write failed or was interrupted since.
+/// The records that a member may have written for a ticket, the latest first: the last record that was read or
+/// written, and the records whose write failed or was interrupted since.
 #[derive(Drop)]
 pub(crate) struct MayKeep {
     kept: Record,
@@ -30,7 +31,7 @@ impl Model for MayKeep {
 }
 
 impl MayKeep {
-    /// Returns this record alone.
+    /// Returns a list with only this record.
     pub(crate) fn one(alloc: Global, kept: Record) -> MayKeep
         ensures { result ≡ kept ∷ [] }
     {
@@ -40,7 +41,8 @@ impl MayKeep {
         }
     }
 
-    /// Returns the records after a write with this answer. An interrupted write has the answer of one that failed.
+    /// Returns the records after a write with this answer. An interrupted write has the answer of a write that
+    /// failed.
     #[tactic(auto, using(crate::proofs::MayLemmas::with_tried))]
     pub(crate) fn keep(
         &mut self,
@@ -88,7 +90,7 @@ pub(crate) fn first_may(alloc: Global, tickets: &[TicketConf]) -> Result<Vec<May
         .collect(alloc)
 }
 
-/// Returns the records that may have been written, after a start that read these.
+/// Returns the records that may have been written, after a start that read these records.
 pub(crate) fn read_may(
     alloc: Global,
     records: &[Option<Record>],
@@ -101,7 +103,7 @@ pub(crate) fn read_may(
         .collect(alloc)
 }
 
-/// Returns the records after a write for the ticket at a place, if there is one.
+/// Returns the records after a write for the ticket at a place, if there is such a ticket.
 #[tactic(auto, using(crate::proofs::MayLemmas::changed_there, crate::proofs::MayLemmas::changed_past))]
 pub(crate) fn keep_at(
     all: &mut Vec<MayKeep>,
@@ -142,7 +144,7 @@ fn answer_line(count: u64, place: u64, last: u64) -> u64
     (last + 1).saturating_sub(later.saturating_mul(2))
 }
 
-/// Returns the line of the first record of a start, which has this line, that the member may not have written.
+/// Returns the line of the first record of a start that the member may not have written. The start has this line.
 pub(crate) fn wrong_line(all: &[MayKeep], records: &[Option<Record>], last: u64) -> Option<u64>
     requires { last ≤ 2 ^ 63 }
     ensures { result ≡ wrong_line all.now records.now last }

@@ -1,4 +1,4 @@
-//! What is noted about a journal while it is replayed.
+//! The notes about a journal while it is replayed.
 ghost use Rattle.std.specs.Prelude.{◌≡◌, ◌<◌, ◌++◌, IfOk, OnOk};
 ghost use Rattle.booth_node.specs.Session.{IsCut, Makes, Starts};
 ghost use Rattle.booth_rec.specs.Record.{record_or_none};

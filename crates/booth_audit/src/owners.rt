@@ -14,12 +14,12 @@ use booth_conf::{Config, Member};
 use booth_journal::{Call, is_open, look, read_call};
 use std::alloc::Global;
 
-/// Why a journal has no known owner.
+/// The reason why a journal has no known owner.
 #[derive(Clone, Copy, Drop)]
 pub(crate) enum OwnerFault {
-    /// Its starts are not those of one member.
+    /// Its starts do not belong to one member.
     NotOne,
-    /// Memory for a call is out.
+    /// There was no memory for a call.
     OutOfMemory,
 }
 
@@ -30,7 +30,7 @@ fn place_at(members: &[Member], address: Address) -> Option<usize>
     members.iter().position(|member| address == member.address)
 }
 
-// Returns the place of the member that listens there.
+// Returns the place of the member that listens at this address.
 fn place_of(config: &Config, local: Option<Address>) -> Option<u32>
     ensures { result ≡ place_of config.now.members local }
 {
@@ -59,7 +59,7 @@ fn place_in(alloc: Global, config: &Config, call: &[u8]) -> Result<Option<u32>, 
     }
 }
 
-// Returns the member, if its place is also this one.
+// Returns the member, if it also has this place.
 fn one_owner(owner: Option<u32>, place: u32) -> Result<Option<u32>, OwnerFault>
     ensures { IsOneOwner owner place result }
 {
@@ -92,7 +92,7 @@ fn next_owner(
     }
 }
 
-/// Returns the place of the member whose starts a journal has, or none if no start listened.
+/// Returns the place of the member whose starts a journal has, or `None` if no start listened.
 pub(crate) fn owner(alloc: Global, config: &Config, text: &[u8]) -> Result<Option<u32>, OwnerFault>
     requires says { (all : List Said) × Says text.now all }
     ensures { (all : List Said) → Says text.now all → IsOwner config.now.members all result }
@@ -109,7 +109,7 @@ pub(crate) fn owner(alloc: Global, config: &Config, text: &[u8]) -> Result<Optio
     Ok(owner)
 }
 
-// Returns how many lines a call with this answer has.
+// Returns the number of lines of a call with this answer.
 fn lines_of(answer: Option<&[u8]>) -> u64
     ensures { result ≡ lines_of (option_map (λ bytes. bytes.now) answer.entry) }
 {
@@ -119,7 +119,8 @@ fn lines_of(answer: Option<&[u8]>) -> u64
     }
 }
 
-/// Returns the line of the first call that was not demanded of no one: each one except a reading of a clock.
+/// Returns the line of the first call that was not demanded, in a journal that belongs to no one. That is the first
+/// call that is not a reading of a clock.
 pub(crate) fn nobody_strays(text: &[u8]) -> Option<u64>
     requires short { length text.now < 2 ^ 63 }
     requires says { (all : List Said) × Says text.now all }

@@ -1,4 +1,4 @@
-//! A host with the answers of a journal, as long as the requested calls are those of the journal.
+//! A host with the answers of a journal, as long as the requested calls are the calls of the journal.
 ghost use Rattle.std.specs.Prelude.{◌≡◌, ◌≤◌, ◌+◌, ◌-◌, ◌^◌, List, ℕ, IsSome, MatchBool, None, Some, [], length};
 ghost use Rattle.booth_host.specs.Told.{told_past};
 ghost use Rattle.booth_audit.specs.Hosts.{IsReplay};
@@ -12,8 +12,8 @@ use booth_rec::Record;
 use std::alloc::Global;
 use std::marker::{Brand, Model, PhantomData};
 
-/// The text that is replayed and the number of its first line, as part of a type: a turn, whose contract covers every
-/// host, can then not leave a host of another text.
+/// The text that is replayed and the number of its first line, as part of a type. So a turn, whose contract covers
+/// every host, cannot leave a host of another text.
 pub(crate) trait ReplayedText {
     ghost text: { List ℕ };
 
@@ -26,15 +26,15 @@ impl ReplayedText for Brand {
     ghost line = { 0 };
 }
 
-/// A host that answers by the lines of the text and, once these end, with anything. It records all requested calls,
-/// until memory runs out. A turn requests waits, readings, sends, writes and starts; after any other request the host
-/// records nothing.
+/// A host that answers by the lines of the text. After the lines end, it answers with anything. It records all
+/// requested calls, until memory runs out. A turn requests waits, readings, sends, writes and starts; after any other
+/// request the host records nothing.
 #[derive(Drop)]
 pub(crate) struct ReplayHost<'a, J: ReplayedText> {
     alloc: Global,
     lines: Lines<'a>,
     told: Told,
-    // the call that is compared; its bytes have no meaning between two calls
+    // the call that is compared; between two calls its bytes have no meaning
     draft: Draft,
     of: PhantomData<J>,
 }
@@ -68,7 +68,7 @@ impl<'a, J: ReplayedText> ReplayHost<'a, J> {
         }
     }
 
-    /// Returns how the lines ended, if they have.
+    /// Returns the way in which the lines ended, if they have.
     pub(crate) fn end(&self) -> Option<End>
         ensures end { result ≡ self.now.place.end }
         ensures sound { IsReplay J.text J.line self.now }
@@ -76,7 +76,7 @@ impl<'a, J: ReplayedText> ReplayHost<'a, J> {
         self.lines.end()
     }
 
-    /// Returns whether it records its calls: memory sufficed for all of them.
+    /// Returns whether the host records its calls: memory was enough for all of them.
     pub(crate) fn tells(&self) -> bool
         ensures { MatchBool result (IsSome self.now.past) (self.now.past ≡ None) }
     {

@@ -13,7 +13,8 @@ use booth_node::Node;
 use std::alloc::{AllocError, Global};
 use std::marker::Brand;
 
-/// What is left of a journal after a turn, how its lines ended if they did, and all calls that the turn requested.
+/// The rest of a journal after a turn, the way in which its lines ended if they did, and all calls that the turn
+/// requested.
 #[derive(Drop)]
 pub(crate) struct Turned<'a> {
     pub rest: &'a [u8],

@@ -1,4 +1,4 @@
-//! What members sent, and the check that a received message was sent.
+//! The messages that members sent, and the check that a received message was sent.
 ghost use Rattle.std.specs.Prelude.{◌≡◌, ◌↔◌, ◌++◌, ◌∷◌, [], IfOk, IsTrue, List, OnOk};
 ghost use Rattle.booth_node.specs.Records.{Has};
 ghost use Rattle.booth_wire.specs.PlainMessage.{plain_of};
@@ -12,7 +12,8 @@ use std::alloc::{AllocError, Global};
 use std::collections::HashSet;
 use std::marker::Model;
 
-/// What members sent. Contracts see the frames of the messages, each in its one spelling without a signature.
+/// The messages that members sent. Contracts see the frames of the messages, each in its one spelling without a
+/// signature.
 #[derive(Drop)]
 pub(crate) struct Sends {
     alloc: Global,
@@ -74,7 +75,7 @@ impl Sends {
         Ok(())
     }
 
-    /// Adds all that the member with this id sent.
+    /// Adds all messages that the member with this id sent.
     pub(crate) fn add(&mut self, id: MemberId, sent: &[ByteText]) -> Result<(), AllocError>
         ensures { OnOk result ((senders : List Sender) → KnowsAll self.old senders
             → KnowsAll self.new (senders ++ record { id = id; sent = sent.now } ∷ [])) }
@@ -91,7 +92,7 @@ impl Sends {
         self.frames.contains(self.frame.bytes())
     }
 
-    /// Returns whether the message of a datagram was sent by the member whose id it carries.
+    /// Returns whether the member whose id the message of a datagram carries sent the message.
     pub(crate) fn was_sent(&mut self, bytes: &[u8]) -> bool
         ensures same { self.new ≡ self.old }
         ensures sent { (senders : List Sender) → KnowsAll self.old senders

@@ -17,7 +17,7 @@ use booth_journal::{Answer, Draft, look, read_reading};
 use booth_node::Node;
 use std::alloc::{AllocError, Global};
 
-/// What is left of a journal.
+/// The rest of a journal.
 #[derive(Drop)]
 pub(crate) struct Left<'a> {
     pub rest: &'a [u8],
@@ -27,7 +27,7 @@ pub(crate) struct Left<'a> {
     pub draft: Draft,
 }
 
-/// What is left of a journal when no session is under way, or when a call was not demanded.
+/// The rest of a journal when no session is under way, or when a call was not demanded.
 #[derive(Drop)]
 pub(crate) struct Behind<'a> {
     pub left: Left<'a>,
@@ -35,7 +35,7 @@ pub(crate) struct Behind<'a> {
     pub strays: bool,
 }
 
-// Returns what follows a call without an answer.
+// Returns the bytes after a call without an answer.
 fn skip(text: &[u8]) -> &[u8]
     ensures { (said : Said) (more : List Said) → Says text.now (said ∷ more)
         → Says result.now more × (length result.now + 1 ≤ length text.now) }
@@ -46,7 +46,7 @@ fn skip(text: &[u8]) -> &[u8]
     }
 }
 
-// Returns what is left if the lines ended in this way, or if a call of a start failed.
+// Returns the rest of a journal if the lines ended in this way, or if a call of a start failed.
 fn left_behind<'a>(from: Left<'a>, end: Option<End>) -> Behind<'a>
     requires { from.line + length from.rest.now ≤ 2 ^ 63 }
     ensures { IsBehind end from.entry.rest.now from.entry.line result.strays result.left.rest.now result.left.line }
@@ -75,7 +75,7 @@ fn left_behind<'a>(from: Left<'a>, end: Option<End>) -> Behind<'a>
     }
 }
 
-// Returns the calls of a turn that were read, from this line on, and those that were not.
+// Returns the calls of a turn that were read, from this line on, and the calls that were not read.
 fn parts<'t>(turned: &'t Turned<'_>, line: u64) -> Option<(&'t [Entry], &'t [Entry])>
     ensures { IfSome result (λ parts. ArePartsOf (told_past turned.now.told) ((turned.now.line - line) / 2)
         parts.0.now parts.1.now) }
@@ -100,7 +100,7 @@ fn tally_first(
     }
 }
 
-// Tallies the interrupted call if the lines ended at this one.
+// Tallies the interrupted call, if the lines ended at this call.
 fn tally_cut(
     whose: &Whose<'_>,
     end: Option<End>,
@@ -188,7 +188,7 @@ fn replay_turns<'a>(
     replay_each(alloc, whose, &mut node, from, tally)
 }
 
-// Replays a start that read its clock with this result, and its session if all its calls have answers.
+// Replays a start whose clock returned this reading. If all calls of the start have answers, also replays its session.
 fn replay_start<'a>(
     alloc: Global,
     whose: &Whose<'_>,
@@ -220,7 +220,7 @@ fn replay_start<'a>(
     Ok(found)
 }
 
-/// Replays the next start and its session, when no session is under way. Returns none if no call is left.
+/// Replays the next start and its session, when no session is under way. Returns `None` if no call is left.
 pub(crate) fn replay_next<'a>(
     alloc: Global,
     whose: &Whose<'_>,

@@ -12,7 +12,7 @@ use booth_journal::{Draft, spell_kept, spell_open};
 use booth_rec::Record;
 use std::alloc::{AllocError, Global};
 
-// Returns the records of these tickets, or none if one was not read.
+// Returns the records of these tickets, or `None` if one was not read.
 fn read_records(
     alloc: Global,
     tickets: &[TicketConf],
@@ -45,7 +45,8 @@ fn read_records(
     Ok(Some(records))
 }
 
-/// Returns the record of each ticket, which a start reads once it listens, or none if the start has no session.
+/// Returns the record of each ticket, which a start reads after it has opened its socket. Returns `None` if the start
+/// has no session.
 pub(crate) fn read_start(
     alloc: Global,
     whose: &Whose<'_>,

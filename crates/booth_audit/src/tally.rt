@@ -15,7 +15,7 @@ use booth_rec::Record;
 use std::alloc::{AllocError, Global};
 use std::marker::Model;
 
-/// What was noted about a member, what the watch over its starts has found, and what it received from others.
+/// The notes about a member, the result of the watch over its starts, and the messages that it received from others.
 #[derive(Drop)]
 pub struct Tally {
     notes: Notes,
@@ -50,7 +50,8 @@ impl Tally {
         self.notes.last()
     }
 
-    /// Returns the line of the first record that a start read and the member may not have written, if there is one.
+    /// Returns the line of the first record that a start read and that the member may not have written, if there is
+    /// one.
     pub(crate) fn wrong(&self) -> Option<u64>
         ensures { result ≡ self.now.watched.wrong }
     {
@@ -78,7 +79,7 @@ impl Tally {
         self.hearings.all()
     }
 
-    /// Tallies a start, which read these records, the last of them at this line.
+    /// Tallies a start that read these records. The last read is at this line.
     pub(crate) fn start(
         &mut self,
         whose: &Whose<'_>,
@@ -129,7 +130,7 @@ impl Tally {
         Ok(())
     }
 
-    /// Tallies the calls of a turn with answers, the first of them at this line.
+    /// Tallies the calls of a turn with answers. The first of them is at this line.
     pub(crate) fn calls(
         &mut self,
         whose: &Whose<'_>,

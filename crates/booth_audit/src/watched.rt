@@ -18,7 +18,7 @@ use std::alloc::{AllocError, Global};
 use std::marker::Model;
 
 /// The records that the member may have written for each ticket, and the line of the first record that a start read
-/// and that is none of them.
+/// and that is not one of them.
 #[derive(Drop)]
 pub(crate) struct Watch {
     alloc: Global,
@@ -118,7 +118,7 @@ impl Watch {
         }
     }
 
-    /// Watches a call without an answer. An interrupted write counts as one that failed.
+    /// Watches a call without an answer. An interrupted write counts as a write that failed.
     pub(crate) fn cut(&mut self, whose: &Whose<'_>, entry: &Entry) -> Result<(), AllocError>
         ensures { (line : ℕ) → OnOk result (self.new
             ≡ watched whose.now self.old (record { what = IsCut (cut_of entry.now); line = line })) }

@@ -41,7 +41,7 @@ impl<'a> Model for Whose<'a> {
 }
 
 impl<'a> Whose<'a> {
-    /// Returns the member at this place, or none if the configuration has no such member.
+    /// Returns the member at this place, or `None` if the configuration has no such member.
     pub fn new(config: &'a Config, ring: Option<&'a Ring>, place: u32) -> Option<Whose<'a>>
         ensures { IfSome result (λ whose. IsMember config.now (option_copied ring.entry) place whose) }
     {

@@ -84,7 +84,7 @@ IsTrusted (Some ring) None = Unit {0}
 IsTrusted (Some ring) (Some other) = HasKey other ring.first
 
 -- A message that a member seals at `now` is accepted by every other member that has the key of the seal, with either
--- hash, if that member's clock is at most `skew` seconds ahead. (The seconds end with their field, in 2106.)
+-- hash, if that member's clock is at most `skew` seconds ahead. (The field of the seconds is full in 2106.)
 abbrev pub SealedIsAccepted : Type 0
 SealedIsAccepted =
     (config : ConfigSays) (ring others : Option Ring) (other : MemberId) (now later : ℕ) (l : PlainMessage) →

@@ -9,7 +9,8 @@ use Rattle.booth_keys.specs.declared.ring.Hash.{Hash}
 use Rattle.booth_keys.specs.declared.ring.Hash.TheVariants.{Sha1, Sha256}
 use Rattle.booth_keys.specs.declared.ring.Ring.{Ring}
 
--- the head of a message sent at a reading in ms: its whole seconds, as far as the field goes, and the rest in us
+-- the head of a message that is sent at a reading in milliseconds: `secs` has the whole seconds, up to the greatest
+-- value of the field, and `usecs` has the rest
 abbrev pub stamped_head : Bool → ℕ → Head → Head
 stamped_head auth now h = record h {
   auth = auth;

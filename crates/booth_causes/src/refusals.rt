@@ -11,7 +11,8 @@ use std::str;
 /// The kind of a request.
 #[derive(Clone, Copy)]
 pub enum Request {
-    /// A grant of the ticket to a site; `immediate`: although another site is known to have it.
+    /// A grant of the ticket to a site. If `immediate` is true, the client wants the grant even if another site is
+    /// known to have the ticket.
     Grant { immediate: bool },
     /// A revocation of the ticket.
     Revoke,

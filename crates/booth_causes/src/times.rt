@@ -59,7 +59,7 @@ impl Said {
         }
     }
 
-    // Returns these times, and those of the defaults for what is missing.
+    // Returns these times, with the defaults for the missing ones.
     fn or(self, defaults: Said) -> Said {
         Said {
             expire: self.expire.or(defaults.expire),

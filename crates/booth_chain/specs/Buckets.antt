@@ -4,7 +4,7 @@ use Rattle.std.specs.List.{count_by, list_any, range_with_len}
 use Rattle.booth_chain.specs.Wheel.{Timer}
 use Rattle.booth_chain.specs.declared.buckets.TheConstants.{SPAN_MS, BUCKETS}
 
--- how many buckets there are from that of one moment to that of a later one: at most all 512
+-- the number of buckets from the bucket of one moment to the bucket of a later moment: at most all 512
 abbrev pub buckets_between : ℕ → ℕ → ℕ
 buckets_between swept now = min BUCKETS (now / SPAN_MS - swept / SPAN_MS + 1)
 

@@ -23,8 +23,8 @@ abbrev pub added_at : ℕ → ℕ → Option ℕ → List ℕ
 added_at now slot None = []
 added_at now slot (Some deadline) = if nat_le deadline now then slot ∷ [] else []
 
--- the slot's deadline is in the bucket that comes `step` buckets after that of the latest moment at which nothing was
--- due
+-- the slot's deadline is in the bucket that is `step` buckets after the bucket of the latest moment at which nothing
+-- was due
 abbrev pub IsAfter : Timer → ℕ → ℕ → Type 0
 IsAfter timer step slot = bucket_of timer.swept (slice_index_or timer.deadlines slot None)
     ≡ bucket_after (timer.swept / SPAN_MS) step

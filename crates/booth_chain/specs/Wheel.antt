@@ -31,7 +31,7 @@ pub record NothingDue (old : Timer) (now : ℕ) (new : Timer) : Type 0 where
   pub none : (slot deadline : ℕ) → IsDue old.deadlines now slot deadline → ⊥
   pub new_is : new ≡ record { deadlines = old.deadlines; last = now; swept = now }
 
--- The slot was due, and no other one before it. It has no deadline any more.
+-- The slot was the first one that was due. It has no deadline any more.
 pub record SlotDue (old : Timer) (now slot : ℕ) (new : Timer) : Type 0 where
   pub deadline : ℕ
   pub due : IsDue old.deadlines now slot deadline

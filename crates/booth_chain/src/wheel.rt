@@ -67,7 +67,7 @@ impl Wheel {
         })
     }
 
-    /// Moves a slot to the list of another deadline, or to that of the slots without one.
+    /// Moves a slot to the list of another deadline, or to the list of the slots without a deadline.
     fn put(&mut self, slot: u32, deadline: Option<u64>)
         requires { slot < length self.old.deadlines }
         ensures { self.new ≡ with_deadline self.old slot deadline }
@@ -151,7 +151,8 @@ impl Wheel {
         }
     }
 
-    /// Returns how many buckets there are from that of the latest moment at which nothing was due to that of `now`.
+    /// Returns the number of buckets from the latest moment at which nothing was due up to `now`, with the buckets of
+    /// both moments.
     fn reach(&self, now: u64) -> u64
         requires { self.now.last ≤ now }
         ensures many { result ≡ buckets_between self.now.swept now }
@@ -160,8 +161,8 @@ impl Wheel {
         (now / SPAN_MS - self.swept / SPAN_MS + 1).min(BUCKETS)
     }
 
-    /// Appends the due slots of the bucket that comes `step` buckets after that of the latest moment at which nothing
-    /// was due.
+    /// Appends the due slots of one bucket. The wheel knows the latest moment at which nothing was due; the bucket
+    /// comes `step` places after the bucket of this moment.
     fn collect_bucket<L: Ledger>(
         &self,
         step: u64,

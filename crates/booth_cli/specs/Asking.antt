@@ -41,7 +41,7 @@ pub record IsDaemonOf (read : Read) (asked : DaemonWords) : Type 0 where
   pub records : asked.records ≡ read.records
   pub conf : asked.conf ≡ read.conf
 
--- the arguments are those of this daemon
+-- the arguments ask for this daemon
 pub record AsksDaemon (words : List (List ℕ)) (asked : DaemonWords) : Type 0 where
   pub all : Read
   pub asks : AreTaken Boothd words verbs.Daemon all
@@ -57,7 +57,7 @@ pub record IsSimulationOf (read : Read) (asked : SimulationWords) : Type 0 where
   pub events : asked.events ≡ read.events
   pub number : asked.number ≡ read.number
 
--- the arguments are those of this simulation
+-- the arguments ask for this simulation
 pub record AsksSimulation (words : List (List ℕ)) (asked : SimulationWords) : Type 0 where
   pub all : Read
   pub asks : AreTaken Boothd words verbs.Simulate all
@@ -68,7 +68,7 @@ pub record IsAuditOf (read : Read) (asked : AuditWords) : Type 0 where
   pub conf : asked.conf ≡ read.conf
   pub journals : asked.journals.items ≡ read.journals.items
 
--- the arguments are those of this audit
+-- the arguments ask for this audit
 pub record AsksAudit (words : List (List ℕ)) (asked : AuditWords) : Type 0 where
   pub all : Read
   pub asks : AreTaken Boothd words verbs.Audit all
@@ -119,7 +119,7 @@ is_client program = false
 abbrev pub IsClient : Program → Type 0
 IsClient program = T (is_client program)
 
--- the arguments are those of this client
+-- the arguments ask for this client
 pub record AsksClient (program : Program) (words : List (List ℕ)) (asked : ClientWords) : Type 0 where
   pub verb : Verb
   pub all : Read
@@ -135,7 +135,7 @@ pub record IsMoveOf (read : Read) (asked : MoveWords) : Type 0 where
   pub site : asked.site ≡ read.site
   pub conf : asked.conf ≡ read.conf
 
--- the arguments are those of this move
+-- the arguments ask for this move
 pub record AsksMove (words : List (List ℕ)) (asked : MoveWords) : Type 0 where
   pub all : Read
   pub asks : AreTaken Booth words verbs.Move all
@@ -151,7 +151,7 @@ pub record IsFollowOf (read : Read) (asked : FollowWords) : Type 0 where
   pub records : asked.records ≡ read.records
   pub conf : asked.conf ≡ read.conf
 
--- the arguments are those of this service
+-- the arguments ask for this service
 pub record AsksFollow (words : List (List ℕ)) (asked : FollowWords) : Type 0 where
   pub all : Read
   pub asks : AreTaken BoothFollow words verbs.Follow all
@@ -162,7 +162,7 @@ pub record NamesCommand (program : Program) (words : List (List ℕ)) : Type 0 w
   pub verb : Verb
   pub named : verb_in program words ≡ Some verb
 
--- the command does not accept the arguments, and this kind of fault is one of theirs
+-- the command does not accept the arguments, and they have a fault of this kind
 pub record IsUntaken (program : Program) (words : List (List ℕ)) (kind : ErrorKind) : Type 0 where
   pub verb : Verb
   pub named : verb_in program words ≡ Some verb

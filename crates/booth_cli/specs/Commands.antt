@@ -21,7 +21,7 @@ needed rule = record rule { required = true }
 abbrev pub flag : List ℕ → ℕ → Rule
 flag id letter = record (new_rule id) { short = Some letter; action = Some SetTrue }
 
--- the flag by which a move goes on although a follower runs here
+-- the flag with which a move continues although a follower runs here
 abbrev pub force : Rule
 force = record (flag (codes "force") 102) { long = Some (codes "force") }
 

@@ -116,7 +116,7 @@ pub enum Asked {
 pub enum Refusal {
     /// There is no first argument, or it is not a command.
     NoCommand,
-    /// The command does not accept the others, or help was requested, or memory was out.
+    /// The command does not accept the others, or help was requested, or the memory ran out.
     Untaken(Error),
     /// This is the first argument that its reader refuses.
     Bad(Word),

@@ -1,4 +1,4 @@
--- How the clock that is kept is spelled, and when bytes spell none.
+-- The spelling of the stored clock, and when bytes spell none.
 use Rattle.std.specs.Prelude.{◌≡◌, ℕ, ◌<◌, ◌^◌, List, ◌++◌, length, take, drop}
 use Rattle.std.specs.Int.{w64, from_be_bytes, to_be_bytes}
 use Rattle.booth_clock.specs.declared.kept.KeptClock.{KeptClock}
@@ -18,6 +18,6 @@ pub record Spells (bytes : List ℕ) (kept : KeptClock) : Type 0 where
   pub boot : length kept.boot.0 ≡ 36
   pub spelled : bytes ≡ spelling kept
 
--- the number that stands at a place
+-- the number at a place
 abbrev pub long_at : ℕ → List ℕ → ℕ
 long_at at bytes = from_be_bytes w64 (take 8 (drop at bytes))

@@ -1,4 +1,4 @@
--- How a clock begins, what it reads, and when a step of the wall clock is told.
+-- How a clock starts, what it reads, and when a step of the wall clock is reported.
 use Rattle.std.specs.Prelude.{◌≡◌, ◌≢◌, ℕ, ◌+◌, ◌-◌, ◌^◌, ◌≤◌, min, max, nat_lt, if◌then◌else◌, Option, None, Some, Result, Ok, Err}
 use Rattle.booth_clock.specs.declared.kept.BootId.{BootId}
 use Rattle.booth_clock.specs.declared.kept.KeptClock.{KeptClock}
@@ -9,52 +9,52 @@ use Rattle.booth_clock.specs.declared.own_clock.ClockFault.TheVariants.{Behind, 
 use Rattle.booth_clock.specs.declared.own_clock.Step.{Step}
 use Rattle.booth_clock.specs.declared.own_clock.Step.TheVariants as step
 
--- what a clock of this offset reads at this time since the boot; a u64 ends it
+-- what a clock with this offset reads at this time since the boot; a u64 limits it
 abbrev pub reading_at : ℕ → ℕ → ℕ
 reading_at offset boot = min (offset + boot) (2 ^ 64 - 1)
 
--- ---- how it begins
+-- ---- the start
 
--- with this offset, and not behind what was reached
+-- with this offset, and not behind the reading that was reached
 abbrev pub begun_with : BootId → ℕ → ℕ → Readings → Result OwnClock ClockFault
 begun_with boot offset reached readings =
     if nat_lt (reading_at offset readings.boot) reached then Err Behind
     else Ok (record { boot = boot; offset = offset; last = reading_at offset readings.boot; told = offset })
 
--- with the offset that has it read what the wall clock does
+-- with the offset by which it reads what the wall clock reads
 abbrev pub begun_anew : BootId → ℕ → Readings → Result OwnClock ClockFault
 begun_anew boot reached readings =
     if nat_lt readings.wall readings.boot then Err Early
     else begun_with boot (readings.wall - readings.boot) reached readings
 
--- The offset that is kept holds in its own boot; in each other one the clock is taken anew.
+-- The stored offset holds in its own boot; in any other boot the clock is set anew.
 pub record GoesOn (boot : BootId) (kept : KeptClock) (readings : Readings) (result : Result OwnClock ClockFault)
     : Type 0 where
   pub same_boot : kept.boot ≡ boot → result ≡ begun_with boot kept.offset kept.reached readings
   pub new_boot : kept.boot ≢ boot → result ≡ begun_anew boot kept.reached readings
 
--- The outcome of a beginning, by what is kept.
+-- The result of a start, by what is stored.
 abbrev pub Begins : BootId → Option KeptClock → Readings → Result OwnClock ClockFault → Type 0
 Begins boot None readings result = result ≡ begun_anew boot 0 readings
 Begins boot (Some kept) readings result = GoesOn boot kept readings result
 
--- ---- the wall clock against it
+-- ---- the wall clock compared with it
 
 abbrev pub distance : ℕ → ℕ → ℕ
 distance a b = max a b - min a b
 
--- what was read of the wall clock is this reading, but for roundings
+-- a reading of the wall clock equals this reading, apart from rounding
 abbrev pub IsNear : ℕ → ℕ → Type 0
 IsNear own wall = distance own wall ≤ 2
 
--- what the wall clock reads beyond the time since the boot
+-- how far the wall clock is ahead of the time since the boot
 abbrev pub wall_offset : Readings → ℕ
 wall_offset readings = readings.wall - readings.boot
 
 abbrev pub step_of : ℕ → ℕ → Step
 step_of offset wall = if nat_lt wall offset then step.Behind (offset - wall) else step.Ahead (wall - offset)
 
--- a step is told where the wall clock's offset is further than 100 ms from the one that was told last
+-- a step is reported if the wall clock's offset differs by more than 100 ms from the one that was reported last
 abbrev pub step_seen : ℕ → ℕ → ℕ → Option Step
 step_seen offset told wall = if nat_lt 100 (distance told wall) then Some (step_of offset wall) else None
 

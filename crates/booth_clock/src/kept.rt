@@ -1,4 +1,5 @@
-//! What is kept of the clock through restarts, and its one spelling: 60 bytes, numbers in network order.
+//! The part of the clock that is stored across restarts, and its one spelling: 60 bytes, numbers in network byte
+//! order.
 ghost use Rattle.std.specs.Prelude.{◌≡◌, ◌+◌, ◌≤◌, ◌↔◌, length, Some, IfSome, IsTrue};
 ghost use Rattle.booth_clock.specs.Kept.{spelling, long_at, Spells};
 
@@ -12,19 +13,19 @@ const VERSION: u64 = 1;
 #[derive(Clone, Copy, PartialEq, Eq)]
 pub struct BootId(pub [u8; 36]);
 
-/// What is kept of the clock.
+/// The stored clock.
 #[derive(Clone, Copy)]
 pub struct KeptClock {
-    /// The boot in which the offset was taken.
+    /// The boot in which the offset was determined.
     pub boot: BootId,
-    /// What the clock reads beyond the time since the boot, in milliseconds.
+    /// How far the clock is ahead of the time since the boot, in milliseconds.
     pub offset: u64,
     /// A reading that was reached, in milliseconds since 1970.
     pub reached: u64,
 }
 
 impl KeptClock {
-    /// The one spelling.
+    /// Returns the one spelling.
     pub fn encode(&self) -> [u8; 60]
         ensures { result ≡ spelling self.now }
     {
@@ -36,7 +37,7 @@ impl KeptClock {
         bytes
     }
 
-    /// What these bytes spell; none where they spell nothing that is kept.
+    /// Returns the clock that these bytes spell, or none if they spell no clock.
     pub fn decode(bytes: &[u8]) -> Option<KeptClock>
         ensures found { IfSome result (Spells bytes.now) }
         ensures again { (kept : KeptClock) → Spells bytes.now kept → result ≡ Some kept }
@@ -65,7 +66,7 @@ impl KeptClock {
     }
 }
 
-// The number of 8 bytes at a place.
+// Returns the number of 8 bytes at a place.
 fn long_at(bytes: &[u8], at: usize) -> u64
     requires { at + 8 ≤ length bytes.now }
     ensures { result ≡ long_at at bytes.now }

@@ -1,4 +1,5 @@
-//! The clock of a daemon: the time since the machine's boot, and an offset that is taken once in a boot and kept.
+//! The clock of a daemon: the time since the machine's boot, and an offset that is determined once in a boot and
+//! stored.
 #![tactic(auto)]
 
 mod kept;

@@ -1,27 +1,27 @@
-//! The clock itself: how it begins, what it reads, and the steps of the wall clock against it.
+//! The clock itself: how it starts, what it reads, and the steps of the wall clock compared with it.
 ghost use Rattle.std.specs.Prelude.{◌≡◌, ◌↔◌, max, IsTrue};
 ghost use Rattle.booth_clock.specs.OwnClock.{reading_at, begun_with, begun_anew, Begins, wall_offset, step_of, step_seen, told_after, IsNear};
 
 use crate::{BootId, KeptClock};
 use thiserror::Error;
 
-/// By how many milliseconds the wall clock has to step before it is told.
+/// By how many milliseconds the wall clock must step before the step is reported.
 const STEP_MS: u64 = 100;
 
-/// How many milliseconds a reading of the wall clock may be off before it is no reading of this clock: what the
-/// roundings of four readings make.
+/// By how many milliseconds a reading of the wall clock may differ from one of this clock: the rounding of four
+/// readings.
 const NEAR_MS: u64 = 2;
 
 /// Both clocks at one moment, in milliseconds.
 #[derive(Clone, Copy)]
 pub struct Readings {
-    /// The time since the boot, also while the machine slept.
+    /// The time since the boot, including the time in which the machine slept.
     pub boot: u64,
     /// The wall clock: the time since 1970.
     pub wall: u64,
 }
 
-/// Why a clock does not begin.
+/// Why a clock does not start.
 #[derive(Clone, Copy, Debug, Drop, Error)]
 pub enum ClockFault {
     #[error("the clock is behind a reading that was reached before")]
@@ -30,7 +30,7 @@ pub enum ClockFault {
     Early,
 }
 
-/// By how many milliseconds the wall clock is off this clock.
+/// By how many milliseconds the wall clock differs from this clock.
 #[derive(Clone, Copy)]
 pub enum Step {
     Ahead(u64),
@@ -41,15 +41,16 @@ pub enum Step {
 #[derive(Clone, Copy)]
 pub struct OwnClock {
     boot: BootId,
-    /// What it reads beyond the time since the boot, in milliseconds.
+    /// How far it is ahead of the time since the boot, in milliseconds.
     offset: u64,
     /// The last reading.
     last: u64,
-    /// What the wall clock read beyond the time since the boot when a step of it was told last; the own offset before.
+    /// How far the wall clock was ahead of the time since the boot when a step of it was reported last; its own
+    /// offset before that.
     told: u64,
 }
 
-// A clock of this offset, where it is not behind the reading that was reached.
+// Returns a clock with this offset, if it is not behind the reading that was reached.
 fn begun_with(
     boot: BootId,
     offset: u64,
@@ -70,7 +71,7 @@ fn begun_with(
     })
 }
 
-// A clock that reads what the wall clock does.
+// Returns a clock that reads what the wall clock reads.
 fn begun_anew(boot: BootId, reached: u64, readings: Readings) -> Result<OwnClock, ClockFault>
     ensures { result ≡ begun_anew boot reached readings }
 {
@@ -80,14 +81,14 @@ fn begun_anew(boot: BootId, reached: u64, readings: Readings) -> Result<OwnClock
     begun_with(boot, readings.wall - readings.boot, reached, readings)
 }
 
-// What a clock of this offset reads at this time since the boot.
+// Returns what a clock with this offset reads at this time since the boot.
 fn reading_at(offset: u64, boot: u64) -> u64
     ensures { result ≡ reading_at offset boot }
 {
     offset.saturating_add(boot)
 }
 
-// What the wall clock reads beyond the time since the boot.
+// Returns how far the wall clock is ahead of the time since the boot.
 fn wall_offset(readings: Readings) -> u64
     ensures { result ≡ wall_offset readings }
 {
@@ -95,9 +96,12 @@ fn wall_offset(readings: Readings) -> u64
 }
 
 impl OwnClock {
-    /// The clock of this boot. In the boot of the clock that is kept it has that offset, whatever the wall clock
-    /// reads; in another boot, and where nothing is kept, it reads what the wall clock does. It does not begin behind
-    /// a reading that was reached.
+    /// Returns the clock of this boot. In the boot of the stored clock it has the stored offset, whatever the wall
+    /// clock reads; in another boot, and if nothing is stored, it reads what the wall clock reads.
+    ///
+    /// # Errors
+    ///
+    /// It would start behind a reading that was reached.
     pub fn begin(
         boot: BootId,
         kept: Option<KeptClock>,
@@ -127,7 +131,7 @@ impl OwnClock {
         self.last
     }
 
-    /// What is to be kept of it.
+    /// Returns the part of it to store.
     pub fn kept(&self) -> KeptClock
         ensures { result ≡ (record { boot = self.now.boot; offset = self.now.offset; reached = self.now.last }) }
     {
@@ -138,7 +142,7 @@ impl OwnClock {
         }
     }
 
-    /// Whether what the wall clock read is what this clock read at the same moment, but for roundings.
+    /// Returns whether the wall clock read the same as this clock at the same moment, apart from rounding.
     pub fn agrees_with(&self, readings: Readings) -> bool
         ensures { IsTrue result ↔ IsNear (reading_at self.now.offset readings.boot) readings.wall }
     {
@@ -146,8 +150,8 @@ impl OwnClock {
         own.max(readings.wall) - own.min(readings.wall) <= NEAR_MS
     }
 
-    /// By how much the wall clock is off this clock, where that has changed by more than 100 milliseconds since it was
-    /// told last.
+    /// Returns by how much the wall clock differs from this clock, if that has changed by more than 100 milliseconds
+    /// since the last report.
     pub fn step(&mut self, readings: Readings) -> Option<Step>
         ensures step { result ≡ step_seen self.old.offset self.old.told (wall_offset readings) }
         ensures clock { self.new ≡ (record {
@@ -166,7 +170,7 @@ impl OwnClock {
     }
 }
 
-// By how much the wall clock is off, where it has this offset.
+// Returns by how much the wall clock differs, if it has this offset.
 fn step_of(offset: u64, wall: u64) -> Step
     ensures { result ≡ step_of offset wall }
 {

@@ -1,4 +1,4 @@
--- The configuration that settings say together, and what may be wrong with the whole file.
+-- The configuration of all settings together, and the faults of the whole file.
 use Rattle.std.specs.Prelude.{◌≡◌, ◌⊎◌, ℕ, Bool, not, nat_lt, ◌==◌, ◌||◌, ◌+◌, ◌*◌, ◌/◌, List, [], ◌∷◌, ◌++◌, map, drop, position, Option, Some, None, option_map, unwrap_or, Result, Ok, Err, if◌then◌else◌}
 use Rattle.std.specs.List.{list_any, filter_map, enumerate_from}
 use Rattle.std.specs.Option.{option_or}
@@ -37,12 +37,12 @@ pub record ConfigSays : Type 0 where
 abbrev pub chosen : {X : Type 0} → Option X → Option X → X → X
 chosen own default table = unwrap_or (option_or own default) table
 
--- the renewal that is set, in seconds, else half of expire
+-- the renewal in seconds if it is set, else half of expire
 abbrev pub renewal_of : Option ℕ → ℕ → ℕ
 renewal_of None expire = expire / 2
 renewal_of (Some seconds) expire = 1000 * seconds
 
--- the number that is chosen for a key
+-- the number for a key
 abbrev pub chosen_number : ConfKey → List Entry → List Entry → ℕ → ℕ
 chosen_number key defaults own table = chosen (number_given key own) (number_given key defaults) table
 
@@ -73,7 +73,7 @@ ticket_of defaults t = record {
   prereqs = filter_map prereq_of t.section;
 }
 
--- the defaults, which are empty where there is no `__default__`
+-- the defaults, which are empty without `__default__`
 abbrev pub defaults_of : Summary → List Entry
 defaults_of d = unwrap_or d.defaults []
 
@@ -105,7 +105,7 @@ abbrev pub no_ticket : List TicketConf → List ConfFault
 no_ticket [] = NoTicket ∷ []
 no_ticket (t ∷ tickets) = []
 
--- the id of nobody: 0, or the one that is reserved
+-- the id of no one: 0, or the reserved one
 abbrev pub is_reserved : MemberId → Bool
 is_reserved id = id.0 == 0 || id.0 == NO_ONE.0
 
@@ -127,7 +127,7 @@ time_fault p =
     else (if not (nat_lt (times.timeout * (times.retries + 1)) times.renewal)
     then Some (RetryTime p.0) else None)
 
--- what is wrong with the whole file, in the order in which it is reported
+-- the faults of the whole file, in the order in which they are reported
 abbrev pub file_faults : List Member → List TicketConf → List ConfFault
 file_faults members tickets =
     no_site members

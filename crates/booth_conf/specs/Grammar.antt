@@ -1,4 +1,4 @@
--- The grammar of a line: how a key and its value are spelled. There is no reader in it.
+-- The grammar of a line: how a key and its value are written. It contains no reader.
 use Rattle.std.specs.Prelude.{◌≡◌, ℕ, Bool, true, false, ◌&&◌, ◌||◌, not, nat_le, ◌==◌, List, [], ◌∷◌, ◌++◌, if◌then◌else◌, ◌⊎◌}
 use Rattle.std.specs.List.{list_all}
 use Rattle.booth_conf.specs.declared.grammar.Line.{Line}
@@ -22,7 +22,7 @@ is_value_byte b = (nat_le 0x20 b && nat_le b 0x7E) || b == 0x09
 abbrev pub is_other : ℕ → ℕ → Bool
 is_other byte b = not (b == byte)
 
--- what stands after the bytes in front that pass the test
+-- what follows the bytes in front that pass the test
 abbrev pub beyond : (ℕ → Bool) → List ℕ → List ℕ
 beyond p [] = []
 beyond p (b ∷ bs) = if p b then beyond p bs else b ∷ bs
@@ -50,12 +50,12 @@ abbrev pub begins_bare : List ℕ → Bool
 begins_bare [] = false
 begins_bare (b ∷ bs) = not (b == 0x22 || b == 0x27 || b == 0x23 || is_blank b)
 
--- no blank inside begins blanks, or blanks and a comment, up to the end of the line
+-- no blank inside starts the end of the line, which is blanks, or blanks and a comment
 abbrev pub stays_bare : List ℕ → List ℕ → Bool
 stays_bare [] tail = true
 stays_bare (b ∷ bs) tail = not (is_blank b && is_end (bs ++ tail)) && stays_bare bs tail
 
--- nothing, or a blank with which the end of the line begins
+-- nothing, or a blank that starts the end of the line
 abbrev pub ends_bare : List ℕ → Bool
 ends_bare [] = true
 ends_bare (b ∷ bs) = is_blank b && is_end bs
@@ -97,13 +97,13 @@ pub record IsPair (line key value : List ℕ) : Type 0 where
 abbrev pub IsEmptyLine : List ℕ → Type 0
 IsEmptyLine line = is_end line ≡ true
 
--- what a line says, by the grammar
+-- the content of a line, by the grammar
 abbrev pub Reads : List ℕ → Line → Type 0
 Reads line Empty = IsEmptyLine line
 Reads line (Pair key value) = IsPair line key.now value.now
 Reads line Broken = (IsEmptyLine line → ⊥) × ((key value : List ℕ) → IsPair line key value → ⊥)
 
--- no line is read in two ways
+-- no line has two readings
 pub record OneReading : Type 0 where
   pub one_pair : (line a b c d : List ℕ) → IsPair line a b → IsPair line c d → (a ≡ c) × (b ≡ d)
   pub no_pair : (line a b : List ℕ) → IsEmptyLine line → IsPair line a b → ⊥

@@ -1,4 +1,4 @@
--- The table of keys: the number, the name, the scope and the form of each. `Values` says what has a form.
+-- The table of keys: the number, the name, the scope and the form of each. `Values` defines each form.
 use Rattle.std.specs.Prelude.{◌≡◌, ◌==◌, ℕ, Bool, List, [], ◌∷◌, Option, Some, None, option_map, codes, bytes_eq}
 use Rattle.std.specs.List.{find}
 use Rattle.std.specs.Borrow.{Bor}
@@ -13,7 +13,7 @@ use Rattle.booth_conf.specs.declared.keys.Scope.TheVariants.{File, Ticket as OfT
 use Rattle.booth_conf.specs.declared.keys.ConfKey.{ConfKey}
 use Rattle.booth_conf.specs.declared.keys.ConfKey.TheVariants as keys
 
--- what the table says of a key
+-- the row of a key in the table
 pub record KeyRow : Type 0 where
   pub number : ℕ
   pub name : List ℕ
@@ -60,7 +60,7 @@ all_keys =
 abbrev pub is_named : List ℕ → ConfKey → Bool
 is_named name key = bytes_eq (row_of key).name name
 
--- the key of this name
+-- the key with this name
 abbrev pub key_named : List ℕ → Option ConfKey
 key_named name = find (is_named name) all_keys
 
@@ -70,7 +70,7 @@ number_of key = record { 0 = (row_of key).number }
 abbrev pub has_number : KeyNo → ConfKey → Bool
 has_number number key = (row_of key).number == number.0
 
--- two keys are one where their numbers are
+-- two keys are equal if their numbers are
 abbrev pub are_one : ConfKey → ConfKey → Bool
 are_one key other = (row_of other).number == (row_of key).number
 
@@ -82,7 +82,7 @@ key_numbered number = find (has_number number) all_keys
 abbrev pub name_at : KeyNo → Option (List ℕ)
 name_at number = option_map (λ key. (row_of key).name) (key_numbered number)
 
--- what the code shows of a row
+-- the code's row has the content of the definition's
 pub record IsRow (shown : Row) (said : KeyRow) : Type 0 where
   pub number : shown.number.0 ≡ said.number
   pub name : shown.name.now ≡ said.name

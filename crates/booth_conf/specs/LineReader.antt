@@ -1,11 +1,11 @@
--- What the functions that read a line compute. The proofs show that it is the grammar.
+-- The results of the functions that read a line. The proofs show that they follow the grammar.
 use Rattle.std.specs.Prelude.{◌≡◌, ℕ, Bool, ◌&&◌, ◌||◌, not, ◌==◌, List, [], ◌∷◌, ◌+◌, take, drop, Option, Some, None, if◌then◌else◌}
 use Rattle.std.specs.List.{list_all, position}
 use Rattle.booth_conf.specs.Grammar.{is_blank, is_key_byte, is_value_byte, beyond, is_end}
 use Rattle.booth_conf.specs.declared.grammar.Line.{Line}
 use Rattle.booth_conf.specs.declared.grammar.Line.TheVariants as lines
 
--- what a line says, as lists
+-- the content of a line, as lists
 pub data Reading : Type 0 where
   Empty : Reading
   Pair : List ℕ → List ℕ → Reading
@@ -16,7 +16,7 @@ abbrev pub front : (ℕ → Bool) → List ℕ → List ℕ
 front p [] = []
 front p (b ∷ bs) = if p b then b ∷ front p bs else []
 
--- a bare value goes up to the first blank with which the end of the line begins
+-- a bare value goes up to the first blank that starts the end of the line
 abbrev pub bare_part : List ℕ → List ℕ
 bare_part [] = []
 bare_part (b ∷ bs) = if is_blank b && is_end bs then [] else b ∷ bare_part bs
@@ -61,7 +61,7 @@ begun start =
 abbrev pub line_read : List ℕ → Reading
 line_read line = begun (beyond is_blank line)
 
--- what the code shows is what the definition reads
+-- the code has the same result as the definition
 abbrev pub Shows : Line → Reading → Type 0
 Shows lines.Empty read = read ≡ Empty
 Shows (lines.Pair key value) read = read ≡ Pair key.now value.now

@@ -8,7 +8,7 @@ use Rattle.booth_conf.specs.declared.tickets.TicketConf.{TicketConf}
 abbrev pub ticket_name : TicketConf → List ℕ
 ticket_name t = t.name
 
--- the ticket of this name
+-- the ticket with this name
 abbrev pub is_called : List ℕ → TicketConf → Bool
 is_called name t = bytes_eq name t.name
 

@@ -12,7 +12,7 @@ abbrev pub ticket_set : Option Setting → Option (List ℕ)
 ticket_set (Some (Ticket name)) = Some name
 ticket_set setting = None
 
--- the name of the ticket whose line says this
+-- the ticket's name on the line with this content
 abbrev pub name_said : Said → Option (List ℕ)
 name_said line = ticket_set (setting_said line)
 
@@ -20,7 +20,7 @@ name_said line = ticket_set (setting_said line)
 abbrev pub names_said : List Said → List (List ℕ)
 names_said lines = filter_map name_said lines
 
--- the name on the text's `ticket` line of this place, counted from 0, where there is such a line
+-- the name on the text's `ticket` line with this number, counted from 0, if there is such a line
 pub record NamesTicket (text : List ℕ) (place : ℕ) (name : Option (List ℕ)) : Type 0 where
   pub said : List Said
   pub reads : AreSaid (lines_of text) said

@@ -1,4 +1,4 @@
--- The text of a configuration: one line a key, as `key = value`.
+-- The text of a configuration: one line for each key, as `key = value`.
 use Rattle.std.specs.Prelude.{ℕ, Bool, true, false, ◌==◌, ◌/◌, List, [], ◌∷◌, ◌++◌, map, flat_map, Option, Some, None, option_map, unwrap_or, slice_get, if◌then◌else◌, codes, decimal}
 use Rattle.std.specs.List.{list_all}
 use Rattle.std.specs.Option.{option_map_or}
@@ -91,7 +91,7 @@ setting_value (Ticket name) = name
 setting_value Defaults = default_name
 setting_value (Of e) = entry_value e
 
--- in `"` where the value has none, else in `'` where it has none, else bare
+-- in `"` if the value has none, else in `'` if it has none, else bare
 abbrev pub written : List ℕ → List ℕ
 written value =
     if list_all (is_other 0x22) value then 0x22 ∷ (value ++ 0x22 ∷ [])
@@ -115,12 +115,13 @@ lines_text ss = flat_map (λ s. line_text (setting_name s) (setting_value s)) ss
 abbrev pub entries_text : List Entry → List ℕ
 entries_text es = flat_map (λ e. line_text (entry_name e) (entry_value e)) es
 
--- THE SETTINGS THAT ARE PRINTED, in the order of the table, but for the last two keys of the file behind the fourth
+-- THE SETTINGS THAT ARE PRINTED, in the order of the table, except the last two keys of the file, which follow the
+-- fourth
 
 abbrev pub set : ConfKey → Value → Entry
 set key value = record { key = key; value = value }
 
--- a key where there is a value for it
+-- a key, if there is a value for it
 abbrev pub optional : ConfKey → Option Value → List Entry
 optional key None = []
 optional key (Some value) = set key value ∷ []
@@ -131,7 +132,7 @@ authfile_entries authfile = optional keys.Authfile (option_map Text authfile)
 abbrev pub authfile_old_entries : Option (List ℕ) → List Entry
 authfile_old_entries authfile_old = optional keys.AuthfileOld (option_map Text authfile_old)
 
--- the place of the word of a hash
+-- the place of a hash's word
 abbrev pub hash_place : Hash → ℕ
 hash_place Sha1 = 0
 hash_place Sha256 = 1
@@ -146,7 +147,7 @@ extra_key number = unwrap_or (key_numbered number) keys.Debug
 abbrev pub extra_entry : KeyNo × List ℕ → Entry
 extra_entry extra = set (extra_key extra.0) (Text extra.1)
 
--- a renewal that is half of expire is left out
+-- a renewal of half of expire is left out
 abbrev pub renewal_said : Times → Option ℕ
 renewal_said times = if times.renewal == times.expire / 2 then None else Some (times.renewal / 1000)
 
@@ -166,7 +167,7 @@ handler_entries handler = optional keys.BeforeAcquireHandler (option_map Text ha
 abbrev pub prereq_entry : PrereqOf → Entry
 prereq_entry prereq = set keys.AttrPrereq (Prereq prereq)
 
--- the place of the word of a mode
+-- the place of a mode's word
 abbrev pub word_of : Bool → ℕ
 word_of false = 0
 word_of true = 1
@@ -186,7 +187,7 @@ key_entries t =
 abbrev pub ticket_settings : TicketConf → List Setting
 ticket_settings t = Ticket t.name ∷ map Of (key_entries t)
 
--- the two keys by which the key and the hash are changed, and the keys without effect
+-- the two keys for the change of the key and the hash, and the keys without effect
 abbrev pub late_entries : Option (List ℕ) → Hash → List (KeyNo × List ℕ) → List Entry
 late_entries authfile_old auth_hash extras =
     authfile_old_entries authfile_old ++ (hash_entry auth_hash ∷ map extra_entry extras)

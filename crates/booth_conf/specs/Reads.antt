@@ -1,4 +1,4 @@
--- The lines of a text, and what reading them answers.
+-- The lines of a text, and the result of reading them.
 use Rattle.std.specs.Prelude.{◌≡◌, ◌==◌, ◌+◌, ℕ, List, map, Result, Ok, Err, ◌⊎◌}
 use Rattle.std.specs.List.{slice_split}
 use Rattle.booth_conf.specs.SaidReader.{said}
@@ -29,7 +29,7 @@ abbrev pub at_line : ℕ → Stop → ConfFault
 at_line line stops.Memory = conf.OutOfMemory
 at_line line (stops.Line fault) = fault_at line fault
 
--- what the lines of a text say
+-- the content of a text's lines
 abbrev pub said_lines : List ℕ → List Said
 said_lines text = map said (lines_of text)
 
@@ -40,7 +40,7 @@ pub record IsLineFault (lines : List Said) (error : ConfFault) : Type 0 where
   pub is : error ≡ fault_at (place + 1) fault
   pub first_one : IsFirstFault lines place fault
 
--- each line is fine and the draft is what they set, or the first line with a fault is reported
+-- no line has a fault and the draft has all their settings, or the first line with a fault is reported
 abbrev pub ReadsLines : Result Summary ConfFault → List Said → Type 0
 ReadsLines (Ok draft) lines = AreFine lines × (draft ≡ summary (settings lines))
 ReadsLines (Err error) lines = (error ≡ conf.OutOfMemory) ⊎ IsLineFault lines error

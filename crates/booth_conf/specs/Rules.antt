@@ -1,4 +1,4 @@
--- What the lines of a text set, and which of them is the first that may not stand where it does.
+-- The settings of a text's lines, and the first line that is not allowed at its place.
 use Rattle.std.specs.Prelude.{◌≡◌, ◌<◌, ℕ, Bool, true, false, not, ◌&&◌, nat_lt, List, [], ◌∷◌, ◌++◌, length, take, map, Option, Some, None, is_some, if◌then◌else◌, slice_index_or, bytes_eq}
 use Rattle.std.specs.List.{list_any, filter_map}
 use Rattle.booth_base.specs.declared.address.Address.{Address}
@@ -22,7 +22,7 @@ use Rattle.booth_conf.specs.declared.faults.LineFault.TheVariants.{Syntax, Unkno
 
 -- THE SETTINGS OF A TEXT
 
--- the setting of a line, where it has one
+-- the setting of a line, if it has one
 abbrev pub setting_said : Said → Option Setting
 setting_said (Pair key setting) = setting
 setting_said line = None
@@ -30,7 +30,7 @@ setting_said line = None
 abbrev pub settings : List Said → List Setting
 settings lines = filter_map setting_said lines
 
--- THE TOP PART: the keys of the whole file, wherever they stand
+-- THE TOP PART: the keys of the whole file, at any place
 abbrev pub file_in : Setting → Option Entry
 file_in (File e) = Some e
 file_in s = None
@@ -39,7 +39,7 @@ abbrev pub member_in : Setting → Option MemberOf
 member_in (Member m) = Some m
 member_in s = None
 
--- THE PARTS: the keys of tickets, up to the next ticket. (`__default__` stands before each of them.)
+-- THE PARTS: the keys of tickets, up to the next ticket. (`__default__` comes before all of them.)
 abbrev pub own : List Setting → List Entry
 own [] = []
 own (Ticket n ∷ ss) = []
@@ -57,19 +57,19 @@ owns [] = []
 owns (Ticket n ∷ ss) = record { name = n; keys = own ss } ∷ owns ss
 owns (s ∷ ss) = owns ss
 
--- the section of `__default__`, where it stands before each ticket
+-- the section of `__default__`, if it comes before each ticket
 abbrev pub default_own : List Setting → Option (List Entry)
 default_own [] = None
 default_own (Defaults ∷ ss) = Some (own ss)
 default_own (Ticket n ∷ ss) = None
 default_own (s ∷ ss) = default_own ss
 
--- what each ticket inherits of `__default__`: its prerequisites
+-- the part of `__default__` that each ticket inherits: its prerequisites
 abbrev pub prereqs_of : Option (List Entry) → List Entry
 prereqs_of None = []
 prereqs_of (Some section) = inherited section
 
--- a ticket's section: what it inherits comes first
+-- a ticket's section: inherited entries come first
 abbrev pub named_section : List Entry → OwnKeys → NamedSection
 named_section prereqs own = record { name = own.name; section = prereqs ++ own.keys }
 
@@ -79,7 +79,7 @@ pub record Summary : Type 0 where
   pub defaults : Option (List Entry)
   pub tickets : List NamedSection
 
--- what settings say together
+-- the summary of all settings
 abbrev pub summary : List Setting → Summary
 summary ss = record {
   top = filter_map file_in ss;
@@ -88,9 +88,9 @@ summary ss = record {
   tickets = map (named_section (prereqs_of (default_own ss))) (owns ss);
 }
 
--- FAULTS: what is wrong with one more setting
+-- FAULTS of one more setting
 
--- the member has this address, however it was spelled: `==` of the type
+-- the member has this address, however it was written: `==` of the type
 abbrev pub is_at : Address → MemberOf → Bool
 is_at address member = addresses.eq-value.it address member.address
 
@@ -100,7 +100,7 @@ has_name name ticket = bytes_eq name ticket.name
 abbrev pub name_of : NamedSection → List ℕ
 name_of ticket = ticket.name
 
--- the section that a ticket's key goes to: that of the last ticket, or else that of `__default__`
+-- the section of a ticket's key: that of the last ticket, or else that of `__default__`
 abbrev pub open_section : Option (List Entry) → List NamedSection → Option (List Entry)
 open_section defaults [] = defaults
 open_section defaults (t ∷ []) = Some t.section
@@ -125,7 +125,7 @@ clash d Defaults =
     else (if nat_lt 0 (length d.tickets) then Some DefaultLate else None)
 clash d (Of e) = placed_clash (open_section d.defaults d.tickets) e
 
--- what is wrong with a line, in the order in which it is reported
+-- the faults of a line, in the order in which they are reported
 
 abbrev pub value_fault : ConfKey → Summary → Option Setting → Option LineFault
 value_fault key d None = Some (BadValue (number_of key))
@@ -146,17 +146,17 @@ said_fault d Unknown = Some UnknownKey
 said_fault d (Pair key setting) =
     if is_misplaced key d then Some Misplaced else value_fault key d setting
 
--- what is wrong with a line that stands after these lines
+-- the fault of a line after these lines
 abbrev pub line_fault : List Said → Said → Option LineFault
 line_fault before line = said_fault (summary (settings before)) line
 
--- line n, counted from 0, is the first that is faulty
+-- line n, counted from 0, is the first with a fault
 pub record IsFirstFault (lines : List Said) (n : ℕ) (fault : LineFault) : Type 0 where
   pub within : n < length lines
   pub here : line_fault (take n lines) (slice_index_or lines n Empty) ≡ Some fault
   pub earlier : (m : ℕ) → m < n → line_fault (take m lines) (slice_index_or lines m Empty) ≡ None
 
--- no line is faulty
+-- no line has a fault
 abbrev pub AreFine : List Said → Type 0
 AreFine lines =
     (m : ℕ) → m < length lines → line_fault (take m lines) (slice_index_or lines m Empty) ≡ None

@@ -1,4 +1,4 @@
--- What a line says, by the grammar of lines, the table of keys and the forms of their values.
+-- The content of a line, by the grammar of lines, the table of keys and the forms of their values.
 use Rattle.std.specs.Prelude.{◌≢◌, ℕ, List, [], ◌∷◌, Option, Some, None}
 use Rattle.booth_conf.specs.Grammar.{IsEmptyLine, IsPair}
 use Rattle.booth_conf.specs.Keys.{row_of}
@@ -8,7 +8,7 @@ use Rattle.booth_conf.specs.declared.settings.Setting.{Setting}
 use Rattle.booth_conf.specs.declared.line_meaning.Said.{Said}
 use Rattle.booth_conf.specs.declared.line_meaning.Said.TheVariants.{Empty, Broken, Unknown, Pair}
 
--- the setting that the value makes, or none where the value has not the key's form
+-- the setting for the value, or none if the value does not have the key's form
 abbrev pub MakesSetting : ConfKey → List ℕ → Option Setting → Type 0
 MakesSetting key value None = (setting : Setting) → HasValue key value setting → ⊥
 MakesSetting key value (Some setting) = HasValue key value setting
@@ -37,7 +37,7 @@ IsSaid line Broken = IsBroken line
 IsSaid line Unknown = SaysUnknown line
 IsSaid line (Pair key setting) = SaysKey line key setting
 
--- what each line says
+-- the content of each line
 abbrev pub AreSaid : List (List ℕ) → List Said → Type 0
 AreSaid [] [] = Unit {0}
 AreSaid (l ∷ lines) (s ∷ said) = IsSaid l s × AreSaid lines said

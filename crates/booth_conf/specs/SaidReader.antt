@@ -1,4 +1,4 @@
--- What reading a line computes. The proofs show that it is what the line says.
+-- The result of reading a line. The proofs show that it is the line's content.
 use Rattle.std.specs.Prelude.{ℕ, List, Option, Some, None}
 use Rattle.booth_conf.specs.LineReader.{Reading, line_read}
 use Rattle.booth_conf.specs.LineReader as reads

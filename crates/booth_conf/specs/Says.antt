@@ -1,4 +1,4 @@
--- The configuration that a text says, or the first fault of the text.
+-- The configuration that a text spells, or the first fault of the text.
 use Rattle.std.specs.Prelude.{◌≡◌, ◌≤◌, ◌<◌, ◌+◌, ℕ, List, length, Some, None, Result, Ok, Err, ◌⊎◌}
 use Rattle.booth_conf.specs.Said.{AreSaid}
 use Rattle.booth_conf.specs.Rules.{summary, settings, AreFine, IsFirstFault}
@@ -13,11 +13,11 @@ use Rattle.booth_conf.specs.declared.faults.ConfFault.TheVariants.{TooLarge, Syn
 use Rattle.booth_conf.specs.declared.faults.LineFault.{LineFault}
 use Rattle.booth_conf.specs.declared.faults.LineFault.TheVariants as faults
 
--- what the lines of a text say set together
+-- the configuration of the lines' settings
 abbrev pub said_config : List Said → ConfigSays
 said_config said = config_of (summary (settings said))
 
--- the text says this configuration
+-- the text spells this configuration
 pub record Says (text : List ℕ) (config : ConfigSays) : Type 0 where
   pub short : length text ≤ TEXT_BYTES
   pub said : List Said
@@ -56,18 +56,18 @@ IsFault text (TooMany line) = HasLineFault text line faults.TooMany
 IsFault text OutOfMemory = ⊥
 IsFault text fault = HasFileFault text fault
 
--- the configuration that the text says, or its first fault, or want of memory
+-- the configuration that the text spells, or its first fault, or out of memory
 abbrev pub Parses : List ℕ → Result ConfigSays ConfFault → Type 0
 Parses text (Ok config) = Says text config
 Parses text (Err fault) = (fault ≡ OutOfMemory) ⊎ IsFault text fault
 
--- each text says one configuration, or has one first fault, and never both
+-- each text spells one configuration or has one first fault, and never both
 pub record OneAnswer (text : List ℕ) : Type 0 where
   pub answer : ((config : ConfigSays) × Says text config) ⊎ ((fault : ConfFault) × IsFault text fault)
   pub one_config : (c d : ConfigSays) → Says text c → Says text d → c ≡ d
   pub one_fault : (f g : ConfFault) → IsFault text f → IsFault text g → f ≡ g
   pub not_both : (c : ConfigSays) (f : ConfFault) → Says text c → IsFault text f → ⊥
 
--- the text that is printed of a sound configuration says that configuration
+-- the text that is printed for a sound configuration spells that configuration
 abbrev pub PrintIsRead : Type 0
 PrintIsRead = (config : ConfigSays) → IsSound config → Says (printed config) config

@@ -1,4 +1,4 @@
--- A section: what was given, key by key and in its order, in the whole file or below one `ticket` line.
+-- A section: the entries, key by key and in their order, of the whole file or below one `ticket` line.
 use Rattle.std.specs.Prelude.{ℕ, Bool, nat_lt, nat_le, ◌&&◌, List, [], ◌∷◌, count_by, filter, Option, Some, None, option_map, option_and_then, if◌then◌else◌}
 use Rattle.std.specs.List.{find}
 use Rattle.arrayvec.specs.ArrayVec.{ArrayVec}
@@ -16,12 +16,12 @@ use Rattle.booth_conf.specs.declared.settings.Entry.{Entry}
 use Rattle.booth_conf.specs.declared.faults.LineFault.{LineFault}
 use Rattle.booth_conf.specs.declared.faults.LineFault.TheVariants.{Repeated, TooMany}
 
--- the first of a list, where there is one
+-- the first element of a list, if there is one
 abbrev pub first : {X : Type 0} → List X → Option X
 first [] = None
 first (x ∷ xs) = Some x
 
--- WHAT WAS GIVEN
+-- ENTRIES
 
 abbrev pub has_key : ConfKey → Entry → Bool
 has_key key entry = are_one key entry.key
@@ -29,7 +29,7 @@ has_key key entry = are_one key entry.key
 abbrev pub value_of : Entry → Value
 value_of entry = entry.value
 
--- the value that was given for a key
+-- the value of a key's entry
 abbrev pub given : ConfKey → List Entry → Option Value
 given key section = option_map value_of (find (has_key key) section)
 
@@ -68,11 +68,11 @@ weights_given key section = option_and_then as_weights (given key section)
 abbrev pub prereq_of : Entry → Option PrereqOf
 prereq_of entry = as_prereq entry.value
 
--- what a new section inherits of this one: its prerequisites
+-- the entries that a new section inherits from this one: its prerequisites
 abbrev pub inherited : List Entry → List Entry
 inherited section = filter (has_key keys.AttrPrereq) section
 
--- the keys without effect are those of the numbers 5 to 9
+-- the keys without effect are the keys with the numbers 5 to 9
 abbrev pub is_without_effect : ConfKey → Bool
 is_without_effect key = nat_le 5 (row_of key).number && nat_le (row_of key).number 9
 
@@ -83,12 +83,12 @@ extra_of entry =
 
 -- FAULTS of one more entry
 
--- how often a key of this form may stand in a section
+-- how often a key of this form is allowed in a section
 abbrev pub most_of : Form → ℕ
 most_of forms.Prereq = PREREQS
 most_of form = 1
 
--- what is wrong where it stands there so often
+-- the fault of a key that is there more often
 abbrev pub too_often : Form → LineFault
 too_often forms.Prereq = TooMany
 too_often form = Repeated

@@ -1,4 +1,4 @@
--- What is true of each configuration that a text says.
+-- What holds for each configuration that a text spells.
 use Rattle.std.specs.Prelude.{◌≡◌, ◌≤◌, ◌<◌, ℕ, Bool, true, false, ◌&&◌, ◌||◌, not, nat_le, nat_lt, ◌==◌, ◌+◌, ◌*◌, ◌/◌, List, [], ◌∷◌, ◌++◌, length, Option, Some, None, is_some, bytes_eq}
 use Rattle.std.specs.List.{list_all, list_any}
 use Rattle.booth_base.specs.Name.{is_name, is_value}
@@ -22,12 +22,12 @@ use Rattle.booth_base.specs.declared.text.TheConstants.{PATH_BYTES}
 abbrev pub is_within : ℕ → ℕ → ℕ → Bool
 is_within least most n = nat_le least n && nat_le n most
 
--- what is there passes the test
+-- the value passes the test, if there is one
 abbrev pub each : {X : Type 0} → (X → Bool) → Option X → Bool
 each p None = true
 each p (Some x) = p x
 
--- a value that some line can say: in `"`, in `'`, or bare
+-- a value that some line can contain: in `"`, in `'`, or bare
 abbrev pub is_sayable : List ℕ → Bool
 is_sayable value =
     list_all is_value_byte value
@@ -86,7 +86,7 @@ is_ticket t =
     is_ticket_name t.name && (are_times t.times && (are_weights t.weights.items
     && (each is_command t.handler && are_prereqs t.prereqs)))
 
--- no element is the same as one before it, or as one of these
+-- no element equals one before it, or one of these
 abbrev pub are_new : {X : Type 0} → (X → X → Bool) → List X → List X → Bool
 are_new same before [] = true
 are_new same before (x ∷ xs) = not (list_any (same x) before) && are_new same (before ++ x ∷ []) xs
@@ -115,7 +115,7 @@ pub record IsSound (c : ConfigSays) : Type 0 where
   pub few_tickets : length c.tickets ≤ TICKETS
   pub no_fault : is_some (file_fault c.members c.tickets) ≡ false
 
--- times in milliseconds that the rules of a ticket can count with
+-- times in milliseconds with which the rules of a ticket can count
 pub record HasTimes (t : TicketConf) : Type 0 where
   pub some : 0 < t.times.expire
   pub expire : t.times.expire ≤ 1000 * SECONDS

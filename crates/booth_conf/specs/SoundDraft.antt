@@ -1,4 +1,4 @@
--- What is true of what is read, before the defaults are filled in.
+-- What holds while a text is read, before the defaults are filled in.
 use Rattle.std.specs.Prelude.{◌≡◌, ◌≤◌, Bool, true, false, ◌&&◌, nat_lt, nat_le, List, [], length, count_by, bytes_eq}
 use Rattle.std.specs.List.{list_all, filter_map}
 use Rattle.booth_base.specs.declared.limits.TheConstants.{MEMBERS}
@@ -16,7 +16,7 @@ use Rattle.booth_conf.specs.declared.settings.Value.{Value}
 use Rattle.booth_conf.specs.declared.settings.Value.TheVariants.{Number, Text, Word, Address, Name, Defaults, Weights, Prereq}
 use Rattle.booth_conf.specs.declared.settings.Entry.{Entry}
 
--- a value that some line can say in this form
+-- a value that some line can contain, in this form
 abbrev pub is_of : Form → Value → Bool
 is_of (forms.Number least most) (Number n) = is_within least most n
 is_of (forms.Text least) (Text text) = is_text least text

@@ -1,4 +1,4 @@
--- One more setting: what the reader makes of what it has read, which is what the settings say together.
+-- One more setting: the reader's draft after it, which is the summary of all settings so far.
 use Rattle.std.specs.Prelude.{ℕ, nat_lt, List, [], ◌∷◌, ◌++◌, length, Option, Some, None, option_map, if◌then◌else◌}
 use Rattle.booth_conf.specs.Rules.{Summary, prereqs_of}
 use Rattle.booth_conf.specs.declared.sections.NamedSection.{NamedSection}

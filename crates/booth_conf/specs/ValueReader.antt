@@ -1,4 +1,4 @@
--- What the functions that read a value compute. The proofs show that it is what the text spells.
+-- The results of the functions that read a value. The proofs show that they are what the text spells.
 use Rattle.std.specs.Prelude.{◌≡◌, ℕ, Bool, true, false, ◌&&◌, nat_le, nat_lt, List, [], ◌∷◌, ◌++◌, length, Option, Some, None, is_some, option_map, option_and_then, position, if◌then◌else◌, codes, bytes_eq, ◌==◌}
 use Rattle.std.specs.List.{list_all, list_any, slice_split}
 use Rattle.std.specs.Borrow.{Bor}
@@ -44,7 +44,7 @@ abbrev pub word_of : List ℕ → Option (List ℕ × List ℕ)
 word_of [] = None
 word_of (b ∷ bs) = Some (front is_word_byte (b ∷ bs), beyond is_word_byte (b ∷ bs))
 
--- the first word, and what stands after it
+-- the first word, and what follows it
 abbrev pub word_in : List ℕ → Option (List ℕ × List ℕ)
 word_in text = word_of (beyond is_gap text)
 
@@ -110,13 +110,13 @@ value_in text = if is_value text then Some text else None
 abbrev pub weight_in : List ℕ → Option ℕ
 weight_in piece = option_and_then (number_within 0 WEIGHT) (one_word piece)
 
--- one more weight, where the piece spells one and there is room for it
+-- one more weight, if the piece spells one and there is room for it
 abbrev pub weight_added : List ℕ → List ℕ → Option (List ℕ)
 weight_added weights piece =
     option_and_then (λ n. if nat_lt (length weights) MEMBERS then Some (weights ++ n ∷ []) else None)
     (weight_in piece)
 
--- these weights, and those of the pieces that are left
+-- these weights, and those of the remaining pieces
 abbrev pub weights_from : List ℕ → List (List ℕ) → Option (List ℕ)
 weights_from weights [] = Some weights
 weights_from weights (p ∷ ps) = option_and_then (λ more. weights_from more ps) (weight_added weights p)
@@ -150,7 +150,7 @@ prereq_in text = option_and_then prereq_of (four_words text)
 abbrev pub weights_value : List ℕ → Value
 weights_value ws = Weights (record { items = ws })
 
--- the value that a text spells in this form, where there is one
+-- the value that a text spells in this form, if there is one
 abbrev pub form_in : Form → List ℕ → Option Value
 form_in (forms.Number least most) text = option_map Number (number_within least most text)
 form_in (forms.Text least) text = option_map Text (text_in least text)

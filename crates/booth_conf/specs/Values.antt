@@ -1,4 +1,4 @@
--- The forms of values, and what the value of a key sets. There is no reader in it.
+-- The forms of values, and the setting of a key and its value. It contains no reader.
 use Rattle.std.specs.Prelude.{◌≡◌, ◌≢◌, ◌≤◌, ◌<◌, ℕ, Bool, true, false, ◌&&◌, ◌||◌, not, nat_le, ◌==◌, ◌+◌, ◌-◌, ◌*◌, List, [], ◌∷◌, ◌++◌, length, fold, position, Some, codes, bytes_eq}
 use Rattle.std.specs.List.{list_all, list_any, slice_split}
 use Rattle.booth_base.specs.Name.{is_name, is_value}
@@ -32,7 +32,7 @@ use Rattle.booth_conf.specs.declared.settings.Setting.TheVariants.{File, Member,
 abbrev pub is_digit : ℕ → Bool
 is_digit b = nat_le 0x30 b && nat_le b 0x39
 
--- what digits are worth
+-- the number that digits spell
 abbrev pub worth : List ℕ → ℕ
 worth digits = fold (λ n b. n * 10 + (b - 0x30)) 0 digits
 
@@ -73,7 +73,7 @@ AreWords text (word ∷ words) =
 
 -- FORMS
 
--- a text of so many bytes
+-- a text with this many bytes
 pub record IsText (least most : ℕ) (text value : List ℕ) : Type 0 where
   pub same : value ≡ text
   pub some : least ≤ length text
@@ -84,7 +84,7 @@ pub record IsCommand (text value : List ℕ) : Type 0 where
   pub text_of : IsText 1 PATH_BYTES text value
   pub some_word : list_any is_word_byte text ≡ true
 
--- each word as it is printed, and its other spelling; a word with one spelling stands twice
+-- each word as it is printed, and its other spelling; a word with one spelling is there twice
 abbrev pub words_of : Choice → List (List ℕ × List ℕ)
 words_of choices.Transport = (codes "UDP", codes "udp") ∷ []
 words_of choices.Mode = (codes "auto", codes "AUTO") ∷ (codes "manual", codes "MANUAL") ∷ []
@@ -93,7 +93,7 @@ words_of choices.Hash = (codes "sha1", codes "sha1") ∷ (codes "sha256", codes 
 abbrev pub is_word_of : List ℕ → List ℕ × List ℕ → Bool
 is_word_of text word = bytes_eq text word.0 || bytes_eq text word.1
 
--- the place of the first of these words that the text is
+-- the place of the first of these words that equals the text
 abbrev pub IsOneOf : Choice → List ℕ → ℕ → Type 0
 IsOneOf choice text place = position (is_word_of text) (words_of choice) ≡ Some place
 
@@ -106,7 +106,7 @@ AreWeights [] [] = Unit {0}
 AreWeights (p ∷ ps) (n ∷ ns) = IsWeight p n × AreWeights ps ns
 AreWeights pieces numbers = ⊥
 
--- numbers between commas, at most one a member
+-- numbers between commas, at most one for each member
 pub record IsWeightList (text weights : List ℕ) : Type 0 where
   pub numbers : AreWeights (slice_split (λ b. b == 0x2C) text) weights
   pub few : length weights ≤ MEMBERS
@@ -145,7 +145,7 @@ HasForm forms.Weights text (Weights weights) = IsWeightList text weights.items
 HasForm forms.Prereq text (Prereq prereq) = IsPrereq text prereq
 HasForm form text value = ⊥
 
--- WHAT A KEY SETS
+-- THE SETTING OF A KEY
 
 abbrev pub member_at : Bool → AddressOf → MemberOf
 member_at site address = record { site = site; address = address; id = record { 0 = id_of address } }
@@ -154,14 +154,14 @@ abbrev pub in_scope : Scope → Entry → Setting
 in_scope scopes.File entry = File entry
 in_scope scopes.Ticket entry = Of entry
 
--- what a key and its value set
+-- the setting of a key and its value
 abbrev pub setting_of : ConfKey → Value → Setting
 setting_of key (Address address) = Member (member_at (are_one keys.Site key) address)
 setting_of key (Name name) = Ticket name
 setting_of key Defaults = settings.Defaults
 setting_of key value = in_scope (row_of key).scope (record { key = key; value = value })
 
--- the text spells a value in the key's form, and this is what the two set
+-- the text spells a value in the key's form, and this is the setting
 pub record HasValue (key : ConfKey) (text : List ℕ) (setting : Setting) : Type 0 where
   pub value : Value
   pub spelled : HasForm (row_of key).form text value

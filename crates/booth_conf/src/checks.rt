@@ -1,4 +1,4 @@
-//! What may be wrong with the whole file.
+//! The faults of the whole file.
 ghost use Rattle.std.specs.Prelude.{◌≡◌, ◌≤◌, ◌<◌, ◌+◌, length, drop, position, IfSome};
 ghost use Rattle.std.specs.List.{list_any, filter_map, enumerate_from};
 ghost use Rattle.booth_conf.specs.Sections.{first};
@@ -21,7 +21,7 @@ fn is_reserved(id: MemberId) -> bool
     id.0 == 0 || id.0 == NO_ONE.0
 }
 
-// The first member with the id of nobody.
+// Returns the fault of the first member with the id of no one.
 fn reserved_id(members: &[Member]) -> Option<ConfFault>
     ensures { result ≡ first (filter_map reserved_id (enumerate_from 0 members.now)) }
 {
@@ -43,7 +43,7 @@ fn place_of(members: &[Member], id: MemberId) -> Option<usize>
     members.iter().position(|member| member.id.0 == id.0)
 }
 
-// The next member after this place with the same id.
+// Returns the fault of the next member after this place with the same id.
 fn same_id(members: &[Member], place: usize, member: Member) -> Option<ConfFault>
     requires { place < length members.now }
     ensures { result ≡ same_id members.now (place, member) }
@@ -57,7 +57,7 @@ fn same_id(members: &[Member], place: usize, member: Member) -> Option<ConfFault
     }
 }
 
-// The first two members with one id.
+// Returns the fault of the first two members with one id.
 fn clash(members: &[Member]) -> Option<ConfFault>
     ensures { result ≡ first (filter_map (same_id members.now) (enumerate_from 0 members.now)) }
 {
@@ -96,7 +96,7 @@ fn time_faults(tickets: &[TicketConf]) -> Option<ConfFault>
     None
 }
 
-/// The first fault of the whole file.
+/// Returns the first fault of the whole file.
 pub fn file_fault(members: &[Member], tickets: &[TicketConf]) -> Option<ConfFault>
     ensures { result ≡ file_fault members.now tickets.now }
 {

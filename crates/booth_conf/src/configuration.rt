@@ -30,7 +30,7 @@ use indexmap::IndexSet;
 use std::alloc::{AllocError, Global};
 use std::marker::Model;
 
-/// The configuration of a cluster. Its members and its tickets stand in the order of the file.
+/// The configuration of a cluster. Its members and its tickets are in the order of the file.
 #[derive(Drop)]
 pub struct Config {
     port: u16,
@@ -96,7 +96,7 @@ fn port(top: &Section<'_>) -> u16
     }
 }
 
-// Whether the word of a hash is the second, `sha256`.
+// Returns the hash for the word at this place: place 1 is `sha256`.
 fn hash(place: Option<usize>) -> Hash
     ensures { result ≡ hash_at (unwrap_or place 0) }
 {
@@ -107,7 +107,11 @@ fn hash(place: Option<usize>) -> Hash
     }
 }
 
-// The configuration of a draft, or the first fault of the whole file.
+// Returns the configuration of a draft.
+//
+// # Errors
+//
+// The first fault of the whole file.
 fn complete(alloc: Global, draft: Draft<'_>) -> Result<Config, ConfFault>
     requires { IsSoundDraft draft }
     ensures { Completes draft.entry result }
@@ -166,9 +170,11 @@ fn copy_tickets(alloc: Global, tickets: &[TicketConf]) -> Result<Vec<TicketConf>
 }
 
 impl Config {
-    /// The configuration that a text of `booth.conf` says, or the first fault of the text.
+    /// Parses a text of `booth.conf`. The time is linear in the bytes of the text.
     ///
-    /// It takes time linear in the bytes of the text.
+    /// # Errors
+    ///
+    /// The first fault of the text.
     #[tactic(auto, using(crate::proofs::ParseLemmas::complete_parses, crate::proofs::ParseLemmas::read_parses))]
     pub fn parse(alloc: Global, text: &[u8]) -> Result<Config, ConfFault>
         ensures { Parses text.now result }
@@ -182,50 +188,50 @@ impl Config {
         }
     }
 
-    /// The UDP port of the daemons.
+    /// Returns the UDP port of the daemons.
     pub fn port(&self) -> u16
         ensures { result ≡ self.now.port }
     {
         self.port
     }
 
-    /// The path of the key file, where one is set.
+    /// Returns the path of the key file, if one is set.
     pub fn authfile(&self) -> Option<&PathText>
         ensures { option_copied result ≡ self.now.authfile }
     {
         self.authfile.as_ref()
     }
 
-    /// How far the time in a signed frame may be behind this member's clock, in seconds.
+    /// Returns how far the time in a signed frame may be behind this member's clock, in seconds.
     pub fn skew(&self) -> u64
         ensures { result ≡ self.now.skew }
     {
         self.skew
     }
 
-    /// The path of the other key file, where one is set: that of the old key while the key is changed. It has
-    /// no effect where no key file is set.
+    /// Returns the path of the other key file, if one is set: that of the old key while the key is changed. It has no
+    /// effect if no key file is set.
     pub fn authfile_old(&self) -> Option<&PathText>
         ensures { option_copied result ≡ self.now.authfile_old }
     {
         self.authfile_old.as_ref()
     }
 
-    /// The hash by which a member seals what it sends. It has no effect where no key file is set.
+    /// Returns the hash by which a member seals its messages. It has no effect if no key file is set.
     pub fn auth_hash(&self) -> Hash
         ensures { result ≡ self.now.auth_hash }
     {
         self.auth_hash
     }
 
-    /// The keys without effect, in the order of the file.
+    /// Returns the keys without effect, in the order of the file.
     pub fn extras(&self) -> &[Extra]
         ensures { result.now ≡ self.now.extras }
     {
         &self.extras
     }
 
-    /// The members, in the order of the file.
+    /// Returns the members, in the order of the file.
     pub fn members(&self) -> &[Member]
         ensures value { result.now ≡ self.now.members }
         ensures few { length result.now ≤ MEMBERS }
@@ -233,7 +239,7 @@ impl Config {
         &self.members
     }
 
-    /// The tickets, in the order of the file.
+    /// Returns the tickets, in the order of the file.
     pub fn tickets(&self) -> &[TicketConf]
         ensures value { result.now ≡ self.now.tickets }
         ensures few { length result.now ≤ TICKETS }
@@ -242,7 +248,7 @@ impl Config {
         &self.tickets
     }
 
-    /// The place of the member with this id.
+    /// Returns the place of the member with this id.
     pub fn member(&self, id: MemberId) -> Option<usize>
         ensures place { result ≡ position (has_id id) self.now.members }
         ensures few { IfSome result (λ place. place < MEMBERS) }
@@ -251,15 +257,15 @@ impl Config {
         members.iter().position(|member| member.id.0 == id.0)
     }
 
-    /// The place of the ticket of this name.
+    /// Returns the place of the ticket with this name.
     pub fn ticket(&self, name: &Name) -> Option<usize>
         ensures { result ≡ position (is_called name.now) self.now.tickets }
     {
         self.names.get_index_of(name)
     }
 
-    /// How many sites come before this one at this ticket: those of greater weight, and those of
-    /// equal weight that stand earlier in the file. The ticket and the member are places.
+    /// Returns how many sites come before this one for this ticket: those of greater weight, and those of equal
+    /// weight that come earlier in the file. The ticket and the member are given by their places.
     pub fn rank(&self, ticket: usize, member: usize) -> u32
         requires ticket { ticket < length self.now.tickets }
         requires site { IsSomeAnd (slice_get self.now.members member) (λ m. IsTrue m.site) }
@@ -269,7 +275,7 @@ impl Config {
         rank(&self.members, &self.tickets[ticket].weights, member)
     }
 
-    /// What is true of each configuration that a text says.
+    /// States what holds for each configuration that a text spells.
     pub fn sound(&self)
         ensures { IsSound self.now }
     {
@@ -277,7 +283,7 @@ impl Config {
         let _port = self.port;
     }
 
-    /// The same configuration.
+    /// Returns an equal configuration.
     pub fn copy(&self, alloc: Global) -> Result<Config, AllocError>
         ensures { IfOk result (λ config. config ≡ self.now) }
     {
@@ -306,7 +312,7 @@ impl Config {
         push_tickets(alloc, text, &self.tickets)
     }
 
-    /// A text that says this configuration: a line for each key, with the defaults written out.
+    /// Returns a text that spells this configuration: a line for each key, with the defaults written out.
     pub fn print(&self, alloc: Global) -> Result<ByteText, AllocError>
         ensures exact { IfOk result (λ text. text ≡ printed self.now) }
         ensures again { IfOk result (λ text. Says text self.now) }

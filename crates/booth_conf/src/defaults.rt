@@ -10,13 +10,13 @@ use arrayvec::ArrayVec;
 use booth_base::Times;
 use std::alloc::{AllocError, Global};
 
-/// The port, where none is set.
+/// The port, if none is set.
 pub const PORT: u16 = 9_929;
 
-/// How far apart two clocks may be, in seconds, where nothing is set.
+/// How far apart two clocks may be, in seconds, if nothing is set.
 pub const SKEW: u32 = 600;
 
-// The same of a ticket: the seconds of a lease and of a try, and how often is tried.
+// The defaults of a ticket: the seconds of a lease and of a try, and the number of tries.
 const EXPIRE: u32 = 600;
 
 const TIMEOUT: u32 = 5;
@@ -70,7 +70,7 @@ fn times(defaults: &Section<'_>, own: &Section<'_>) -> Times
     }
 }
 
-// Whether the word of a mode is the second, `manual`.
+// Returns whether the word of a mode is the second, `manual`.
 fn is_manual(own: Option<usize>, default: Option<usize>) -> bool
     ensures { result ≡ is_manual (chosen own default 0) }
 {
@@ -97,7 +97,7 @@ fn ticket(
     })
 }
 
-/// The tickets, each with its own values or else with the defaults.
+/// Returns the tickets, each with its own values or else with the defaults.
 pub fn tickets(
     alloc: Global,
     defaults: &Section<'_>,

@@ -2,7 +2,7 @@
 ghost use Rattle.std.specs.Prelude.{◌≡◌, ◌≤◌, IfSome};
 ghost use Rattle.booth_conf.specs.ValueReader.{number_in, number_within};
 
-/// The number that one to ten digits spell. Zeros may lead.
+/// Returns the number that one to ten digits spell. Leading zeros are allowed.
 pub fn number(bytes: &[u8]) -> Option<u64>
     ensures { result ≡ number_in bytes.now }
 {
@@ -19,7 +19,7 @@ pub fn number(bytes: &[u8]) -> Option<u64>
     Some(number)
 }
 
-/// The same, where it is in this range.
+/// Returns the same number if it is in this range.
 pub fn number_within(bytes: &[u8], least: u32, most: u32) -> Option<u32>
     ensures exact { result ≡ number_within least most bytes.now }
     ensures bound { IfSome result (λ n. n ≤ most) }

@@ -19,7 +19,7 @@ use indexmap::IndexSet;
 use std::alloc::{AllocError, Global};
 use std::marker::Model;
 
-/// Tickets of different names, in the order of the file.
+/// Tickets with different names, in the order of the file.
 #[derive(Drop)]
 pub struct SectionList<'a> {
     names: IndexSet<Name>,
@@ -38,7 +38,7 @@ impl<'a> Model for SectionList<'a> {
     ghost invariant = { λ l. l.names.keys ≡ map name_of l.sections.items };
 }
 
-/// The names of tickets, and their sections, in one order.
+/// The names of tickets, and their sections, in the same order.
 #[derive(Drop)]
 pub struct NamesAndSections<'a> {
     pub names: IndexSet<Name>,
@@ -67,7 +67,7 @@ impl<'a> SectionList<'a> {
         self.names.contains(name)
     }
 
-    // Adds a ticket of a name that none has. Where there is no memory, nothing changes.
+    // Adds a ticket with a new name. If the memory has run out, nothing changes.
     fn push(&mut self, name: Name, section: Section<'a>) -> Result<(), AllocError>
         requires { list_any (has_name name) self.old ≡ false }
         ensures ok { OnOk result (self.new ≡ self.old ++ (record { name = name; section = section.entry }) ∷ []) }
@@ -83,7 +83,7 @@ impl<'a> SectionList<'a> {
         Ok(())
     }
 
-    // Adds an entry to the last ticket, or says what is wrong with it.
+    // Adds an entry to the last ticket, or returns its fault.
     fn add(&mut self, entry: Entry<'a>) -> Result<(), Stop>
         requires { 0 < length self.old }
         ensures { Answers result self.new (placed_clash (open_section None self.old) entry.entry)
@@ -92,7 +92,7 @@ impl<'a> SectionList<'a> {
         add_to_last(&mut self.sections, entry)
     }
 
-    /// The names and the sections.
+    /// Returns the names and the sections.
     pub fn into_sections(self) -> NamesAndSections<'a>
         ensures sections { result.sections.items ≡ self.entry }
         ensures names { result.names.keys ≡ map name_of self.entry }
@@ -113,7 +113,7 @@ fn add_to_last<'a>(sections: &mut Vec<NamedSection<'a>>, entry: Entry<'a>) -> Re
     sections[last].section.add(entry)
 }
 
-/// What the lines so far say.
+/// The settings of the lines so far.
 #[derive(Drop)]
 pub struct Draft<'a> {
     pub top: Section<'a>,
@@ -155,7 +155,7 @@ impl<'a> Draft<'a> {
         self.members.push(member).map_err(|_| Stop::Memory)
     }
 
-    // What a new ticket inherits of the defaults.
+    // Returns what a new ticket inherits from the defaults.
     fn inherited(&self, alloc: Global) -> Result<Section<'a>, AllocError>
         ensures { IfOk result (λ section. section ≡ prereqs_of self.now.defaults) }
     {
@@ -236,7 +236,7 @@ impl<'a> Draft<'a> {
         }
     }
 
-    // Whether a key of a ticket stands below no `ticket` line.
+    // Returns whether no `ticket` line precedes a ticket's key.
     #[tactic(auto, using(crate::proofs::LastLemmas::open_is))]
     fn is_misplaced(&self, key: ConfKey) -> bool
         ensures { result ≡ is_misplaced key self.now }
@@ -247,7 +247,11 @@ impl<'a> Draft<'a> {
         }
     }
 
-    /// Takes one line, or says what is wrong with it. It is linear in the line's bytes.
+    /// Handles one line. The time is linear in the line's bytes.
+    ///
+    /// # Errors
+    ///
+    /// The fault of the line.
     pub fn line(&mut self, alloc: Global, line: &'a [u8]) -> Result<(), Stop>
         ensures { Answers result self.new (said_fault self.old (said line.now))
             self.old (said_added self.old (said line.now)) }

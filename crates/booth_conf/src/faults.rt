@@ -1,38 +1,37 @@
-//! Why a text is no configuration.
+//! Why a text is not a configuration.
 ghost use Rattle.std.specs.Prelude.{◌≡◌};
 ghost use Rattle.booth_conf.specs.Reads.{at_line};
 
 use crate::keys::KeyNo;
 
-/// Why a text is no configuration. Lines count from 1, and places of members and tickets from 0.
+/// Why a text is not a configuration. Lines are counted from 1, and places of members and tickets from 0.
 ///
-/// A text that is too large is reported first, then the first line with a fault, and last what is
-/// wrong with the whole file. Within a line the order is that of the variants, and so within the
-/// whole file, but that times are looked at ticket by ticket: `RetryTime` of one comes before
-/// `Renewal` of the next. Want of memory may be reported in place of each. The program has the text
-/// of each.
+/// A text that is too large is reported first, then the first line with a fault, and last a fault of the whole file.
+/// Within a line the order is that of the variants, and so it is within the whole file, except that times are checked
+/// ticket by ticket: `RetryTime` of one ticket comes before `Renewal` of the next. Out of memory may be reported in
+/// place of any fault. The program has the text of each.
 #[derive(Clone, Copy, Debug, PartialEq, Eq, Drop)]
 pub enum ConfFault {
     TooLarge,
     Syntax { line: u32 },
     UnknownKey { line: u32 },
-    /// A key of a ticket stands above the first `ticket` line.
+    /// A key of a ticket comes before the first `ticket` line.
     Misplaced { line: u32 },
     BadValue { line: u32, key: KeyNo },
     Repeated { line: u32 },
-    /// `__default__` stands below another ticket.
+    /// `__default__` comes after another ticket.
     DefaultLate { line: u32 },
     TooMany { line: u32 },
     NoSite,
     NoTicket,
-    /// The first two members with one id. They are the same member where its id is that of nobody.
+    /// The first two members with one id. Both are the same member if its id is the id of no one.
     IdClash { first: usize, second: usize },
     Renewal { ticket: usize },
     RetryTime { ticket: usize },
     OutOfMemory,
 }
 
-/// What is wrong with a line, in the order in which it is reported.
+/// A fault of a line, in the order in which faults are reported.
 #[derive(Clone, Copy)]
 pub enum LineFault {
     Syntax,
@@ -51,7 +50,7 @@ pub enum Stop {
     Line(LineFault),
 }
 
-/// The fault with its line.
+/// Returns the fault with its line.
 pub fn at_line(line: u32, stop: Stop) -> ConfFault
     ensures { result ≡ at_line line stop }
 {

@@ -1,17 +1,17 @@
-//! One line of a text, cut into its key and its value.
+//! One line of a text, divided into its key and its value.
 ghost use Rattle.std.specs.Prelude.{◌≡◌, ◌<◌, ◌==◌, length, option_copied};
 ghost use Rattle.std.specs.List.{list_all, prefix_len, position};
 ghost use Rattle.booth_conf.specs.Grammar.{is_blank, is_key_byte, is_value_byte, beyond, is_end, Reads};
 ghost use Rattle.booth_conf.specs.LineReader.{front, closed, quoted, bare_part, bare, value_in, line_read, Shows};
 
-/// What a line says, as bytes.
+/// The content of a line, as bytes.
 #[derive(Clone, Copy)]
 pub enum Line<'a> {
     /// Nothing, blanks or a comment.
     Empty,
     /// A key and its value.
     Pair { key: &'a [u8], value: &'a [u8] },
-    /// Neither.
+    /// Neither of these.
     Broken,
 }
 
@@ -58,7 +58,7 @@ fn skip_blanks(bytes: &[u8]) -> &[u8]
     &bytes[blanks_len(bytes)..]
 }
 
-// The key in front, and what stands after it.
+// Returns the key in front, and what follows it.
 #[tactic(auto, using(crate::proofs::Cuts::both_sides))]
 fn split_key(bytes: &[u8]) -> (&[u8], &[u8])
     ensures front { result.0.now ≡ front is_key_byte bytes.now }
@@ -67,7 +67,7 @@ fn split_key(bytes: &[u8]) -> (&[u8], &[u8])
     bytes.split_at(key_len(bytes))
 }
 
-// Whether only blanks, or blanks and a comment, are left.
+// Returns whether only blanks, or blanks and a comment, are left.
 fn is_end(bytes: &[u8]) -> bool
     ensures { result ≡ is_end bytes.now }
 {
@@ -101,7 +101,7 @@ fn quoted(quote: u8, inside: &[u8]) -> Option<&[u8]>
     }
 }
 
-// The bytes up to the last that is no blank, before a comment.
+// Returns the bytes up to the last that is no blank, before a comment.
 fn bare_part(bytes: &[u8]) -> &[u8]
     ensures { result.now ≡ bare_part bytes.now }
 {
@@ -151,12 +151,12 @@ fn reading(line: &[u8]) -> Line<'_>
     }
 }
 
-/// What the line says. It is linear in the line's bytes.
+/// Returns the content of a line. The time is linear in the line's bytes.
 #[tactic(auto, using(crate::proofs::BothWays::reads_of))]
 pub fn line_of(line: &[u8]) -> Line<'_>
     ensures exact { Shows result (line_read line.now) }
 
-    // A pair is one of the grammar, and what is broken is neither empty nor a pair.
+    // A pair is one by the grammar, and a broken line is neither empty nor a pair.
     ensures grammar { Reads line.now result }
 {
     reading(line)

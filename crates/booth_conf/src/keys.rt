@@ -8,7 +8,7 @@ use crate::limits::{LEAST_RETRIES, MOST_RETRIES, SECONDS};
 #[derive(Clone, Copy, Debug, PartialEq, Eq)]
 pub struct KeyNo(pub u8);
 
-/// Words of which a value is one.
+/// Words, one of which is a value.
 #[derive(Clone, Copy)]
 pub enum Choice {
     Transport,
@@ -16,12 +16,12 @@ pub enum Choice {
     Hash,
 }
 
-/// What the value of a key has to be.
+/// The form that the value of a key must have.
 #[derive(Clone, Copy)]
 pub enum Form {
     /// A number in this range.
     Number { least: u32, most: u32 },
-    /// A text of at least so many bytes.
+    /// A text of at least this many bytes.
     Text { least: usize },
     /// A path and its arguments.
     Command,
@@ -61,14 +61,14 @@ pub enum ConfKey {
     Authhash,
 }
 
-/// What a key belongs to: the whole file, or the last `ticket` line.
+/// The scope of a key: the whole file, or the last `ticket` line.
 #[derive(Clone, Copy)]
 pub enum Scope {
     File,
     Ticket,
 }
 
-/// What the table says of a key.
+/// The row of a key in the table.
 #[derive(Clone, Copy)]
 pub struct Row {
     pub number: KeyNo,
@@ -141,7 +141,7 @@ impl ConfKey {
         ConfKey::Authhash,
     ];
 
-    /// The table.
+    /// Returns the key's row in the table.
     pub fn row(self) -> Row
         ensures row { IsRow result (row_of self) }
         ensures short { length result.name.now ≤ 22 }
@@ -177,21 +177,21 @@ impl ConfKey {
         }
     }
 
-    /// The number of the key.
+    /// Returns the number of the key.
     pub fn number(self) -> KeyNo
         ensures { result ≡ number_of self }
     {
         self.row().number
     }
 
-    /// The form of its value.
+    /// Returns the form of its value.
     pub fn form(self) -> Form
         ensures { result ≡ (row_of self).form }
     {
         self.row().form
     }
 
-    /// Whether this is that key.
+    /// Returns whether this is that key.
     pub fn is(self, key: ConfKey) -> bool
         ensures { result ≡ are_one key self }
     {
@@ -210,14 +210,14 @@ impl ConfKey {
         self.row().number.0 == number.0
     }
 
-    /// The key of this name.
+    /// Returns the key with this name.
     pub fn named(name: &[u8]) -> Option<ConfKey>
         ensures { result ≡ key_named name.now }
     {
         ConfKey::ALL.iter().copied().find(|key| key.is_named(name))
     }
 
-    /// The key with this number.
+    /// Returns the key with this number.
     pub fn numbered(number: KeyNo) -> Option<ConfKey>
         ensures { result ≡ key_numbered number }
     {
@@ -229,7 +229,7 @@ impl ConfKey {
 }
 
 impl KeyNo {
-    /// The name of the key, as a text of a configuration writes it; none where no key has this number.
+    /// Returns the name of the key, as a text of a configuration has it; none if no key has this number.
     pub fn name(self) -> Option<&'static str>
         ensures name { Names result (name_at self) }
         ensures short { IfSome result (λ name. length name.now ≤ 22) }

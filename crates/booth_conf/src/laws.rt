@@ -3,17 +3,17 @@ ghost use Rattle.std.specs.Prelude.{List, ℕ};
 ghost use Rattle.booth_conf.specs.Grammar.{OneReading};
 ghost use Rattle.booth_conf.specs.Says.{OneAnswer, PrintIsRead};
 
-/// No line is read in two ways.
+/// No line has two readings.
 pub fn one_reading()
     ensures { OneReading }
 {}
 
-/// Each text says one configuration or has one first fault, and never both.
+/// Each text spells one configuration or has one first fault, and never both.
 pub fn one_answer()
     ensures { (text : List ℕ) → OneAnswer text }
 {}
 
-/// The text that is printed of a sound configuration says that configuration.
+/// The text that is printed for a sound configuration spells that configuration.
 pub fn print_is_read()
     ensures { PrintIsRead }
 {}

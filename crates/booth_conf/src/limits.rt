@@ -6,10 +6,10 @@ pub const TEXT_BYTES: usize = 16_777_216;
 /// The most tickets.
 pub const TICKETS: usize = 4_096;
 
-/// The most prerequisites of a ticket, those that it inherits counted.
+/// The most prerequisites of a ticket, including inherited ones.
 pub const PREREQS: usize = 8;
 
-/// The most seconds of a time.
+/// The longest time in seconds.
 pub const SECONDS: u32 = 10_000_000;
 
 /// The fewest tries of a ticket.

@@ -1,4 +1,4 @@
-//! What a line says: nothing, or a key and the setting that its value makes.
+//! The content of a line: nothing, or a key and the setting of its value.
 ghost use Rattle.std.specs.Prelude.{◌≡◌};
 ghost use Rattle.booth_conf.specs.Said.{IsSaid};
 ghost use Rattle.booth_conf.specs.SaidReader.{said};
@@ -7,7 +7,7 @@ use crate::grammar::{Line, line_of};
 use crate::keys::ConfKey;
 use crate::settings::Setting;
 
-/// What a line says.
+/// The content of a line.
 #[derive(Drop)]
 pub enum Said<'a> {
     /// Nothing, blanks or a comment.
@@ -16,7 +16,7 @@ pub enum Said<'a> {
     Broken,
     /// No key has this name.
     Unknown,
-    /// A key, and the setting where its value has the key's form.
+    /// A key, and its setting if the value has the key's form.
     Pair {
         key: ConfKey,
         setting: Option<Setting<'a>>,
@@ -39,7 +39,7 @@ fn read(line: &[u8]) -> Said<'_>
     }
 }
 
-/// What the line says. It is linear in the line's bytes.
+/// Returns the content of a line. The time is linear in the line's bytes.
 #[tactic(auto, using(crate::proofs::SaidLemmas::said_is))]
 pub fn read_line(line: &[u8]) -> Said<'_>
     ensures exact { result ≡ said line.now }

@@ -24,7 +24,7 @@ fn read(alloc: Global, text: &[u8]) -> Result<Draft<'_>, ConfFault>
     Ok(draft)
 }
 
-/// Reads the lines, up to the first that has a fault. It is linear in the bytes of the text.
+/// Reads the lines, up to the first with a fault. The time is linear in the bytes of the text.
 #[tactic(auto, using(crate::proofs::SoundLemmas::reads_sound))]
 pub fn read_lines(alloc: Global, text: &[u8]) -> Result<Draft<'_>, ConfFault>
     requires { length text.now ≤ TEXT_BYTES }

@@ -17,7 +17,7 @@ pub struct Member {
     pub id: MemberId,
 }
 
-/// The member at this address.
+/// Returns the member at this address.
 pub fn member_at(site: bool, address: Address) -> Member
     ensures { result ≡ member_at site address }
 {
@@ -28,7 +28,7 @@ pub fn member_at(site: bool, address: Address) -> Member
     }
 }
 
-/// Members of different addresses, in the order of the file.
+/// Members with different addresses, in the order of the file.
 #[derive(Drop)]
 pub struct MemberList {
     addresses: IndexSet<Address>,
@@ -62,7 +62,7 @@ impl MemberList {
         self.members.len()
     }
 
-    /// Whether a member has this address.
+    /// Returns whether a member has this address.
     #[tactic(auto, using(crate::proofs::MemberLemmas::any_address))]
     pub fn has(&self, address: Address) -> bool
         ensures { result ≡ list_any (is_at address) self.now }
@@ -70,7 +70,7 @@ impl MemberList {
         self.addresses.contains(&address)
     }
 
-    /// Adds a member of an address that none has. Where there is no memory, nothing changes.
+    /// Adds a member with a new address. If the memory has run out, nothing changes.
     #[tactic(auto, using(crate::proofs::MemberLemmas::any_address))]
     pub fn push(&mut self, member: Member) -> Result<(), AllocError>
         requires { list_any (is_at member.address) self.old ≡ false }
@@ -83,7 +83,7 @@ impl MemberList {
         Ok(())
     }
 
-    /// The members, without their addresses.
+    /// Returns the members, without their addresses.
     pub fn into_vec(self) -> Vec<Member>
         ensures { result.items ≡ self }
     {

@@ -1,4 +1,4 @@
-//! The names of a text's tickets, also where the text says no configuration.
+//! The names of a text's tickets, even if the text is not a configuration.
 ghost use Rattle.std.specs.Prelude.{◌≡◌, slice_get};
 ghost use Rattle.booth_conf.specs.Names.{name_said, names_said, NamesTicket};
 ghost use Rattle.booth_conf.specs.Reads.{said_lines};
@@ -34,8 +34,8 @@ fn name_at(text: &[u8], place: usize) -> Option<Name>
     None
 }
 
-/// The name on the `ticket` line of this place, counted from 0 and without `__default__`: so a fault
-/// of a whole file can be reported with its ticket's name.
+/// Returns the name on the `ticket` line with this number, counted from 0 and without `__default__`: a fault of the
+/// whole file can then be reported with its ticket's name.
 #[tactic(auto, using(crate::proofs::NameLemmas::names_ticket))]
 pub fn ticket_name(text: &[u8], place: usize) -> Option<Name>
     ensures { NamesTicket text.now place result }

@@ -44,7 +44,7 @@ pub fn push_members(out: &mut Vec<u8>, members: &[Member]) -> Result<(), AllocEr
     Ok(())
 }
 
-// A renewal that is half of expire is left out.
+// Prints the renewal, unless it is half of expire.
 fn push_renewal(out: &mut Vec<u8>, times: &Times) -> Result<(), AllocError>
     ensures { Grows result out.old.items out.new.items (entries_text (renewal_entries times.now)) }
 {
@@ -65,7 +65,7 @@ fn push_times(out: &mut Vec<u8>, times: &Times) -> Result<(), AllocError>
     push_renewal(out, times)
 }
 
-// Weights that are empty are left out.
+// Prints the weights, unless there are none.
 fn push_weights(alloc: Global, out: &mut Vec<u8>, weights: &[u32]) -> Result<(), AllocError>
     ensures { Grows result out.old.items out.new.items (entries_text (weights_entries weights.now)) }
 {

@@ -15,7 +15,7 @@ use booth_keys::Hash;
 use itoa::Buffer;
 use std::alloc::{AllocError, Global};
 
-/// What a value is put in.
+/// The quotes around a value.
 #[derive(Clone, Copy)]
 pub enum Quote {
     Double,
@@ -66,7 +66,7 @@ fn push_value(out: &mut Vec<u8>, value: &[u8]) -> Result<(), AllocError>
     }
 }
 
-// One line: a key and its value.
+// Appends one line: a key and its value.
 #[tactic(auto, using(crate::proofs::PushLemmas::line_pushed), unfolding(crate::specs::Print::line_text))]
 pub fn push_line(out: &mut Vec<u8>, name: &str, value: &[u8]) -> Result<(), AllocError>
     ensures { Grows result out.old.items out.new.items (line_text name.now value.now) }
@@ -91,7 +91,7 @@ pub fn push_number(out: &mut Vec<u8>, key: ConfKey, n: u64) -> Result<(), AllocE
     push_line(out, key.row().name, digits.format(n).as_bytes())
 }
 
-// A space and a word.
+// Appends a space and a word.
 #[tactic(auto, using(crate::proofs::PushLemmas::two_pushed))]
 fn push_word(out: &mut Vec<u8>, word: &[u8]) -> Result<(), AllocError>
     ensures { Grows result out.old.items out.new.items (0x20 ∷ word.now) }
@@ -133,7 +133,7 @@ pub fn prereq_text(alloc: Global, prereq: &Prereq) -> Result<Vec<u8>, AllocError
     Ok(text)
 }
 
-// A comma and a number.
+// Appends a comma and a number.
 #[tactic(auto, using(crate::proofs::PushLemmas::two_pushed))]
 fn push_next_weight(out: &mut Vec<u8>, weight: u32) -> Result<(), AllocError>
     ensures { Grows result out.old.items out.new.items (0x2C ∷ decimal weight) }
@@ -192,7 +192,7 @@ fn hash_word(hash: Hash) -> &'static [u8]
     }
 }
 
-// The key without effect with this number.
+// Returns the key without effect with this number.
 fn extra_key(number: KeyNo) -> ConfKey
     ensures { result ≡ extra_key number }
 {

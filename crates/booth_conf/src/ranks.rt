@@ -1,4 +1,4 @@
-//! Ranks: the order in which sites try to get a ticket.
+//! Ranks: the order in which sites try to acquire a ticket.
 ghost use Rattle.booth_base.specs.declared.limits.TheConstants.{MEMBERS};
 ghost use Rattle.std.specs.Prelude.{◌≡◌, ◌≤◌, ◌<◌, length, slice_index, count_by};
 ghost use Rattle.std.specs.List.{enumerate_from};
@@ -7,7 +7,7 @@ ghost use Rattle.booth_conf.specs.Lookups.{comes_before, rank_of};
 use crate::members::Member;
 use booth_base::MEMBERS;
 
-// The weight of the member at this place. One that is missing is 0.
+// Returns the weight of the member at this place. A missing weight is 0.
 fn weight(weights: &[u32], member: usize) -> u32
     ensures { result ≡ slice_index weights.now member }
 {
@@ -22,7 +22,7 @@ fn comes_before(weights: &[u32], member: usize, place: usize, other: Member) -> 
     other.site && (own < its || (its == own && place < member))
 }
 
-/// How many sites come before this one.
+/// Returns how many sites come before this one.
 pub fn rank(members: &[Member], weights: &[u32], member: usize) -> u32
     requires { length members.now ≤ MEMBERS }
     ensures { result ≡ rank_of members.now weights.now member }

@@ -1,4 +1,4 @@
-//! Sections: what was given, key by key, in the whole file or below one `ticket` line.
+//! Sections: the entries, key by key, of the whole file or below one `ticket` line.
 ghost use Rattle.booth_base.specs.declared.limits.TheConstants.{MEMBERS};
 ghost use Rattle.std.specs.Prelude.{◌≡◌, ◌++◌, ◌∷◌, [], true, count_by, option_copied, IfOk};
 ghost use Rattle.std.specs.List.{filter_map};
@@ -50,7 +50,7 @@ fn too_often(form: Form) -> LineFault
     }
 }
 
-// Whether the key has no effect.
+// Returns whether the key has no effect.
 fn is_without_effect(key: ConfKey) -> bool
     ensures { result ≡ is_without_effect key }
 {
@@ -91,8 +91,7 @@ fn prereq_of(entry: &Entry<'_>) -> Option<Prereq>
     }
 }
 
-/// What was given for the keys of the whole file or of a ticket, in its order. Contracts see it as
-/// its list of entries.
+/// The entries of the whole file or of a ticket, in their order. Contracts see the list of entries.
 #[derive(Drop)]
 pub struct Section<'a> {
     entries: Vec<Entry<'a>>,
@@ -116,7 +115,7 @@ impl<'a> Section<'a> {
         }
     }
 
-    /// What a new section inherits of this one: its prerequisites.
+    /// Returns the entries that a new section inherits from this one: its prerequisites.
     pub fn inherited(&self, alloc: Global) -> Result<Section<'a>, AllocError>
         ensures { IfOk result (λ section. section ≡ inherited self.now) }
     {
@@ -138,7 +137,7 @@ impl<'a> Section<'a> {
             .count()
     }
 
-    /// Adds an entry, or says what is wrong with it.
+    /// Adds an entry, or returns its fault.
     pub fn add(&mut self, entry: Entry<'a>) -> Result<(), Stop>
         ensures { Answers result self.new (entry_clash self.old entry.entry) self.old (self.old ++ entry.entry ∷ []) }
     {
@@ -162,7 +161,7 @@ impl<'a> Section<'a> {
         }
     }
 
-    /// The number that was given for a key.
+    /// Returns the number of a key's entry.
     pub fn number(&self, key: ConfKey) -> Option<u32>
         ensures { result ≡ number_given key self.now }
     {
@@ -172,7 +171,7 @@ impl<'a> Section<'a> {
         }
     }
 
-    /// The text that was given for a key.
+    /// Returns the text of a key's entry.
     pub fn text(&self, key: ConfKey) -> Option<PathText>
         ensures { result ≡ text_given key self.now }
     {
@@ -182,7 +181,7 @@ impl<'a> Section<'a> {
         }
     }
 
-    /// The text that was given for a key here, or else in the other section.
+    /// Returns the text of a key's entry here, or else in the other section.
     pub fn text_or(&self, other: &Section<'_>, key: ConfKey) -> Option<PathText>
         ensures { result ≡ option_or (text_given key self.now) (text_given key other.now) }
     {
@@ -192,7 +191,7 @@ impl<'a> Section<'a> {
         }
     }
 
-    /// The place of the word that was given for a key, among the words of the key.
+    /// Returns the place of the word of a key's entry, among the words of the key.
     pub fn word(&self, key: ConfKey) -> Option<usize>
         ensures { result ≡ word_given key self.now }
     {
@@ -202,7 +201,7 @@ impl<'a> Section<'a> {
         }
     }
 
-    /// The weights that were given for a key.
+    /// Returns the weights of a key's entry.
     pub fn weights(&self, key: ConfKey) -> Option<ArrayVec<u32, MEMBERS>>
         ensures { result ≡ weights_given key self.now }
     {
@@ -212,7 +211,7 @@ impl<'a> Section<'a> {
         }
     }
 
-    /// The weights that were given for a key here, or else in the other section.
+    /// Returns the weights of a key's entry here, or else in the other section.
     pub fn weights_or(&self, other: &Section<'_>, key: ConfKey) -> Option<ArrayVec<u32, MEMBERS>>
         ensures { result ≡ option_or (weights_given key self.now) (weights_given key other.now) }
     {
@@ -222,7 +221,7 @@ impl<'a> Section<'a> {
         }
     }
 
-    /// The prerequisites, those that it inherits before its own.
+    /// Returns the prerequisites, first the inherited ones and then its own.
     pub fn prereqs(&self, alloc: Global) -> Result<Prereqs, AllocError>
         ensures { IfOk result (λ prereqs. prereqs ≡ filter_map prereq_of self.now) }
     {
@@ -235,7 +234,7 @@ impl<'a> Section<'a> {
         Ok(Prereqs::of(prereqs))
     }
 
-    /// The keys without effect, with their texts.
+    /// Returns the keys without effect, with their texts.
     pub fn extras(&self, alloc: Global) -> Result<Vec<Extra>, AllocError>
         ensures { IfOk result (λ extras. extras.items ≡ filter_map extra_of self.now) }
     {
@@ -249,7 +248,7 @@ impl<'a> Section<'a> {
     }
 }
 
-/// A ticket's name, and what was given below its line.
+/// A ticket's name, and the entries below its line.
 #[derive(Drop)]
 pub struct NamedSection<'a> {
     pub name: Name,

@@ -1,4 +1,4 @@
-//! What a line can set.
+//! The settings that a line can have.
 ghost use Rattle.std.specs.Prelude.{◌≡◌};
 ghost use Rattle.booth_conf.specs.Values.{in_scope, setting_of};
 
@@ -9,7 +9,7 @@ use crate::tickets::copy_weights;
 use arrayvec::ArrayVec;
 use booth_base::{Address, MEMBERS, Name};
 
-/// The value of a key. A word is its place among those of the key. Times are in seconds.
+/// The value of a key. A word is given by its place in the list of the key's words. Times are in seconds.
 #[derive(Drop)]
 pub enum Value<'a> {
     Number(u32),
@@ -30,7 +30,7 @@ pub struct Entry<'a> {
     pub value: Value<'a>,
 }
 
-/// What a line sets: a key of the whole file, a member, or something of tickets.
+/// The setting of a line: a key of the whole file, a member, or a part of a ticket.
 #[derive(Drop)]
 pub enum Setting<'a> {
     File(Entry<'a>),
@@ -43,7 +43,7 @@ pub enum Setting<'a> {
 }
 
 impl<'a> Value<'a> {
-    /// An equal value.
+    /// Returns an equal value.
     pub fn copy(&self) -> Value<'a>
         ensures { result ≡ self.now }
     {
@@ -61,7 +61,7 @@ impl<'a> Value<'a> {
 }
 
 impl<'a> Entry<'a> {
-    /// An equal entry.
+    /// Returns an equal entry.
     pub fn copy(&self) -> Entry<'a>
         ensures { result ≡ self.now }
     {
@@ -81,7 +81,7 @@ fn in_scope(scope: Scope, entry: Entry<'_>) -> Setting<'_>
     }
 }
 
-/// What a key and its value set.
+/// Returns the setting of a key and its value.
 pub fn setting_of(key: ConfKey, value: Value<'_>) -> Setting<'_>
     ensures { result ≡ setting_of key value.entry }
 {

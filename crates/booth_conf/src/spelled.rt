@@ -1,4 +1,4 @@
-//! Texts and prerequisites where a configuration spells them: they are copied only when a field takes them.
+//! Texts and prerequisites in the bytes of a configuration: they are copied only when a field takes them.
 ghost use Rattle.std.specs.Prelude.{◌≡◌, IsTrue};
 ghost use Rattle.booth_base.specs.Name.{is_name, is_value};
 ghost use Rattle.booth_conf.specs.ValueReader.{text_in};
@@ -28,7 +28,7 @@ impl<'a> Model for SpelledText<'a> {
 }
 
 impl<'a> SpelledText<'a> {
-    /// This text, where it is not too long.
+    /// Returns this text, if it is not too long.
     pub fn new(text: &'a str) -> Option<SpelledText<'a>>
         ensures { result ≡ text_in 0 text.now }
     {
@@ -38,7 +38,7 @@ impl<'a> SpelledText<'a> {
         Some(SpelledText { text })
     }
 
-    /// The text with a place of its own.
+    /// Returns a copy of the text with memory of its own.
     pub fn path(&self) -> PathText
         ensures { result ≡ self.now }
     {
@@ -48,7 +48,7 @@ impl<'a> SpelledText<'a> {
         path
     }
 
-    /// An equal text.
+    /// Returns an equal text.
     pub fn copy(&self) -> SpelledText<'a>
         ensures { result ≡ self.now }
     {
@@ -56,7 +56,7 @@ impl<'a> SpelledText<'a> {
     }
 }
 
-/// A prerequisite. Contracts see it as one with bytes of its own.
+/// A prerequisite in the bytes of a configuration. Contracts see it as one with bytes of its own.
 #[derive(Drop)]
 pub struct SpelledPrereq<'a> {
     kind: GrantKind,
@@ -78,7 +78,7 @@ impl<'a> Model for SpelledPrereq<'a> {
 }
 
 impl<'a> SpelledPrereq<'a> {
-    /// The prerequisite of these parts.
+    /// Returns the prerequisite with these parts.
     pub fn new(kind: GrantKind, name: &'a [u8], equal: bool, value: &'a [u8]) -> SpelledPrereq<'a>
         requires name { IsTrue (is_name name.now) }
         requires value { IsTrue (is_value value.now) }
@@ -92,7 +92,7 @@ impl<'a> SpelledPrereq<'a> {
         }
     }
 
-    /// The prerequisite with bytes of its own.
+    /// Returns the prerequisite with bytes of its own.
     pub fn owned(&self) -> Prereq
         ensures { result ≡ self.now }
     {
@@ -110,7 +110,7 @@ impl<'a> SpelledPrereq<'a> {
         }
     }
 
-    /// An equal prerequisite.
+    /// Returns an equal prerequisite.
     pub fn copy(&self) -> SpelledPrereq<'a>
         ensures { result ≡ self.now }
     {

@@ -1,4 +1,4 @@
-//! Texts that a value spells: paths, names and addresses.
+//! The texts in values: paths, names and addresses.
 ghost use Rattle.std.specs.Prelude.{◌≡◌, true};
 ghost use Rattle.std.specs.List.{list_all, list_any};
 ghost use Rattle.booth_conf.specs.Grammar.{is_value_byte};
@@ -9,7 +9,7 @@ use crate::spelled::SpelledText;
 use crate::words::is_gap;
 use booth_base::{Address, AttrValue, Name};
 
-/// A text of at most `PATH_BYTES` bytes, and of at least so many.
+/// Returns a text of at most `PATH_BYTES` bytes, and at least this many.
 #[tactic(auto, using(crate::proofs::TextLemmas::plain_utf8))]
 pub fn text(bytes: &[u8], least: usize) -> Option<SpelledText<'_>>
     requires { list_all is_value_byte bytes.now ≡ true }
@@ -28,7 +28,7 @@ fn has_word(bytes: &[u8]) -> bool
     bytes.iter().any(|b| !is_gap(*b))
 }
 
-/// A path and its arguments.
+/// Returns a path and its arguments.
 pub fn command(bytes: &[u8]) -> Option<SpelledText<'_>>
     requires { list_all is_value_byte bytes.now ≡ true }
     ensures { result ≡ command_in bytes.now }
@@ -40,21 +40,21 @@ pub fn command(bytes: &[u8]) -> Option<SpelledText<'_>>
     }
 }
 
-/// The name of these bytes.
+/// Returns the name with these bytes.
 pub fn name(bytes: &[u8]) -> Option<Name>
     ensures { result ≡ name_in bytes.now }
 {
     Name::read(bytes).ok()
 }
 
-/// The attribute's value of these bytes.
+/// Returns the attribute's value with these bytes.
 pub fn attr_value(bytes: &[u8]) -> Option<AttrValue>
     ensures { result ≡ value_in bytes.now }
 {
     AttrValue::read(bytes).ok()
 }
 
-/// The address that the text spells.
+/// Returns the address that the text spells.
 #[tactic(auto, using(crate::proofs::AddressLemmas::address_read))]
 pub fn address(bytes: &[u8]) -> Option<Address>
     ensures { result ≡ address_in bytes.now }

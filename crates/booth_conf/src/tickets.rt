@@ -1,4 +1,4 @@
-//! What a configuration says of a ticket.
+//! The ticket of a configuration.
 ghost use Rattle.booth_base.specs.declared.limits.TheConstants.{MEMBERS};
 ghost use Rattle.std.specs.Prelude.{◌≡◌, ◌≤◌, IfOk, length};
 
@@ -7,27 +7,27 @@ use booth_base::{AttrValue, MEMBERS, Name, PathText, Times};
 use std::alloc::{AllocError, Global};
 use std::marker::Model;
 
-/// How a ticket is granted: by an election, or by hand.
+/// How a ticket is granted: by an election, or by an operator.
 #[derive(Clone, Copy, PartialEq, Eq)]
 pub enum GrantKind {
     Auto,
     Manual,
 }
 
-/// What an attribute has to be before a ticket is granted in one way.
+/// The value that an attribute must have before a ticket is granted in one way.
 #[derive(Drop)]
 pub struct Prereq {
-    /// The grants that ask for it.
+    /// The kind of grant that needs it.
     pub kind: GrantKind,
     /// The attribute.
     pub name: Name,
-    /// Whether the attribute has to have the value, or must not have it.
+    /// Whether the attribute must have the value, or must not have it.
     pub equal: bool,
     pub value: AttrValue,
 }
 
 impl Prereq {
-    /// An equal prerequisite.
+    /// Returns an equal prerequisite.
     pub fn copy(&self) -> Prereq
         ensures { result ≡ self.now }
     {
@@ -40,8 +40,8 @@ impl Prereq {
     }
 }
 
-/// The prerequisites of a ticket, in the order of the file. Where there are none they take no memory. Contracts see a
-/// list of them.
+/// The prerequisites of a ticket, in the order of the file. An empty list takes no memory. Contracts see a list of
+/// them.
 #[derive(Drop)]
 pub struct Prereqs {
     list: Vec<Prereq>,
@@ -67,21 +67,21 @@ fn copy_list(alloc: Global, prereqs: &[Prereq]) -> Result<Vec<Prereq>, AllocErro
 }
 
 impl Prereqs {
-    /// Those of a list.
+    /// Returns the prerequisites in `list`.
     pub(crate) fn of(list: Vec<Prereq>) -> Prereqs
         ensures { result ≡ list.items }
     {
         Prereqs { list }
     }
 
-    /// Each, in their order.
+    /// Returns all of them, in their order.
     pub fn all(&self) -> &[Prereq]
         ensures { result.now ≡ self.now }
     {
         &self.list
     }
 
-    /// Equal ones.
+    /// Returns equal ones.
     pub fn copy(&self, alloc: Global) -> Result<Prereqs, AllocError>
         ensures { IfOk result (λ copied. copied ≡ self.now) }
     {
@@ -94,17 +94,17 @@ impl Prereqs {
 #[derive(Drop)]
 pub struct TicketConf {
     pub name: Name,
-    /// Whether it is granted by hand alone.
+    /// Whether only an operator grants it.
     pub manual: bool,
     pub times: Times,
-    /// The weights of the members in their order, as the file gives them. One that is missing is 0.
+    /// The weights of the members in their order, as in the file. A missing weight is 0.
     pub weights: ArrayVec<u32, MEMBERS>,
-    /// The path and the arguments of the program that is asked before the ticket is acquired.
+    /// The path and the arguments of the program that runs before the ticket is acquired.
     pub handler: Option<PathText>,
     pub prereqs: Prereqs,
 }
 
-/// An equal list of weights.
+/// Returns an equal list of weights.
 pub fn copy_weights(weights: &[u32]) -> ArrayVec<u32, MEMBERS>
     requires { length weights.now ≤ MEMBERS }
     ensures { result.items ≡ weights.now }
@@ -114,7 +114,7 @@ pub fn copy_weights(weights: &[u32]) -> ArrayVec<u32, MEMBERS>
     copied
 }
 
-/// An equal path, where there is one.
+/// Returns a copy of the path, if there is one.
 pub fn copy_path(path: &Option<PathText>) -> Option<PathText>
     ensures { result ≡ path.now }
 {
@@ -125,7 +125,7 @@ pub fn copy_path(path: &Option<PathText>) -> Option<PathText>
 }
 
 impl TicketConf {
-    /// An equal ticket.
+    /// Returns an equal ticket.
     pub fn copy(&self, alloc: Global) -> Result<TicketConf, AllocError>
         ensures { IfOk result (λ ticket. ticket ≡ self.now) }
     {

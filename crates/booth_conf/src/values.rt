@@ -17,7 +17,7 @@ use crate::words::{four_words, is_either};
 /// The name of the `ticket` line whose values are the defaults.
 const DEFAULTS: &str = "__default__";
 
-// The place of the word among those of which a value is one.
+// Returns the place of the value in the list of words, if the value is one of them.
 fn word(choice: Choice, bytes: &[u8]) -> Option<usize>
     ensures { result ≡ position (is_word_of bytes.now) (words_of choice) }
 {
@@ -95,7 +95,7 @@ fn text_value(text: Option<SpelledText<'_>>) -> Option<Value<'_>>
 }
 
 impl Form {
-    /// The value that the text spells in this form.
+    /// Returns the value that the text spells in this form.
     pub fn read(self, bytes: &[u8]) -> Option<Value<'_>>
         requires { list_all is_value_byte bytes.now ≡ true }
         ensures { result ≡ form_in self bytes.now }
@@ -129,7 +129,7 @@ impl Form {
 }
 
 impl ConfKey {
-    /// The setting that this value of the key makes, where the value has the key's form.
+    /// Returns the setting for this value of the key, if the value has the key's form.
     pub fn setting(self, value: &[u8]) -> Option<Setting<'_>>
         requires { list_all is_value_byte value.now ≡ true }
         ensures { result ≡ setting_in self value.now }

@@ -17,7 +17,7 @@ fn weight(piece: &[u8]) -> Option<u32>
     }
 }
 
-// Adds the weight of one more piece, where it spells one and there is room for it.
+// Adds the weight in one more piece, if the piece spells one and there is room for it.
 fn add_weight(weights: &mut ArrayVec<u32, MEMBERS>, piece: &[u8]) -> Option<()>
     ensures { MatchOption result (weight_added weights.old.items piece.now ≡ None)
         (λ _. weight_added weights.old.items piece.now ≡ Some weights.new.items) }
@@ -31,7 +31,7 @@ fn add_weight(weights: &mut ArrayVec<u32, MEMBERS>, piece: &[u8]) -> Option<()>
     }
 }
 
-/// The weights that the text spells.
+/// Returns the weights that the text spells.
 pub fn weights(text: &[u8]) -> Option<ArrayVec<u32, MEMBERS>>
     ensures { option_map (λ ws. ws.items) result ≡ weights_in text.now }
 {

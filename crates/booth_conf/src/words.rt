@@ -6,7 +6,7 @@ ghost use Rattle.booth_conf.specs.LineReader.{front};
 ghost use Rattle.booth_conf.specs.Values.{is_gap, is_word_byte};
 ghost use Rattle.booth_conf.specs.ValueReader.{word_in, one_word, four_words, GivesWord, GivesFour};
 
-/// Whether it is a space or a tab.
+/// Returns whether the byte is a space or a tab.
 pub fn is_gap(byte: u8) -> bool
     ensures { result ≡ is_gap byte }
 {
@@ -40,7 +40,7 @@ fn split_word(bytes: &[u8]) -> (&[u8], &[u8])
     bytes.split_at(word_len(bytes))
 }
 
-// The first word, and what stands after it.
+// Returns the first word, and what follows it.
 fn next_word(bytes: &[u8]) -> Option<(&[u8], &[u8])>
     ensures { GivesWord result (word_in bytes.now) }
 {
@@ -51,7 +51,7 @@ fn next_word(bytes: &[u8]) -> Option<(&[u8], &[u8])>
     Some(split_word(bytes))
 }
 
-/// The word of a text that has one.
+/// Returns the word of a text that has one word.
 pub fn one_word(bytes: &[u8]) -> Option<&[u8]>
     ensures { option_copied result ≡ one_word bytes.now }
 {
@@ -71,7 +71,7 @@ pub struct FourWords<'a> {
     pub value: &'a [u8],
 }
 
-/// The words of a text that has four.
+/// Returns the words of a text that has four.
 pub fn four_words(bytes: &[u8]) -> Option<FourWords<'_>>
     ensures { GivesFour result (four_words bytes.now) }
 {
@@ -90,7 +90,7 @@ pub fn four_words(bytes: &[u8]) -> Option<FourWords<'_>>
     })
 }
 
-/// Whether a text is one of two words.
+/// Returns whether a text is one of two words.
 pub fn is_either(bytes: &[u8], a: &str, b: &str) -> bool
     ensures { result ≡ (bytes_eq bytes.now a.now || bytes_eq bytes.now b.now) }
 {

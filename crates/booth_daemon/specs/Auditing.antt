@@ -1,4 +1,4 @@
--- The calls of `boothd audit`, and what it prints.
+-- The calls of `boothd audit`, and the text that it prints.
 use Rattle.std.specs.Prelude.{◌≡◌, ◌++◌, ◌⊎◌, ℕ, Bool, true, false, T, List, [], ◌∷◌, length, map, slice_get}
 use Rattle.std.specs.Prelude.{Option, Result, Ok, Err}
 use Rattle.std.specs.Prelude.{codes, decimal}
@@ -31,44 +31,44 @@ use Rattle.booth_daemon.specs.declared.auditing.Files.{Files}
 
 -- ---- the output
 
--- the name of the ticket at this place; a holding is of a place that has a ticket
+-- The name of the ticket at this place. A holding has the place of a ticket.
 abbrev pub ticket_at : ConfigSays → ℕ → List ℕ
 ticket_at config place =
     option_map_or (λ (ticket : TicketConf). ticket.name) (slice_get config.tickets place) []
 
--- the address of the member at this place, as text; a holding is of a place that has a member
+-- The address of the member at this place, as text. A holding has the place of a member.
 abbrev pub site_at : ConfigSays → ℕ → List ℕ
 site_at config place =
     option_map_or (λ (member : Member). printed member.address) (slice_get config.members place) []
 
--- the ticket that was held, and the site
+-- The text that names the ticket that was held, and the site.
 abbrev pub held_text : ConfigSays → Holding → List ℕ
 held_text config held =
     codes "ticket " ++ ticket_at config held.ticket ++ codes ", site " ++ site_at config held.member
 
--- the start and the end of a holding
+-- The text with the start and the end of a holding.
 abbrev pub span_text : Holding → List ℕ
 span_text held = codes ", from " ++ decimal held.from ++ codes " until " ++ decimal held.until ++ codes "\n"
 
 abbrev pub holding_text : ConfigSays → Holding → List ℕ
 holding_text config held = held_text config held ++ span_text held
 
--- a line for each holding
+-- The text with a line for each holding.
 abbrev pub holdings_text : ConfigSays → List Holding → List ℕ
 holdings_text config holdings = flat_map (holding_text config) holdings
 
 -- ---- the reads
 
--- a journal was read: its path, and its text
+-- The call that read a journal, with its path and its text.
 abbrev pub journal_call : List ℕ × List ℕ → Entry
 journal_call p = ReadFile p.0 (Ok p.1)
 
--- the journals at these paths were read, one after the other
+-- The calls read the journals at these paths, one after the other.
 pub record AreJournals (paths texts : List (List ℕ)) (entries : List Entry) : Type 0 where
   pub each : length texts ≡ length paths
   pub calls : entries ≡ map journal_call (zip paths texts)
 
--- the journals before this one were read, and this one could not be
+-- The journals before this one were read, and this one could not be read.
 pub record IsUnreadAt (paths : List (List ℕ)) (fault : ReadFault) (path : List ℕ) (entries : List Entry) : Type 0 where
   pub before : List (List ℕ)
   pub after : List (List ℕ)
@@ -78,7 +78,7 @@ pub record IsUnreadAt (paths : List (List ℕ)) (fault : ReadFault) (path : List
   pub read : AreJournals before texts early
   pub whole : entries ≡ early ++ ReadFile path (Err fault) ∷ []
 
--- a journal could not be read, or memory for it was out, or memory for all of them
+-- A journal could not be read, or the memory ran out for a journal or for all of them.
 abbrev pub AreJournalsUnread : List (List ℕ) → Outcome → List ℕ → List Entry → Type 0
 AreJournalsUnread paths JournalUnread said entries =
     (path : List ℕ) × (said ≡ unread_text path) × IsUnreadAt paths reads.Failed path entries
@@ -86,7 +86,7 @@ AreJournalsUnread paths OutOfMemory said entries = (said ≡ out_of_memory_text)
     × ((entries ≡ []) ⊎ ((path : List ℕ) × IsUnreadAt paths reads.NoMemory path entries))
 AreJournalsUnread paths outcome said entries = ⊥
 
--- the configuration was read, and the keys that it names
+-- The calls read the configuration, and the keys that it names.
 pub record IsKeyed (conf : List ℕ) (config : ConfigSays) (ring : Option Ring) (entries : List Entry) : Type 0 where
   pub text : List ℕ
   pub says : Says text config
@@ -94,7 +94,7 @@ pub record IsKeyed (conf : List ℕ) (config : ConfigSays) (ring : Option Ring) 
   pub holds : HasRing config key_texts ring
   pub whole : entries ≡ ReadFile conf (Ok text) ∷ key_calls config key_texts
 
--- and then the journals were read
+-- The calls read the configuration and the keys, and then the journals.
 pub record AreAllRead (asked : AuditWords) (config : ConfigSays) (ring : Option Ring) (texts : List (List ℕ))
     (entries : List Entry) : Type 0 where
   pub early : List Entry
@@ -105,7 +105,7 @@ pub record AreAllRead (asked : AuditWords) (config : ConfigSays) (ring : Option 
 
 -- ---- the ends
 
--- a configuration was read, and a key could not be
+-- A configuration was read, and a key could not be read.
 pub record IsUnkeyed (asked : AuditWords) (outcome : Outcome) (said : List ℕ) (entries : List Entry) : Type 0 where
   pub text : List ℕ
   pub config : ConfigSays
@@ -114,7 +114,7 @@ pub record IsUnkeyed (asked : AuditWords) (outcome : Outcome) (said : List ℕ) 
   pub whole : entries ≡ ReadFile asked.conf (Ok text) ∷ rest
   pub here : IsKeyless config outcome said rest
 
--- configuration and keys were read, and a journal could not be
+-- Configuration and keys were read, and a journal could not be read.
 pub record IsWanting (asked : AuditWords) (outcome : Outcome) (said : List ℕ) (entries : List Entry) : Type 0 where
   pub config : ConfigSays
   pub ring : Option Ring
@@ -124,8 +124,8 @@ pub record IsWanting (asked : AuditWords) (outcome : Outcome) (said : List ℕ) 
   pub whole : entries ≡ early ++ rest
   pub here : AreJournalsUnread asked.journals.items outcome said rest
 
--- How the audit of these texts ends: the holdings were printed, or could not be printed; or this is their first
--- fault; or memory was out.
+-- The end of the audit of these texts: the holdings were printed, or could not be printed; or this is the texts'
+-- first fault; or the memory ran out.
 abbrev pub IsAuditEnd :
     ConfigSays → Option Ring → List (List ℕ) → List (List ℕ) → Outcome → List ℕ → List Entry → Type 0
 IsAuditEnd config ring paths texts Done said entries = (said ≡ [])
@@ -139,7 +139,7 @@ IsAuditEnd config ring paths texts (AuditBad fault) said entries = (fault ≡ au
 IsAuditEnd config ring paths texts OutOfMemory said entries = (said ≡ out_of_memory_text) × (entries ≡ [])
 IsAuditEnd config ring paths texts outcome said entries = ⊥
 
--- the calls of the audit of these arguments, up to the one that decides its outcome
+-- The calls of the audit of these arguments, up to the call that decides its outcome.
 pub data IsAuditing (asked : AuditWords) (outcome : Outcome) (said : List ℕ) (entries : List Entry) : Type 0 where
   Unread : IsUnread asked.conf outcome said entries → IsAuditing asked outcome said entries
   Unkeyed : IsUnkeyed asked outcome said entries → IsAuditing asked outcome said entries
@@ -148,7 +148,7 @@ pub data IsAuditing (asked : AuditWords) (outcome : Outcome) (said : List ℕ) (
       AreAllRead asked config ring texts early → IsAuditEnd config ring asked.journals.items texts outcome said rest →
       entries ≡ early ++ rest → IsAuditing asked outcome said entries
 
--- the outcomes of an audit
+-- The outcomes of an audit.
 abbrev pub is_audit_outcome : Outcome → Bool
 is_audit_outcome Done = true
 is_audit_outcome ConfUnread = true
@@ -166,7 +166,7 @@ IsAuditOutcome outcome = T (is_audit_outcome outcome)
 
 -- ---- in the code
 
--- the journal at this path could not be read
+-- The journal at this path could not be read.
 abbrev pub IsJournalUnread : List ℕ → Outcome → List ℕ → List Entry → Type 0
 IsJournalUnread path JournalUnread said entries =
     (said ≡ unread_text path) × (entries ≡ ReadFile path (Err reads.Failed) ∷ [])
@@ -174,24 +174,24 @@ IsJournalUnread path OutOfMemory said entries =
     (said ≡ out_of_memory_text) × (entries ≡ ReadFile path (Err reads.NoMemory) ∷ [])
 IsJournalUnread path outcome said entries = ⊥
 
--- the journal at this path, or how the audit ends without it
+-- The journal at this path was read, or this is how the audit ends without it.
 abbrev pub IsJournalRead : List ℕ → Result (List ℕ) Ended → List Entry → Type 0
 IsJournalRead path (Ok text) entries = entries ≡ ReadFile path (Ok text) ∷ []
 IsJournalRead path (Err ended) entries = IsJournalUnread path ended.outcome ended.said entries
 
--- the contents of the files, or how the audit ends without them
+-- The contents of the files were read, or this is how the audit ends without them.
 abbrev pub AreFilesRead : AuditWords → Result Files Ended → List Entry → Type 0
 AreFilesRead asked (Ok files) entries = AreAllRead asked files.config files.ring files.journals.items entries
 AreFilesRead asked (Err ended) entries = IsAuditing asked ended.outcome ended.said entries
 
--- how an audit ends if its journals have this fault
+-- The end of an audit whose journals have this fault.
 abbrev pub IsBadEnd : List (List ℕ) → AuditFault → Outcome → List ℕ → Type 0
 IsBadEnd paths fault OutOfMemory said = said ≡ out_of_memory_text
 IsBadEnd paths fault (AuditBad told) said =
     (told ≡ fault) × (fault ≡ audits.OutOfMemory → ⊥) × (said ≡ audit_text paths fault)
 IsBadEnd paths fault outcome said = ⊥
 
--- the print of the holdings
+-- The call that prints the holdings, and the outcome.
 abbrev pub IsPrinted : ConfigSays → List Holding → Outcome → List ℕ → List Entry → Type 0
 IsPrinted config holdings Done said entries = (said ≡ [])
     × (entries ≡ Out (holdings_text config holdings) (Ok tt) ∷ [])

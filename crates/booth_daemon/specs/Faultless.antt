@@ -1,4 +1,4 @@
--- Runs in which the environment does not fail, and arguments and files are valid.
+-- Runs in which the environment does not fail, and the arguments and files are valid.
 use Rattle.std.specs.Prelude.{◌≡◌, ℕ, true, List, Contains, Option, Some, Ok, Err, false, Bool, T}
 use Rattle.booth_base.specs.declared.address.Address.{Address}
 use Rattle.booth_conf.specs.Config.{ConfigSays}
@@ -23,13 +23,13 @@ use Rattle.booth_daemon.specs.Run.{IsRun}
 
 -- ---- a daemon
 
--- the text spells a configuration, which has a member at this address
+-- The text spells a configuration that has a member at this address.
 pub record IsValid (address : Address) (text : List ℕ) : Type 0 where
   pub config : ConfigSays
   pub says : Says text config
   pub member : has_member config address ≡ true
 
--- No file, lock, socket or record failed, and the lock was free; the file at the path spells a configuration with
+-- No file, lock, socket or record failed, and the lock was free. The file at the path spells a configuration with
 -- this member, and the key file that it names holds a key.
 pub record IsFaultless (asked : DaemonWords) (entries : List Entry) : Type 0 where
   pub read : (file : List ℕ) → Contains entries (ReadFile file (Err reads.Failed)) → ⊥
@@ -44,7 +44,7 @@ pub record IsFaultless (asked : DaemonWords) (entries : List Entry) : Type 0 whe
       Contains entries (Open local port records conf (Err failed)) → ⊥
   pub kept : (ticket : List ℕ) (failed : Failed) → Contains entries (Kept ticket (Err failed)) → ⊥
 
--- the outcomes without a fault
+-- The outcomes without a fault.
 abbrev pub ends_well : Outcome → Bool
 ends_well Done = true
 ends_well TurnsSpent = true
@@ -54,7 +54,7 @@ ends_well outcome = false
 abbrev pub EndsWell : Outcome → Type 0
 EndsWell outcome = T (ends_well outcome)
 
--- the same for a run with these arguments
+-- A run of a daemon with these arguments is faultless.
 abbrev pub AreFaultless : List (List ℕ) → List Entry → Type 0
 AreFaultless words entries = (asked : DaemonWords) → AsksDaemon words asked → IsFaultless asked entries
 
@@ -67,7 +67,7 @@ FaultlessRuns = (words : List (List ℕ)) (outcome : Outcome) (entries : List En
 
 -- ---- a simulation
 
--- the file at the path of the configuration spells one, and neither a read nor a print failed
+-- The file at the path of the configuration spells one, and neither a read nor a print failed.
 pub record IsFaultlessFor (asked : SimulationWords) (entries : List Entry) : Type 0 where
   pub read : (file : List ℕ) → Contains entries (ReadFile file (Err reads.Failed)) → ⊥
   pub valid : (path text : List ℕ) → asked.conf ≡ Some path → Contains entries (ReadFile path (Ok text)) →
@@ -118,7 +118,7 @@ FaultlessAudits = (words : List (List ℕ)) (outcome : Outcome) (entries : List 
 
 -- ---- `boothd status`
 
--- neither the lock nor a print failed
+-- Neither the lock nor a print failed.
 pub record IsUnfailing (entries : List Entry) : Type 0 where
   pub locked : (lock : List ℕ) (failed : Failed) → Contains entries (Lock lock (Err failed)) → ⊥
   pub printed : (text : List ℕ) (failed : Failed) → Contains entries (Out text (Err failed)) → ⊥

@@ -1,6 +1,6 @@
--- The worlds that have a run of boothd as a part: in them no automatic ticket is held at two sites, and no written
--- term falls. If all sessions of a world are of version 2, a later holder has a later term, and leases are told apart
--- by their terms even if clocks step forward.
+-- The worlds that have a run of boothd as a part. In them no automatic ticket is held at two sites, and no written
+-- term falls. If all sessions of a world are of version 2, a later holder has a later term. Then the terms of leases
+-- distinguish them, even if clocks step forward.
 use Rattle.std.specs.Prelude.{◌≡◌, ◌++◌, ℕ, List, ◌∷◌, Bool, true, false, T}
 use Rattle.booth_host.specs.declared.entry.Entry.{Entry}
 use Rattle.booth_node.specs.Session.{SessionEntry, Starts, Down, AreSessions}
@@ -20,7 +20,7 @@ use Rattle.booth_daemon.specs.Run.{IsRun, AskForDaemon}
 
 -- ---- the session of a run
 
--- a run of a daemon that made its whole opening, and then turns; its last line says how it ended
+-- A run of a daemon that made its whole opening, and then turns. Its last line reports how it ended.
 pub record IsTurningRun (words : List (List ℕ)) (outcome : Outcome) (entries : List Entry) : Type 0 where
   pub asked : DaemonWords
   pub asks : AsksDaemon words asked
@@ -31,16 +31,16 @@ pub record IsTurningRun (words : List (List ℕ)) (outcome : Outcome) (entries :
   pub turning : IsTurning asked outcome said body
   pub told : IsText Boothd said last
 
--- what it did after its opening, from its start on: the start has the reading and the records that the opening read,
--- and the calls are those of its turns
+-- The calls of the daemon after its opening, from its start on, as a session. The start has the reading and the
+-- records that the opening read, and the calls are the calls of its turns.
 abbrev pub session_of :
     {asked : DaemonWords} {outcome : Outcome} {said : List ℕ} {body : List Entry} → IsTurning asked outcome said body
     → List SessionEntry
 session_of {asked} turning =
     Starts (member_config asked.site turning.config turning.ring) turning.reading turning.records ∷ made turning.turns
 
--- The daemon of this run is a member of the world, and this run is a session of that member, of version 2. What the
--- member did before and does later, and what the others do, is arbitrary.
+-- The daemon of this run is a member of the world, and this run is a session of that member, of version 2. The
+-- earlier and later actions of the member are arbitrary, and so are the actions of the other members.
 pub record IsSessionIn (w : World) (words : List (List ℕ)) (outcome : Outcome) (entries : List Entry) : Type 0 where
   pub run : IsTurningRun words outcome entries
   pub member : ℕ
@@ -49,7 +49,7 @@ pub record IsSessionIn (w : World) (words : List (List ℕ)) (outcome : Outcome)
   pub after : List SessionEntry
   pub session : entries_of member w.entries ≡ before ++ (session_of run.turning ++ after)
 
--- the outcomes of a daemon that made turns
+-- The outcomes of a daemon that made turns.
 abbrev pub is_turning_end : Outcome → Bool
 is_turning_end Done = true
 is_turning_end TurnsSpent = true
@@ -58,13 +58,14 @@ is_turning_end outcome = false
 abbrev pub IsTurningEnd : Outcome → Type 0
 IsTurningEnd outcome = T (is_turning_end outcome)
 
--- A daemon with such an outcome made its whole opening and then turns, and these are a session of a member. In every
--- world that has this run as a session, no automatic ticket is held at two members at one moment, and no member's
--- written term falls; and a member that names itself as the holder in a message is the holder, and no other member
--- is, until the end in that message. If all sessions of that world are of version 2, a member that holds later than
--- another has a lease of a later term. If the clocks of a world only rise and nothing else is known about them, no
--- written term falls all the same; and if all its sessions are of version 2, leases are distinguished by their terms,
--- and a term that a member reports is the term of a lease that it gained.
+-- The promises for a run of the daemon. If `IsTurningEnd` holds for its outcome, the daemon made its whole opening
+-- and then turns, and these are a session of a member. In every world that has this run as a session, no automatic
+-- ticket is held at two members at the same moment. No member's written term falls. If a member names itself as the
+-- holder in a message, it is the holder until the end in that message, and no other member is. If all sessions of
+-- that world are of version 2, a member that holds later than another has a lease with a later term. Even if the
+-- clocks of a world only rise, and nothing else is known about them, no written term falls. If in addition all its
+-- sessions are of version 2, the terms of leases distinguish them. A term that a member reports is then the term of a
+-- lease that it gained.
 pub record IsSafe (words : List (List ℕ)) (outcome : Outcome) (entries : List Entry) : Type 0 where
   pub turned : AskForDaemon words → IsTurningEnd outcome → IsTurningRun words outcome entries
   pub is_session : (run : IsTurningRun words outcome entries) → AreSessions Down (session_of run.turning)
@@ -76,22 +77,22 @@ pub record IsSafe (words : List (List ℕ)) (outcome : Outcome) (entries : List 
   pub in_untimed_second_worlds : (w : World) → IsUntimedWorld w → IsSecondWorld w
       → IsSessionIn w words outcome entries → HasFencingTerms w
 
--- ---- the same for all runs
+-- ---- the laws for all runs
 
--- each run of a daemon with such an outcome made its whole opening, and then turns
+-- Each run of a daemon for whose outcome `IsTurningEnd` holds made its whole opening, and then turns.
 abbrev pub DaemonsTurn : Type 0
 DaemonsTurn =
     (words : List (List ℕ)) (outcome : Outcome) (entries : List Entry) → IsRun words outcome entries
     → AskForDaemon words → IsTurningEnd outcome → IsTurningRun words outcome entries
 
--- what a run of the daemon did after its opening, from its start on, is a session of a member
+-- The calls of a run of the daemon after its opening, from its start on, are a session of a member.
 abbrev pub RunsAreSessions : Type 0
 RunsAreSessions =
     (asked : DaemonWords) (outcome : Outcome) (said : List ℕ) (body : List Entry)
     (t : IsTurning asked outcome said body)
     → AreSessions Down (session_of t)
 
--- the same holds for what it did up to any call
+-- The calls of a run of the daemon after its opening, cut off after any call, are a session of a member too.
 abbrev pub CutRunsAreSessions : Type 0
 CutRunsAreSessions =
     (asked : DaemonWords) (outcome : Outcome) (said : List ℕ) (body : List Entry)

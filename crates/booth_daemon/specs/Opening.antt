@@ -1,4 +1,5 @@
--- The opening of a daemon, in the order of its stages: each by its calls, or by how the daemon ends at it.
+-- The opening of a daemon, in the order of its stages. Each stage is given by its calls, or by how the daemon ends at
+-- it.
 use Rattle.std.specs.Prelude.{◌≡◌, ◌++◌, ℕ, true, false, List, [], ◌∷◌, Option, Some}
 use Rattle.std.specs.Prelude.{Result, Ok, Err, codes}
 use Rattle.booth_keys.specs.declared.ring.Ring.{Ring}
@@ -25,14 +26,14 @@ use Rattle.booth_daemon.specs.Records.{AreKept, AreNoneOrAll, IsRecordUnread}
 
 -- ---- configuration and ring
 
--- configuration and ring, and the texts from which they were read
+-- The configuration and the ring, with the texts from which they were read.
 pub record IsReady (address : Address) (config : ConfigSays) (ring : Option Ring) : Type 0 where
   pub text : List ℕ
   pub fit : IsFit address text config
   pub key_texts : KeyTexts
   pub holds : HasRing config key_texts ring
 
--- the calls up to the ring
+-- The calls up to the ring.
 abbrev pub reads_of : {address : Address} {config : ConfigSays} {ring : Option Ring} → List ℕ →
     IsReady address config ring → List Entry
 reads_of {address} {config} path ready = ReadFile path
@@ -40,7 +41,7 @@ reads_of {address} {config} path ready = ReadFile path
 
 -- ---- the lock
 
--- another process has the lock, or the lock failed
+-- Another process has the lock, or the lock failed.
 abbrev pub IsLockless : List ℕ → Outcome → List ℕ → List Entry → Type 0
 IsLockless lock Running said entries = (said ≡ codes "already running")
     × (entries ≡ Lock lock (Ok false) ∷ [])
@@ -48,19 +49,19 @@ IsLockless lock LockFault said entries = (said ≡ unlocked_text lock)
     × (failed : Failed) × (entries ≡ Lock lock (Err failed) ∷ [])
 IsLockless lock outcome said entries = ⊥
 
--- the one call for the lock
+-- The one call for the lock.
 abbrev pub IsLocked : List ℕ → Result (Unit {0}) Ended → List Entry → Type 0
 IsLocked lock (Ok done) entries = entries ≡ Lock lock (Ok true) ∷ []
 IsLocked lock (Err ended) entries = IsLockless lock ended.outcome ended.said entries
 
 -- ---- the clock, the socket, the records and the node
 
--- the calls after the reads; the socket's answer is the last
+-- The calls after the reads. The last is the call for the socket, with its answer.
 abbrev pub opened : DaemonWords → ConfigSays → ℕ → Result (Unit {0}) Failed → List Entry
 opened asked config reading answer = Lock asked.lock (Ok true) ∷ Now reading
     ∷ Open (Some asked.site) config.port asked.records asked.conf answer ∷ []
 
--- the socket was opened, and then these calls were made
+-- The socket was opened, and then these calls were made.
 pub record IsBehindSocket (asked : DaemonWords) (config : ConfigSays) (after : List Entry → Type 0)
     (entries : List Entry) : Type 0 where
   pub reading : ℕ
@@ -68,7 +69,7 @@ pub record IsBehindSocket (asked : DaemonWords) (config : ConfigSays) (after : L
   pub whole : entries ≡ opened asked config reading (Ok tt) ++ rest
   pub here : after rest
 
--- the socket failed, or a record could not be read, or memory for the records or for the node was out
+-- The socket failed, or a record could not be read, or the memory ran out for the records or for the node.
 abbrev pub IsUnopened : DaemonWords → ConfigSays → Outcome → List ℕ → List Entry → Type 0
 IsUnopened asked config OpenFault said entries = (said ≡ unopened_text)
     × (reading : ℕ) × (failed : Failed) × (entries ≡ opened asked config reading (Err failed))
@@ -78,18 +79,18 @@ IsUnopened asked config OutOfMemory said entries = (said ≡ out_of_memory_text)
     × IsBehindSocket asked config (AreNoneOrAll config.tickets) entries
 IsUnopened asked config outcome said entries = ⊥
 
--- the node of this member, by the rules of version 2
+-- The node of this member, which follows the rules of version 2.
 abbrev pub member_config : Address → ConfigSays → Option Ring → NodeConfig
 member_config address config ring =
     record { config = config; ring = ring; me = record { 0 = id_of address }; second = true }
 
--- this node has just been opened, with these records, at this reading
+-- This node has just been opened, with these records, at this reading.
 pub record IsFresh (address : Address) (config : ConfigSays) (ring : Option Ring)
     (records : List (Option Record)) (reading : ℕ) (node : Node) : Type 0 where
   pub own : node_config node ≡ member_config address config ring
   pub state : state_of node ≡ start_state (member_config address config ring) records reading
 
--- the calls after the reads, up to the last record, and the node
+-- The calls after the reads, up to the last record, and the node.
 pub record IsStarted (asked : DaemonWords) (config : ConfigSays) (ring : Option Ring) (node : Node)
     (entries : List Entry) : Type 0 where
   pub reading : ℕ
@@ -99,7 +100,7 @@ pub record IsStarted (asked : DaemonWords) (config : ConfigSays) (ring : Option 
   pub fresh : IsFresh asked.site config ring records reading node
   pub whole : entries ≡ opened asked config reading (Ok tt) ++ kept
 
--- the calls after the lock, and the node
+-- The calls after the lock, and the node; or this is how the daemon ends without a node.
 abbrev pub IsNodeOpened : DaemonWords → ConfigSays → Option Ring → Result Node Ended →
     List Entry → Type 0
 IsNodeOpened asked config ring (Ok node) entries =

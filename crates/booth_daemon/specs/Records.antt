@@ -11,17 +11,17 @@ use Rattle.booth_outcomes.specs.declared.outcome.Outcome.TheVariants.{RecordUnre
 use Rattle.booth_outcomes.specs.declared.outcome.Ended.{Ended}
 use Rattle.booth_outcomes.specs.Texts.{unread_record_text, out_of_memory_text}
 
--- a ticket's record was read, or was found missing
+-- The call that read a ticket's record, or found it missing.
 abbrev pub kept_call : TicketConf × Option Record → Entry
 kept_call p = Kept p.0.name (Ok p.1)
 
--- one call for each ticket, with its record
+-- The calls that read the records: one call for each ticket, with its record.
 pub record AreKept (tickets : List TicketConf) (records : List (Option Record))
     (entries : List Entry) : Type 0 where
   pub each : length records ≡ length tickets
   pub calls : entries ≡ map kept_call (zip tickets records)
 
--- the records of the tickets before this one were read, and its own could not be
+-- The records of the tickets before this one were read, and this ticket's record could not be read.
 pub record IsRecordUnread (tickets : List TicketConf) (said : List ℕ) (entries : List Entry) : Type 0 where
   pub before : List TicketConf
   pub ticket : TicketConf
@@ -34,21 +34,21 @@ pub record IsRecordUnread (tickets : List TicketConf) (said : List ℕ) (entries
   pub whole : entries ≡ early ++ Kept ticket.name (Err failed) ∷ []
   pub told : said ≡ unread_record_text ticket.name
 
--- none of the records was read, or all were
+-- None of the records was read, or all were read.
 abbrev pub AreNoneOrAll : List TicketConf → List Entry → Type 0
 AreNoneOrAll tickets entries = (entries ≡ [])
     ⊎ ((records : List (Option Record)) × AreKept tickets records entries)
 
 -- ---- in the code
 
--- the record of the ticket with this name
+-- The call that read the record of the ticket with this name.
 abbrev pub IsRecordRead : List ℕ → Result (Option Record) Ended → List Entry → Type 0
 IsRecordRead ticket (Ok rec) entries = entries ≡ Kept ticket (Ok rec) ∷ []
 IsRecordRead ticket (Err ended) entries = (ended.outcome ≡ RecordUnread)
     × (ended.said ≡ unread_record_text ticket)
     × (failed : Failed) × (entries ≡ Kept ticket (Err failed) ∷ [])
 
--- a record could not be read, or memory for the records was out
+-- A record could not be read, or memory for the records was out.
 abbrev pub AreUnread : List TicketConf → Outcome → List ℕ → List Entry → Type 0
 AreUnread tickets RecordUnread said entries = IsRecordUnread tickets said entries
 AreUnread tickets OutOfMemory said entries = (said ≡ out_of_memory_text) × (entries ≡ [])

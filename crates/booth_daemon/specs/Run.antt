@@ -20,7 +20,7 @@ use Rattle.booth_daemon.specs.Status.{IsStatus}
 use Rattle.booth_daemon.specs.Simulating.{IsSimulated}
 use Rattle.booth_daemon.specs.Auditing.{IsAuditing}
 
--- the calls up to the one that decides the outcome, for these arguments
+-- The calls for these arguments, up to the call that decides the outcome.
 pub data IsMade (words : List (List ℕ)) (outcome : Outcome) (said : List ℕ)
     (entries : List Entry) : Type 0 where
   Unasked : IsUnasked Boothd words outcome said entries → IsMade words outcome said entries
@@ -33,7 +33,7 @@ pub data IsMade (words : List (List ℕ)) (outcome : Outcome) (said : List ℕ)
   Looked : (lock : List ℕ) → AsksStatus words lock → IsStatus lock outcome said entries →
       IsMade words outcome said entries
 
--- all calls of a run with these arguments, the last of which reports how it ended
+-- All calls of a run with these arguments. The last call reports how the run ended.
 pub record IsRun (words : List (List ℕ)) (outcome : Outcome) (entries : List Entry) : Type 0 where
   pub said : List ℕ
   pub body : List Entry
@@ -44,34 +44,34 @@ pub record IsRun (words : List (List ℕ)) (outcome : Outcome) (entries : List E
 
 -- ---- for every host
 
--- the arguments start a daemon, with any options
+-- The arguments start a daemon, with any options.
 pub record AskForDaemon (words : List (List ℕ)) : Type 0 where
   pub asked : DaemonWords
   pub asks : AsksDaemon words asked
 
--- the arguments are those of `status`, with any lock
+-- The arguments ask for `status`, with any lock.
 pub record AskForStatus (words : List (List ℕ)) : Type 0 where
   pub lock : List ℕ
   pub asks : AsksStatus words lock
 
--- the arguments are those of `sim`, with any options
+-- The arguments ask for `sim`, with any options.
 pub record AskForSimulation (words : List (List ℕ)) : Type 0 where
   pub asked : SimulationWords
   pub asks : AsksSimulation words asked
 
--- the arguments are those of `audit`, with any options
+-- The arguments ask for `audit`, with any options.
 pub record AskForAudit (words : List (List ℕ)) : Type 0 where
   pub asked : AuditWords
   pub asks : AsksAudit words asked
 
--- the arguments are those of `sim` with a configuration
+-- The arguments ask for `sim` with a configuration.
 pub record AskForNamed (words : List (List ℕ)) : Type 0 where
   pub asked : SimulationWords
   pub asks : AsksSimulation words asked
   pub named : IsSome asked.conf
 
--- Usage comes only for invalid arguments, and BadWord exactly if that argument is the first invalid one; out of
--- memory comes only if there is a command
+-- The outcome fits the arguments. Usage comes only for invalid arguments, and BadWord exactly if that argument is the
+-- first invalid one. Out of memory comes only if there is a command.
 abbrev pub FitsWords : List (List ℕ) → Outcome → Type 0
 FitsWords words (Usage None) = verb_in Boothd words ≡ None
 FitsWords words (Usage (Some kind)) = IsUntaken Boothd words kind

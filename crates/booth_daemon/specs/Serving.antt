@@ -1,4 +1,4 @@
--- The calls of a daemon, up to the one that decides its outcome, and the text that it then prints.
+-- The calls of a daemon, up to the call that decides its outcome, and the text that it then prints.
 use Rattle.std.specs.Prelude.{◌≡◌, ◌<◌, ◌++◌, ◌⊎◌, ℕ, List, [], ◌∷◌}
 use Rattle.std.specs.Prelude.{Option, Some, None, unwrap_or, Result, Ok, Err, codes, IsSomeAnd}
 use Rattle.booth_keys.specs.declared.ring.Ring.{Ring}
@@ -25,9 +25,9 @@ use Rattle.booth_outcomes.specs.Keys.{IsKeyless}
 use Rattle.booth_daemon.specs.Opening.{IsReady, reads_of, IsLockless, opened, IsUnopened}
 use Rattle.booth_daemon.specs.Opening.{IsStarted, member_config}
 
--- ---- how far the daemon got
+-- ---- the stages that the daemon reached
 
--- a configuration was read that this daemon does not serve
+-- A configuration was read, and this daemon does not serve it.
 pub record IsRefused (asked : DaemonWords) (outcome : Outcome) (said : List ℕ)
     (entries : List Entry) : Type 0 where
   pub text : List ℕ
@@ -36,7 +36,7 @@ pub record IsRefused (asked : DaemonWords) (outcome : Outcome) (said : List ℕ)
   pub whole : entries ≡ ReadFile asked.conf (Ok text) ∷ []
   pub here : IsUnserved asked.site config outcome said
 
--- a configuration that it serves was read, and a key could not be
+-- A configuration that the daemon serves was read, and a key could not be read.
 pub record IsUnkeyed (asked : DaemonWords) (outcome : Outcome) (said : List ℕ)
     (entries : List Entry) : Type 0 where
   pub text : List ℕ
@@ -46,7 +46,7 @@ pub record IsUnkeyed (asked : DaemonWords) (outcome : Outcome) (said : List ℕ)
   pub whole : entries ≡ ReadFile asked.conf (Ok text) ∷ rest
   pub here : IsKeyless config outcome said rest
 
--- configuration and ring were read, and then these calls were made
+-- Configuration and ring were read, and then these calls were made.
 pub record IsStuck (asked : DaemonWords) (after : ConfigSays → List Entry → Type 0)
     (entries : List Entry) : Type 0 where
   pub config : ConfigSays
@@ -56,18 +56,18 @@ pub record IsStuck (asked : DaemonWords) (after : ConfigSays → List Entry → 
   pub whole : entries ≡ reads_of asked.conf ready ++ rest
   pub here : after config rest
 
--- fewer turns than the limit, and one more that stopped
+-- The node made fewer turns than the limit, and one more turn, which stopped.
 pub record IsStoppedWithin (node : NodeConfig) (old : State) (limit : ℕ) (new : State)
     (entries : List Entry) : Type 0 where
   pub stopped : IsStoppedLog node old new entries
   pub within : stopped.count < limit
 
--- as many turns as the arguments say
+-- The node made as many turns as the arguments state.
 abbrev pub AreAllTurns : NodeConfig → State → Option ℕ → State → List Entry → Type 0
 AreAllTurns node old turns new entries = IsSomeAnd turns (λ count. IsNodeLog node old count new entries)
 
--- The turns of a node, from one state to another, by the outcome that they lead to. Without a number in the arguments
--- there are at most `MOST_TURNS`.
+-- The turns of a node, from one state to another, by the outcome of the daemon after them. Without a number in the
+-- arguments there are at most `MOST_TURNS` turns.
 abbrev pub IsNodeRun : NodeConfig → Option ℕ → State → State → Outcome → List ℕ →
     List Entry → Type 0
 IsNodeRun node turns old new Done said entries = (said ≡ [])
@@ -77,13 +77,13 @@ IsNodeRun node turns old new TurnsSpent said entries = (turns ≡ None)
     × (said ≡ codes "turns spent") × IsNodeLog node old MOST_TURNS new entries
 IsNodeRun node turns old new outcome said entries = ⊥
 
--- in the code: how a daemon ends after all its turns
+-- In the code: the end of a daemon after all its turns.
 abbrev pub AreSpent : Option ℕ → Outcome → List ℕ → Type 0
 AreSpent (Some count) Done said = said ≡ []
 AreSpent None TurnsSpent said = said ≡ codes "turns spent"
 AreSpent turns outcome said = ⊥
 
--- the whole opening, and then turns of this configuration, ring and member, from the records that were read
+-- The whole opening, and then turns with this configuration, ring and member, from the records that were read.
 pub record IsTurning (asked : DaemonWords) (outcome : Outcome) (said : List ℕ)
     (entries : List Entry) : Type 0 where
   pub config : ConfigSays
@@ -100,7 +100,7 @@ pub record IsTurning (asked : DaemonWords) (outcome : Outcome) (said : List ℕ)
   pub log : IsNodeRun (member_config asked.site config ring) asked.turns
       (start_state (member_config asked.site config ring) records reading) last outcome said turns
 
--- the first stage of the opening that failed, or the turns after all stages
+-- The first stage of the opening that failed, or the turns after all stages.
 pub data IsServing (asked : DaemonWords) (outcome : Outcome) (said : List ℕ)
     (entries : List Entry) : Type 0 where
   Unread : IsUnread asked.conf outcome said entries → IsServing asked outcome said entries
@@ -112,7 +112,7 @@ pub data IsServing (asked : DaemonWords) (outcome : Outcome) (said : List ℕ)
       IsServing asked outcome said entries
   Turning : IsTurning asked outcome said entries → IsServing asked outcome said entries
 
--- the whole opening, and its node
+-- The whole opening, and its node.
 pub record IsOpen (asked : DaemonWords) (node : Node) (entries : List Entry) : Type 0 where
   pub config : ConfigSays
   pub ring : Option Ring
@@ -121,7 +121,7 @@ pub record IsOpen (asked : DaemonWords) (node : Node) (entries : List Entry) : T
   pub whole : entries ≡ reads_of asked.conf ready ++ rest
   pub started : IsStarted asked config ring node rest
 
--- the calls of the opening, and the node, or how the daemon ends without one
+-- The calls of the opening, and the node; or this is how the daemon ends without a node.
 abbrev pub IsOpened : DaemonWords → Result Node Ended → List Entry → Type 0
 IsOpened asked (Ok node) entries = IsOpen asked node entries
 IsOpened asked (Err ended) entries = IsServing asked ended.outcome ended.said entries

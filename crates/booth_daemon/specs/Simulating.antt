@@ -1,4 +1,4 @@
--- The calls of `boothd sim`, and what it prints.
+-- The calls of `boothd sim`, and the text that it prints.
 use Rattle.std.specs.Prelude.{◌≡◌, ◌++◌, ◌≤◌, ℕ, List, [], ◌∷◌, Option, Some, None, IsSome, Result, Ok, Err, codes, decimal}
 use Rattle.booth_conf.specs.Config.{ConfigSays}
 use Rattle.booth_conf.specs.Says.{Says}
@@ -15,7 +15,7 @@ use Rattle.booth_outcomes.specs.declared.outcome.Ended.{Ended}
 use Rattle.booth_outcomes.specs.Configuration.{IsUnread}
 use Rattle.booth_outcomes.specs.Texts.{out_of_memory_text, unprinted_text}
 
--- two sites, an arbitrator, and a ticket with the default times
+-- The example: two sites, an arbitrator, and a ticket with the default times.
 abbrev pub example_text : List ℕ
 example_text =
     codes "site=\"192.168.201.100\"\nsite=\"192.168.202.100\"\narbitrator=\"192.168.203.100\"\nticket=\"ticket-db8\"\n"
@@ -25,7 +25,7 @@ example_text =
 abbrev pub row_text : List ℕ → ℕ → List ℕ
 row_text name number = name ++ codes ": " ++ decimal number ++ codes "\n"
 
--- the counts of the cluster
+-- The text with the counts of the cluster.
 abbrev pub cluster_text : Summary → List ℕ
 cluster_text summary =
     row_text (codes "events") summary.events
@@ -33,7 +33,7 @@ cluster_text summary =
     ++ row_text (codes "delivered") summary.delivered
     ++ row_text (codes "restarts") summary.restarts
 
--- the counts of its tickets
+-- The text with the counts of its tickets.
 abbrev pub ticket_text : Summary → List ℕ
 ticket_text summary =
     row_text (codes "gains") summary.gains
@@ -46,18 +46,18 @@ summary_text summary = cluster_text summary ++ ticket_text summary
 
 -- ---- the calls
 
--- the configuration of a simulation: the one that the arguments name, which was read, or else the example
+-- The configuration of a simulation. If the arguments name a configuration, it was read; otherwise it is the example.
 abbrev pub IsChosen : Option (List ℕ) → ConfigSays → List Entry → Type 0
 IsChosen None config entries = Says example_text config × (entries ≡ [])
 IsChosen (Some path) config entries =
     (text : List ℕ) × (entries ≡ ReadFile path (Ok text) ∷ []) × Says text config
 
--- it could not be read, or has a fault; the example has none, so only memory for it may be out
+-- The configuration could not be read, or has a fault. The example has no fault, so only memory for it may be out.
 abbrev pub IsUnchosen : Option (List ℕ) → Outcome → List ℕ → List Entry → Type 0
 IsUnchosen None outcome said entries = (outcome ≡ OutOfMemory) × (said ≡ out_of_memory_text) × (entries ≡ [])
 IsUnchosen (Some path) outcome said entries = IsUnread path outcome said entries
 
--- how a simulation ends: its summary was printed, or could not be printed, or memory was out
+-- The end of a simulation: its summary was printed, or could not be printed, or the memory ran out.
 abbrev pub IsSummed : ConfigSays → SimulationWords → Outcome → List ℕ → List Entry → Type 0
 IsSummed config asked Done said entries = (said ≡ [])
     × (summary : Summary) × IsSummary config asked.events asked.number summary × (summary.most_holders ≤ 1)
@@ -68,13 +68,13 @@ IsSummed config asked PrintFault said entries = (said ≡ unprinted_text)
 IsSummed config asked OutOfMemory said entries = (said ≡ out_of_memory_text) × (entries ≡ [])
 IsSummed config asked outcome said entries = ⊥
 
--- the calls of the simulation, up to the one that decides its outcome
+-- The calls of the simulation, up to the call that decides its outcome.
 pub data IsSimulated (asked : SimulationWords) (outcome : Outcome) (said : List ℕ) (entries : List Entry) : Type 0 where
   Unchosen : IsUnchosen asked.conf outcome said entries → IsSimulated asked outcome said entries
   Simulated : (config : ConfigSays) (chosen rest : List Entry) → IsChosen asked.conf config chosen →
       IsSummed config asked outcome said rest → entries ≡ chosen ++ rest → IsSimulated asked outcome said entries
 
--- the outcomes of a simulation: those of a file only if the arguments name one
+-- The outcomes of a simulation. The outcomes of a file come only if the arguments name one.
 abbrev pub IsSimulationEnd : Option (List ℕ) → Outcome → Type 0
 IsSimulationEnd conf Done = Unit {0}
 IsSimulationEnd conf PrintFault = Unit {0}
@@ -85,17 +85,17 @@ IsSimulationEnd conf outcome = ⊥
 
 -- ---- in the code
 
--- a configuration, or how the simulation ends without one
+-- The simulation has a configuration, or this is how it ends without one.
 abbrev pub IsConfigChosen : Option (List ℕ) → Result ConfigSays Ended → List Entry → Type 0
 IsConfigChosen conf (Ok config) entries = IsChosen conf config entries
 IsConfigChosen conf (Err ended) entries = IsUnchosen conf ended.outcome ended.said entries
 
--- how a simulation ends if memory is out
+-- The end of a simulation if the memory has run out.
 pub record HasNoMemory (ended : Ended) : Type 0 where
   pub outcome : ended.outcome ≡ OutOfMemory
   pub said : ended.said ≡ out_of_memory_text
 
--- the print of the counts
+-- The call that prints the counts, and the outcome.
 abbrev pub IsPrinted : Summary → Outcome → List ℕ → List Entry → Type 0
 IsPrinted summary Done said entries = (said ≡ []) × (entries ≡ Out (summary_text summary) (Ok tt) ∷ [])
 IsPrinted summary PrintFault said entries = (said ≡ unprinted_text) × (failed : Failed)

@@ -7,13 +7,13 @@ use Rattle.booth_outcomes.specs.declared.outcome.Outcome.{Outcome}
 use Rattle.booth_outcomes.specs.declared.outcome.Outcome.TheVariants.{Done, NotRunning, LockFault, PrintFault}
 use Rattle.booth_outcomes.specs.Texts.{unlocked_text, unprinted_text}
 
--- the output for a lock that was free, and for one that another process has
+-- The output for a lock that was free, and for a lock that another process has.
 abbrev pub status_text : Bool → List ℕ
 status_text true = codes "booth daemon is not running\n"
 status_text false = codes "booth daemon is running\n"
 
--- The one call for the lock, and the one print of its answer: Done exactly if another process has the lock, and
--- NotRunning exactly if it was free, and this was printed.
+-- The one call for the lock, and the one print of its answer. The outcome is Done exactly if another process has the
+-- lock and this was printed. It is NotRunning exactly if the lock was free and this was printed.
 abbrev pub IsStatus : List ℕ → Outcome → List ℕ → List Entry → Type 0
 IsStatus lock Done said entries = (said ≡ [])
     × (entries ≡ Lock lock (Ok false) ∷ Out (status_text false) (Ok tt) ∷ [])
@@ -25,7 +25,7 @@ IsStatus lock PrintFault said entries = (said ≡ unprinted_text) × (free : Boo
     × (entries ≡ Lock lock (Ok free) ∷ Out (status_text free) (Err failed) ∷ [])
 IsStatus lock outcome said entries = ⊥
 
--- the outcomes of `boothd status`
+-- The outcomes of `boothd status`.
 abbrev pub is_status_outcome : Outcome → Bool
 is_status_outcome Done = true
 is_status_outcome NotRunning = true
@@ -42,7 +42,7 @@ abbrev pub found : Bool → Outcome
 found true = NotRunning
 found false = Done
 
--- the print after the lock's answer
+-- The print after the lock's answer.
 abbrev pub IsPrinted : Bool → Outcome → List ℕ → List Entry → Type 0
 IsPrinted free PrintFault said entries = (said ≡ unprinted_text) × (failed : Failed)
     × (entries ≡ Out (status_text free) (Err failed) ∷ [])

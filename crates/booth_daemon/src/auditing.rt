@@ -104,7 +104,7 @@ fn print<H: Host>(alloc: Global, config: &Config, holdings: &[Holding], host: &m
     }
 }
 
-// Returns how an audit ends if the journals at these paths have this fault.
+// Returns the end of an audit whose journals at these paths have this fault.
 fn refuse(paths: &[PathText], fault: AuditFault) -> Ended
     ensures end { IsBadEnd paths.now fault result.outcome result.said }
     ensures outcome { IsAuditOutcome result.outcome }
@@ -133,7 +133,7 @@ fn conclude<H: Host>(alloc: Global, paths: &[PathText], files: &Files, host: &mu
     }
 }
 
-/// Makes the calls of the audit, up to the one that decides its outcome.
+/// Makes the calls of the audit, up to the call that decides its outcome.
 pub(crate) fn audit<H: Host>(alloc: Global, asked: &AuditWords, host: &mut H) -> Ended
     ensures past { GrewSome (IsAuditing asked.now result.outcome result.said) (H.past host.old) (H.past host.new) }
     ensures outcome { IsAuditOutcome result.outcome }

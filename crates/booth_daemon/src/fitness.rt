@@ -1,4 +1,4 @@
-//! Whether a configuration can be served: it must have this member.
+//! Whether a daemon can serve a configuration: the daemon must be one of its members.
 ghost use Rattle.std.specs.Prelude.{◌≡◌, ℕ, IfErr};
 ghost use Rattle.booth_conf.specs.Rules.{is_at};
 ghost use Rattle.booth_outcomes.specs.Outcomes.{HasBlame, IsServed};
@@ -20,7 +20,11 @@ fn has_member(config: &Config, address: &Address) -> bool
     config.members().iter().any(|member| is_at(address, member))
 }
 
-/// Accepts a configuration for a daemon at this address, or returns how the daemon ends.
+/// Accepts a configuration for a daemon at this address.
+///
+/// # Errors
+///
+/// Returns the end of the daemon if the configuration does not have its member.
 pub(crate) fn admit(config: &Config, address: &Address) -> Result<(), Ended>
     ensures admitted { IsAdmitted address.now config.now result }
     ensures served { IfErr result (λ ended. IsServed ended.outcome) }

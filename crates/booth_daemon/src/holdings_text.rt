@@ -9,7 +9,7 @@ use booth_conf::Config;
 use itoa::Buffer;
 use std::alloc::{AllocError, Global};
 
-/// The most bytes of a line.
+/// The maximal number of bytes in a line.
 const LINE_BYTES: usize = 200;
 
 fn put(line: &mut ArrayVec<u8, LINE_BYTES>, piece: &[u8])
@@ -49,7 +49,7 @@ fn site_at(config: &Config, place: u32) -> ArrayString<39>
     }
 }
 
-// Returns the ticket that was held, and the site.
+// Returns the text that names the ticket that was held, and the site.
 fn held_text(config: &Config, held: &Holding) -> ArrayVec<u8, LINE_BYTES>
     ensures bytes { result.items ≡ held_text config.now held.now }
     ensures len { length result.items ≤ 116 }

@@ -1,4 +1,4 @@
-//! What follows from the contracts, for all runs.
+//! Laws that follow from the contracts, for all runs.
 ghost use Rattle.booth_daemon.specs.Faultless.{FaultlessAudits, FaultlessRuns, FaultlessSimulations, FaultlessLooks};
 ghost use Rattle.booth_daemon.specs.Headline.{CutRunsAreSessions, DaemonsTurn, RunsAreSessions};
 
@@ -23,19 +23,19 @@ pub fn faultless_looks()
     ensures { FaultlessLooks }
 {}
 
-/// What a run of the daemon did after its opening, from its start on, is a session of a member: its start with the
-/// reading and the records that the opening read, and then the calls of its turns.
+/// The calls of a run of the daemon after its opening are a session of a member. Its start has the reading and the
+/// records that the opening read, and the calls of its turns follow.
 pub fn runs_are_sessions()
     ensures { RunsAreSessions }
 {}
 
-/// The same holds for what it did up to any call, if it is cut off after that call.
+/// The calls of a run of the daemon after its opening, cut off after any call, are a session of a member too.
 pub fn cut_runs_are_sessions()
     ensures { CutRunsAreSessions }
 {}
 
-/// Each run of a daemon that ends with Done or TurnsSpent made its whole opening and then turns, so it has such a
-/// session.
+/// Each run of a daemon that ends with Done or TurnsSpent made its whole opening and then turns, so these are a
+/// session of a member.
 pub fn daemons_turn()
     ensures { DaemonsTurn }
 {}

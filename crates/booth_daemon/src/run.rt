@@ -16,7 +16,7 @@ use booth_outcomes::{Ended, Outcome, tell, tell_error, texts};
 use booth_world::laws;
 use std::alloc::Global;
 
-// Makes the calls of a run, up to the one that decides its outcome.
+// Makes the calls of a run, up to the call that decides its outcome.
 fn run_words<H: Host>(alloc: Global, words: &[String], host: &mut H) -> Ended
     ensures past { GrewSome (IsMade (map string_bytes words.now) result.outcome result.said)
         (H.past host.old) (H.past host.new) }
@@ -44,24 +44,24 @@ fn run_words<H: Host>(alloc: Global, words: &[String], host: &mut H) -> Ended
 
 /// Runs `boothd` with these arguments, without the program's name, with this host.
 ///
-/// `daemon` reads the configuration and, if `authfile` is set, its key; takes the lock; opens its socket; reads the
-/// record of each ticket; and makes turns at the member's address until the host returns `Stop`, or for as many turns
-/// as the arguments say. `status` prints whether a daemon holds the lock. `sim` runs a whole cluster in memory
-/// through generated events, and prints the counts. `audit` reads the journals of members, and prints which member
-/// held which ticket when, or where the journals are not true. Help and version are printed. For all other arguments
-/// the program prints what is wrong with them.
+/// `daemon` reads the configuration and, if `authfile` is set, its key. It takes the lock, opens its socket, and
+/// reads the record of each ticket. Then it makes turns at the member's address until the host returns `Stop`, or as
+/// many turns as the arguments state. `status` prints whether a daemon holds the lock. `sim` runs a whole cluster in
+/// memory through generated events, and prints the counts. `audit` reads the journals of members. It prints which
+/// member held which ticket when, or where the journals are not true. Help and version are printed. For all other
+/// arguments the program prints what is wrong with them.
 #[tactic(auto, using(crate::proofs::RunLemmas::run_of, crate::proofs::SessionLemmas::safe_run))]
 pub fn boothd<H: Host>(alloc: Global, words: &[String], host: &mut H) -> Outcome
-    // If the host records its calls, they are exactly these, by how the run ended.
+    // If the host records its calls, the calls are exactly these, by how the run ended.
     ensures past { GrewSome (IsRun (map string_bytes words.now) result) (H.past host.old) (H.past host.new) }
 
-    // What its daemon did is a session of a member. In every world that has this session, no automatic ticket is held
-    // at two sites, and no written term falls; and a member that names itself as the holder is the holder, until the
-    // end that it names. If all sessions of such a world are of version 2, a later holder has a later term; and then
-    // leases are distinguished by their terms even in a world whose clocks only rise.
+    // The calls of its daemon are a session of a member. In every world that has this session, no automatic ticket is
+    // held at two sites, and no written term falls. A member that names itself as the holder is the holder, until the
+    // end that it names. If all sessions of such a world are of version 2, a later holder has a later term. Then the
+    // terms of leases distinguish them, even in a world whose clocks only rise.
     ensures worlds { GrewSome (IsSafe (map string_bytes words.now) result) (H.past host.old) (H.past host.new) }
 
-    // For every host.
+    // These clauses hold for every host, also for a host that records no calls.
     ensures words { FitsWords (map string_bytes words.now) result }
     ensures blame { HasBlame result (H.faults host.old) (H.faults host.new) }
     ensures later { H.faults host.old ≤ H.faults host.new }
@@ -76,7 +76,7 @@ pub fn boothd<H: Host>(alloc: Global, words: &[String], host: &mut H) -> Outcome
     ended.outcome
 }
 
-/// Runs `boothd` with a host that has no failures: no call returns a failure.
+/// Runs `boothd` with a host on which no call returns a failure.
 pub fn quiet_boothd(alloc: Global, words: &[String], host: &mut QuietHost) -> Outcome
     ensures past { GrewSome (IsRun (map string_bytes words.now) result) (quiet_past host.old)
         (quiet_past host.new) }

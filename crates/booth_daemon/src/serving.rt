@@ -14,15 +14,15 @@ use booth_node::{Node, Turn};
 use booth_outcomes::{Ended, ErrorLine, Outcome, texts};
 use std::alloc::Global;
 
-/// How a sequence of turns ended.
+/// The end of a sequence of turns.
 enum Ending {
     /// The last turn stopped.
     Stopped,
-    /// All turns were made, and none of them stopped.
+    /// All turns were made, and no turn stopped.
     Spent,
 }
 
-// Makes this many turns, or those up to the first that stops.
+// Makes this many turns, or fewer if a turn stops.
 fn make_turns<H: Host>(node: &mut Node, count: u64, host: &mut H) -> Ending
     ensures past { MatchEnding result
         (GrewSome (λ es. IsStoppedWithin (node_config node.old) (state_of node.old) count
@@ -40,7 +40,7 @@ fn make_turns<H: Host>(node: &mut Node, count: u64, host: &mut H) -> Ending
     Ending::Spent
 }
 
-// Returns how a daemon ends after all its turns.
+// Returns the end of a daemon after all its turns.
 fn spent(turns: Option<u64>) -> Ended
     ensures { AreSpent turns result.outcome result.said }
 {
@@ -56,7 +56,7 @@ fn spent(turns: Option<u64>) -> Ended
     }
 }
 
-// Makes the turns of a node, as many as the arguments say, and returns how the daemon ends with them.
+// Makes the turns of a node, as many as the arguments state. Returns the end of the daemon after them.
 fn run_node<H: Host>(node: &mut Node, turns: Option<u64>, host: &mut H) -> Ended
     ensures past { GrewSome (IsNodeRun (node_config node.old) turns (state_of node.old)
         (state_of node.new) result.outcome result.said) (H.past host.old) (H.past host.new) }
@@ -73,7 +73,7 @@ fn run_node<H: Host>(node: &mut Node, turns: Option<u64>, host: &mut H) -> Ended
     }
 }
 
-/// Makes the calls of the daemon, up to the one that decides its outcome.
+/// Makes the calls of the daemon, up to the call that decides its outcome.
 pub(crate) fn serve<H: Host>(alloc: Global, asked: &DaemonWords, host: &mut H) -> Ended
     ensures past { GrewSome (IsServing asked.now result.outcome result.said)
         (H.past host.old) (H.past host.new) }

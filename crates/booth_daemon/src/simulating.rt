@@ -23,7 +23,11 @@ const EXAMPLE: &[u8] =
     b"site=\"192.168.201.100\"\nsite=\"192.168.202.100\"\narbitrator=\"192.168.203.100\"\n\
     ticket=\"ticket-db8\"\n";
 
-// Returns the configuration of the example, which has no fault: only memory may be out.
+// Returns the configuration of the example.
+//
+// # Errors
+//
+// The example has no fault, so the only cause is that the memory has run out.
 fn example(alloc: Global) -> Result<Config, Ended>
     ensures config { IfOk result (λ config. Says example_text config) }
     ensures memory { IfErr result HasNoMemory }
@@ -81,7 +85,7 @@ fn run<H: Host>(alloc: Global, config: Config, asked: &SimulationWords, host: &m
     }
 }
 
-/// Makes the calls of the simulation, up to the one that decides its outcome.
+/// Makes the calls of the simulation, up to the call that decides its outcome.
 pub(crate) fn simulate<H: Host>(alloc: Global, asked: &SimulationWords, host: &mut H) -> Ended
     requires { asked.now.events ≤ MOST_EVENTS }
     ensures past { GrewSome (IsSimulated asked.now result.outcome result.said) (H.past host.old)

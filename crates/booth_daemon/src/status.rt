@@ -48,7 +48,7 @@ fn print<H: Host>(is_free: bool, host: &mut H) -> Ended
     }
 }
 
-/// Prints whether a daemon holds this lock. A lock that was free is released when the process ends.
+/// Prints whether a daemon holds this lock. If the lock was free, it is released when the process ends.
 pub(crate) fn status<H: Host>(lock: &PathText, host: &mut H) -> Ended
     ensures past { GrewSome (IsStatus lock.now result.outcome result.said) (H.past host.old)
         (H.past host.new) }

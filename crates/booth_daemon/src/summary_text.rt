@@ -6,7 +6,7 @@ use arrayvec::ArrayVec;
 use booth_sim::Summary;
 use itoa::Buffer;
 
-/// The most bytes of the text.
+/// The maximal number of bytes in the text.
 const SUMMARY_BYTES: usize = 300;
 
 // Appends a line with a name and a number.

@@ -1,5 +1,5 @@
--- A test of worlds: of their form, of five premises, and of the clock readings in them. A world that passes, with
--- members that begin free and clocks that are true, is a world.
+-- A test of worlds: of their form, of five premises, and of the clock readings in them. A world that passes is a
+-- world if its members begin free and its clocks are true.
 use Rattle.std.specs.Prelude.{ℕ, suc, Bool, true, false, not, ◌&&◌, ◌||◌, ◌==◌, nat_le, nat_lt, List, [], ◌∷◌, ◌++◌, Option, Some, None, Result, Ok, Err, bytes_eq}
 use Rattle.std.specs.List.{list_all, list_any, range_with_len}
 use Rattle.booth_auth.specs.Verdict.{verdict}
@@ -30,19 +30,19 @@ use Rattle.booth_examples.specs.Premises.{Premise, NothingHeld, SameMembers, Tru
 use Rattle.booth_examples.specs.Same.{same_id, same_list, same_member, same_option, same_record}
 use Rattle.booth_examples.specs.Sessions.{are_sessions}
 
--- each entry passes the test, with those before it
+-- Each entry passes the test, together with the entries before it.
 abbrev pub along : (List WorldEntry → WorldEntry → Bool) → List WorldEntry → List WorldEntry → Bool
 along test before [] = true
 along test before (entry ∷ entries) = test before entry && along test (before ++ entry ∷ []) entries
 
--- each ticket passes the test, with its place
+-- Each ticket passes the test, together with its place.
 abbrev pub each_ticket : (ℕ → TicketConf → Bool) → ℕ → List TicketConf → Bool
 each_ticket test place [] = true
 each_ticket test place (ticket ∷ tickets) = test place ticket && each_ticket test (suc place) tickets
 
 -- ---- the form
 
--- a configuration of these members and of one ticket
+-- The configuration of these members and of one ticket.
 abbrev pub config_of : List Member → TicketConf → ConfigSays
 config_of members ticket = record {
   port = 9929;
@@ -55,7 +55,7 @@ config_of members ticket = record {
   tickets = ticket ∷ [];
 }
 
--- the ticket with a one-letter name and short times
+-- A ticket with a one-letter name and short times.
 abbrev pub least_ticket : TicketConf
 least_ticket = record {
   name = 97 ∷ [];
@@ -117,7 +117,7 @@ sent_bytes (Makes (calls.Send to bytes answer)) = Some bytes
 sent_bytes (IsCut (CutSend to bytes)) = Some bytes
 sent_bytes what = None
 
--- the member with this id sent these bytes, by this entry
+-- The member with this id sent these bytes, by this entry.
 abbrev pub is_sent_by : World → MemberId → List ℕ → WorldEntry → Bool
 is_sent_by w from bytes entry =
     same_id (id_at w entry.member) from && same_option bytes_eq (sent_bytes entry.what) (Some bytes)
@@ -126,7 +126,7 @@ abbrev pub was_said : World → List WorldEntry → List ℕ → MemberId → Di
 was_said w before bytes from BetweenMembers = list_any (is_sent_by w from bytes) before
 was_said w before bytes from direction = true
 
--- if the bytes are accepted as a member's message, that member sent exactly these bytes
+-- If the bytes are accepted as a member's message, that member sent exactly these bytes.
 abbrev pub was_sent : World → List WorldEntry → List ℕ → Result PlainMessage DropFault → Bool
 was_sent w before bytes (Err fault) = true
 was_sent w before bytes (Ok message) = was_said w before bytes message.head.from (direction_of message.head.cmd)
@@ -136,7 +136,7 @@ hears_sent w before (Hearing node old (Ok (arrivals.Datagram from)) bytes) (Make
     was_sent w before bytes (verdict node.config node.ring node.me (used old.last_reading reading) bytes)
 hears_sent w before stand what = true
 
--- the state of a member after an entry, which may be another member's
+-- The state of a member after an entry, which may be another member's.
 abbrev pub stand_next : Bool → Stand → SessionEntry → Stand
 stand_next true stand what = after_entry stand what
 stand_next false stand what = stand
@@ -145,7 +145,7 @@ abbrev pub hears_if : Bool → World → List WorldEntry → Stand → SessionEn
 hears_if true w before stand what = hears_sent w before stand what
 hears_if false w before stand what = true
 
--- what this member received was sent, from its state after the entries before
+-- The messages that this member received were sent, from its state after the entries before.
 abbrev pub hears_along : World → ℕ → Stand → List WorldEntry → List WorldEntry → Bool
 hears_along w m stand before [] = true
 hears_along w m stand before (entry ∷ entries) =
@@ -175,13 +175,13 @@ members_speak w = each_member w (λ m. hears_along w m Down [] w.entries)
 abbrev pub one_daemon : World → Bool
 one_daemon w = each_member w (λ m. are_sessions Down (entries_of m w.entries))
 
--- the whole test
+-- The whole test of a world.
 abbrev pub is_world : World → Bool
 is_world w =
     has_form w && (same_members w && (reads_clocks w && (records_return w && (versions_rise w
     && (members_speak w && one_daemon w)))))
 
--- all sessions are of version 2
+-- All sessions of the world are of version 2.
 abbrev pub is_second_start : SessionEntry → Bool
 is_second_start (Starts node reading records) = node.second
 is_second_start what = true
@@ -201,8 +201,8 @@ same_premise MembersSpeak MembersSpeak = true
 same_premise OneDaemon OneDaemon = true
 same_premise a b = false
 
--- the part of the test for each premise: nothing about the records with which members begin, and about clocks only
--- their readings
+-- The part of the test for each premise. It tests nothing about the records with which members begin, and tests only
+-- the readings of clocks.
 abbrev pub is_met : World → Premise → Bool
 is_met w NothingHeld = true
 is_met w SameMembers = same_members w
@@ -232,7 +232,7 @@ abbrev pub is_past : World → Record → ℕ → Promise → Bool
 is_past w kept reading promise =
     is_member_id w promise.to && (nat_le promise.term kept.term && nat_le kept.abstain reading)
 
--- a record holds nothing if its member's clock first reads this
+-- A record holds nothing if its member's clock first reads this.
 abbrev pub holds_nothing : World → ℕ → ℕ → Record → Bool
 holds_nothing w m reading kept =
     each (λ lease. is_over lease reading) kept.lease

@@ -24,7 +24,7 @@ is_sound c =
 
 -- ---- messages
 
--- the number fits into four bytes
+-- The number fits into four bytes.
 abbrev pub is_short : ℕ → Bool
 is_short n = nat_lt n (2 ^ 32)
 

@@ -13,7 +13,7 @@ use Rattle.booth_examples.specs.Same.{same_bool, same_times}
 
 -- ---- the ticket
 
--- a ticket with the same name has the same kind and times
+-- A ticket with the same name has the same kind and times.
 abbrev pub is_alike : TicketConf → TicketConf → Bool
 is_alike ticket own =
     not (bytes_eq own.name ticket.name)
@@ -33,7 +33,7 @@ is_automatic w ticket = is_one_ticket w ticket && not ticket.manual
 
 -- ---- the moment
 
--- the entries up to a true time, and the others
+-- The entries up to a true time, and the other entries.
 abbrev pub up_to : ℕ → List WorldEntry → List WorldEntry
 up_to time [] = []
 up_to time (entry ∷ entries) = if nat_le entry.time time then entry ∷ up_to time entries else []
@@ -48,7 +48,7 @@ abbrev pub lasts : Option Lease → ℕ → Bool
 lasts None reading = false
 lasts (Some lease) reading = nat_lt reading lease.until
 
--- the records that a member may have written for the ticket at this true time
+-- The records that a member may have written for the ticket at this true time.
 abbrev pub may_then : World → TicketConf → ℕ → ℕ → List Record
 may_then w ticket m time =
     may_be_kept ticket.name (begins_with w m ticket.name) (entries_of m (up_to time w.entries))
@@ -59,7 +59,7 @@ holds_then w ticket m time =
     nat_lt m (members_of w)
     && list_any (λ kept. lasts kept.lease (clock_at w m time)) (may_then w ticket m time)
 
--- at this true time the member holds the automatic ticket
+-- At this true time the member holds the automatic ticket.
 abbrev pub holds_at : World → TicketConf → ℕ → ℕ → Bool
 holds_at w ticket m time =
     is_automatic w ticket && (nat_lt time w.span && holds_then w ticket m time)

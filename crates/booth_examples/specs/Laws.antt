@@ -1,4 +1,4 @@
--- What passes a test has the property.
+-- Laws of the tests: a world that passes a test has the tested property.
 use Rattle.std.specs.Prelude.{◌≡◌, ◌≢◌, ℕ, ◌<◌, true, List, length}
 use Rattle.booth_conf.specs.declared.tickets.TicketConf.{TicketConf}
 use Rattle.booth_rec.specs.declared.record.Record.{Record}
@@ -8,7 +8,7 @@ use Rattle.booth_examples.specs.Checks.{is_world, is_world_but, is_second_world,
 use Rattle.booth_examples.specs.Holding.{holds_at, two_hold_at}
 use Rattle.booth_examples.specs.Premises.{Premise, NothingHeld, TrueClocks, IsWorldBut, HoldsAt, TwoHold}
 
--- each member has a clock that drifts within the bounds
+-- Each member has a clock that drifts within the bounds.
 pub record HasGoodClocks (w : World) : Type 0 where
   pub ticking : 0 < w.ticks
   pub some : 0 < w.span
@@ -18,14 +18,15 @@ pub record HasGoodClocks (w : World) : Type 0 where
 abbrev pub CheckedWorldsAreWorlds : Type 0
 CheckedWorldsAreWorlds = (w : World) → BeginsFree w → HasGoodClocks w → is_world w ≡ true → IsWorld w
 
--- for a world that lacks one premise: the clocks and the beginnings, which the test leaves out, are premises unless
--- they are the one that is missing
+-- The test of a world that lacks one premise. The test leaves out the clocks and the beginnings, so these are
+-- premises of the law, unless they are the missing premise.
 abbrev pub CheckedWorldsLackOne : Type 0
 CheckedWorldsLackOne =
     (w : World) (broken : Premise) → (NothingHeld ≢ broken → BeginsFree w) → (TrueClocks ≢ broken → HasGoodClocks w)
     → is_world_but broken w ≡ true → IsWorldBut broken w
 
--- if a member begins with one record for each ticket, and the record holds nothing, the member begins free
+-- If each member begins with the same record for all of its tickets, and this record holds nothing, then every member
+-- begins free.
 abbrev pub CheckedBeginningsAreFree : Type 0
 CheckedBeginningsAreFree =
     (w : World) (kept : ℕ → Record) → ((m : ℕ) (name : List ℕ) → begins_with w m name ≡ kept m)

@@ -1,4 +1,4 @@
--- A world with a key, a ticket with a handler and a manual ticket, in which devices fail and calls of each kind are
+-- A world with a key, a ticket with a handler and a manual ticket. In it devices fail, and calls of each kind are
 -- interrupted.
 use Rattle.std.specs.Prelude.{◌∷◌, ℕ, [], List, ◌++◌, codes, true, pos, Option, Some, None, Result, Ok, Err}
 use Rattle.booth_base.specs.declared.address.MemberId.{MemberId}
@@ -26,7 +26,7 @@ use Rattle.booth_examples.specs.VersionExamples.{promised}
 
 -- ---- a configuration, and a key
 
--- the ticket web with a handler, and a manual ticket
+-- The ticket web with a handler, and a manual ticket.
 abbrev pub web_by_handler : TicketConf
 web_by_handler = record web { handler = Some (codes "/h") }
 
@@ -41,13 +41,13 @@ key = codes "sixteen letters."
 
 -- ---- entries
 
--- a member starts with the key, in version 2, with its records of both tickets
+-- A member starts with the key, in version 2, with its records of both tickets.
 abbrev pub begins : Member → ℕ → Option Record → Option Record → SessionEntry
 begins member reading of_web of_hand =
     Starts (record { config = config_of_both; ring = Some (alone key); me = member.id; second = true }) reading
     (of_web ∷ of_hand ∷ [])
 
--- the message's bytes, with its MAC
+-- The message's bytes, with its MAC.
 abbrev pub signed : PlainMessage → List ℕ
 signed message =
     sealed (Some (alone key)) (record { head = record message.head { auth = true }; content = message.content })
@@ -70,7 +70,7 @@ fails_to_send to message = Makes (calls.Send to (signed message) (Err failed))
 abbrev pub is_cut_signing : Peer → PlainMessage → SessionEntry
 is_cut_signing to message = IsCut (CutSend to (signed message))
 
--- the handler of web is started for site one, under a job number, with the end of its lease or 0
+-- The handler of web is started for site one, under a job number, with the end of its lease or 0.
 abbrev pub starts_handler : ℕ → ℕ → Result (Unit {0}) Failed → SessionEntry
 starts_handler number expires answer =
     Makes (calls.Start number (codes "web") (codes "/h") site_one.address expires answer)
@@ -87,18 +87,18 @@ about_hand message leader number seconds = record {
 abbrev pub grant_by_hand : PlainMessage
 grant_by_hand = about_hand (says (record { 0 = 0 }) 0 CGnt 2 0 0 NO_ONE 0 0) NO_ONE 0 0
 
--- a site asks for the state of the ticket, and reports what it knows itself
+-- A site asks for the state of the ticket, and reports what it knows itself.
 abbrev pub asks_of_hand : Member → ℕ → MemberId → ℕ → ℕ → PlainMessage
 asks_of_hand site reading leader number seconds =
     about_hand (says site.id reading Stat 0 0 0 NO_ONE 0 0) leader number seconds
 
 -- ---- records
 
--- the lease of the ticket hand has no end
+-- The record of the ticket hand, whose lease has no end.
 abbrev pub kept_by_hand : Record
 kept_by_hand = plain 1 (Some (record { term = 1; until = NO_END }))
 
--- of term 1, with a vote for site one, which promised itself until a reading
+-- A record of term 1 with a vote for site one, which promised itself until a reading.
 abbrev pub asked_by_one : ℕ → Record
 asked_by_one until = promised 1 site_one until 27114
 
@@ -107,9 +107,9 @@ leased_to_one until = record (asked_by_one until) { lease = Some (record { term 
 
 -- ---- events
 
--- All members start. Site one gets a request for web, and cannot start its handler; it cannot tell the client either,
--- and is interrupted while it greets the others. It starts again and is interrupted while it waits; and again, its
--- wait fails, and it is interrupted while it reads its clock.
+-- All members start. Site one gets a request for web, and cannot start its handler. It cannot inform the client
+-- either, and is interrupted while it greets the others. It starts again and is interrupted while it waits. It starts
+-- once more, its wait fails, and it is interrupted while it reads its clock.
 abbrev pub it_fails_and_is_cut : List WorldEntry
 it_fails_and_is_cut =
     at 0 0 (begins site_one 0 None None)
@@ -128,8 +128,8 @@ it_fails_and_is_cut =
     ∷ at 7250 0 (IsCut CutNow)
     ∷ []
 
--- It is granted the ticket hand, and starts from that record. It gets a request for web, and is interrupted while it
--- starts the handler.
+-- Site one is granted the ticket hand, and starts from that record. It gets a request for web, and is interrupted
+-- while it starts the handler.
 abbrev pub it_is_granted_by_hand : List WorldEntry
 it_is_granted_by_hand =
     at 7300 0 (begins site_one 7300 None None)
@@ -148,8 +148,8 @@ it_is_granted_by_hand =
     })))
     ∷ []
 
--- After one more request it starts its handler, and when the handler has ended it requests votes. The request to site
--- two is not sent.
+-- After one more request site one starts its handler. When the handler has ended, it requests votes. The request to
+-- site two is not sent.
 abbrev pub its_handler_runs : List WorldEntry
 its_handler_runs =
     at 21100 0 (begins site_one 21100 None (Some kept_by_hand))
@@ -166,8 +166,8 @@ its_handler_runs =
     ∷ at 28102 0 (sends_signed (port_of arbitrator) (asks_votes site_one 1 28100))
     ∷ []
 
--- The arbitrator votes for it. The vote reaches site two as well, and site one, which may hold from then on: its
--- write comes, and fails.
+-- The arbitrator votes for site one. The vote reaches site two as well as site one. Site one may hold from then on:
+-- it tries its write, and the write fails.
 abbrev pub its_keep_fails : List WorldEntry
 its_keep_fails =
     at 28110 2 (hears_signed (port_of site_one) (asks_votes site_one 1 28100))
@@ -181,8 +181,8 @@ its_keep_fails =
     ∷ at 28125 0 (Makes (calls.Keep (codes "web") (leased_to_one 34114) (Err failed)))
     ∷ []
 
--- It greets the others and must renew: its handler says that the service can run, and it is interrupted while it
--- writes its promise. It starts from that record.
+-- Site one greets the others and must renew. Its handler reports that the service can run, and it is interrupted
+-- while it writes its promise. It starts from that record.
 abbrev pub its_keep_is_cut : List WorldEntry
 its_keep_is_cut =
     at 33100 0 (comes (Ok arrivals.Quiet))

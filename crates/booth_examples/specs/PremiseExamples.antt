@@ -1,4 +1,4 @@
--- For each premise a world that meets the others, and in which two members hold at one moment.
+-- For each premise, a world that meets the other premises and in which two members hold at the same moment.
 use Rattle.std.specs.Prelude.{◌≡◌, ◌≢◌, ◌<◌, ℕ, zero, suc, ◌*◌, List, [], ◌∷◌, ◌++◌, length, map, false, Some, None}
 use Rattle.std.specs.List.{range_with_len}
 use Rattle.booth_conf.specs.declared.members.Member.{Member}
@@ -9,7 +9,7 @@ use Rattle.booth_examples.specs.WorldExamples.{site_one, site_two, arbitrator, a
 
 -- ---- without 'records return'
 
--- two sites start, and each reads the record of a lease that it never wrote
+-- Two sites start, and each reads the record of a lease that it never wrote.
 abbrev pub with_foreign_records : World
 with_foreign_records = world_with two_sites (
     at 0 0 (starts two_sites site_one 0 (Some (lease 1 6000)))
@@ -61,14 +61,14 @@ with_a_lost_record = world_with three_members (
 
 -- ---- without 'nothing held'
 
--- each of two sites begins with a record of a lease in force, and starts from it
+-- Each of two sites begins with a record of a lease in force, and starts from it.
 abbrev pub with_leases_at_first : World
 with_leases_at_first =
     record with_foreign_records { begins = λ m. record { second = false; records = λ name. lease 1 6000 } }
 
 -- ---- without 'members speak'
 
--- Both sites get a request from a client, and open a round. No member votes, but each gets a forged vote of the
+-- Both sites get a request from a client, and open a round. No member votes, but each site gets a forged vote of the
 -- other.
 abbrev pub with_forged_votes : World
 with_forged_votes = world_with two_sites (
@@ -97,7 +97,7 @@ with_forged_votes = world_with two_sites (
 abbrev pub other_alone : List Member
 other_alone = site_two ∷ []
 
--- by its own configuration each of two sites is alone, so it needs no other vote
+-- By its own configuration each of two sites is alone, so it needs no other vote.
 abbrev pub with_two_configurations : World
 with_two_configurations = world_with two_sites (
     at 0 0 (starts alone site_one 0 None)
@@ -114,11 +114,11 @@ with_two_configurations = world_with two_sites (
 
 -- ---- without 'true clocks'
 
--- a clock at twice the rate of true time
+-- The readings of a clock that runs at twice the rate of true time.
 abbrev pub double_clock : List ℕ
 double_clock = map (λ time. 2 * time) (range_with_len 0 60000)
 
--- it is site two's
+-- The clocks of the members: site two has the fast one.
 abbrev pub one_is_fast : ℕ → List ℕ
 one_is_fast zero = exact_clock
 one_is_fast (suc zero) = double_clock
@@ -159,7 +159,7 @@ with_a_fast_clock = world_by one_is_fast three_members (
     ∷ at 10120 1 (keeps (lease 2 26200))
     ∷ [])
 
--- the clock of each other member is true, and all readings are those of the clocks
+-- The clock of each other member is true, and all readings are readings of the clocks.
 pub record AreTrueBut (broken : ℕ) (w : World) : Type 0 where
   pub long : (m : ℕ) → m < members_of w → length (w.clock m) ≡ w.span
   pub clocks : (m : ℕ) → m < members_of w → m ≢ broken → IsClock w.ticks (w.clock m)
@@ -167,7 +167,7 @@ pub record AreTrueBut (broken : ℕ) (w : World) : Type 0 where
 
 -- ---- without 'one daemon'
 
--- two daemons of the arbitrator start, and neither knows what the other answered
+-- Two daemons of the arbitrator start, and neither knows what the other answered.
 abbrev pub daemon_starts : SessionEntry
 daemon_starts = starts three_members arbitrator 0 None
 
@@ -187,13 +187,13 @@ votes_for_two =
     ∷ sends (port_of site_two) (votes arbitrator site_two 1 8010)
     ∷ []
 
--- the entries of this member are those of two daemons, each of which alone does what a daemon does
+-- The entries of this member are the entries of two daemons. Each daemon alone does what a daemon does.
 pub record HasTwoDaemons (w : World) (m : ℕ) (start : SessionEntry) (first second : List SessionEntry) : Type 0 where
   pub entries : entries_of m w.entries ≡ start ∷ start ∷ first ++ second
   pub first_alone : AreSessions Down (start ∷ first)
   pub second_alone : AreSessions Down (start ∷ second)
 
--- each daemon votes for another site, in the same term
+-- Each daemon votes for another site, in the same term.
 abbrev pub with_two_daemons : World
 with_two_daemons = world_with three_members (
     at 0 0 (starts three_members site_one 0 None)

@@ -1,4 +1,4 @@
--- The seven premises of a world, by name, and what it means that one is needed.
+-- The seven premises of a world, by name, and the meaning of a premise being needed.
 use Rattle.std.specs.Prelude.{◌≡◌, ◌≢◌, ℕ, ◌<◌}
 use Rattle.booth_conf.specs.declared.tickets.TicketConf.{TicketConf}
 use Rattle.booth_node.specs.Session.{Down, AreSessions}
@@ -14,7 +14,7 @@ pub data Premise : Type 0 where
   MembersSpeak : Premise
   OneDaemon : Premise
 
--- the world meets the premise
+-- The world meets the premise.
 abbrev pub Meets : World → Premise → Type 0
 Meets w NothingHeld = BeginsFree w
 Meets w SameMembers = AtEach w (λ before entry. HasConfiguration w entry entry.what)
@@ -24,11 +24,11 @@ Meets w VersionsRise = AtEach w (λ before entry. StaysSecond w before entry ent
 Meets w MembersSpeak = AtEach w (λ before entry. HearsSent w before (stand_after entry.member before) entry.what)
 Meets w OneDaemon = (m : ℕ) → m < members_of w → AreSessions Down (entries_of m w.entries)
 
--- a world that lacks this premise: it has the form of a world, and meets each other premise
+-- A world that lacks this premise. It has the form of a world, and meets each other premise.
 abbrev pub IsWorldBut : Premise → World → Type 0
 IsWorldBut broken w = HasForm w × ((premise : Premise) → premise ≢ broken → Meets w premise)
 
--- at one moment two members hold an automatic ticket
+-- At the same moment two members hold an automatic ticket.
 pub record TwoHold (w : World) : Type 0 where
   pub ticket : TicketConf
   pub automatic : IsAutomatic w ticket
@@ -39,13 +39,13 @@ pub record TwoHold (w : World) : Type 0 where
   pub first_holds : Holds w ticket first moment
   pub second_holds : Holds w ticket second moment
 
--- at a moment of this true time a member holds an automatic ticket
+-- At a moment with this true time a member holds an automatic ticket.
 pub record HoldsAt (w : World) (ticket : TicketConf) (member time : ℕ) : Type 0 where
   pub automatic : IsAutomatic w ticket
   pub moment : Moment w
   pub at : moment.time ≡ time
   pub holds : Holds w ticket member moment
 
--- if two members hold, the missing premise is not met
+-- If two members hold, the missing premise is not met.
 abbrev pub PremisesAreNeeded : Type 0
 PremisesAreNeeded = (w : World) (broken : Premise) → IsWorldBut broken w → TwoHold w → Meets w broken → ⊥

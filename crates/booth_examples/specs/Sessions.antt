@@ -10,7 +10,7 @@ use Rattle.booth_node.specs.Session.{SessionEntry, Starts, Makes, IsCut, CutCall
 use Rattle.booth_examples.specs.Fitting.{fits}
 use Rattle.booth_examples.specs.Same.{same_peer, same_record, same_job}
 
--- the call is the requested one, with any answer
+-- The call is the requested one, with any answer.
 abbrev pub is_done : Option Ring → Ask → Entry → Bool
 is_done ring (Send peer message) (calls.Send to bytes answer) =
     same_peer to peer && (bytes_eq bytes (sealed ring message) && fits message)

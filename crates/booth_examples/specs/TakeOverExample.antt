@@ -1,10 +1,11 @@
--- A world of three members, in which the holder crashes in the middle of a write, and another takes the ticket over.
+-- A world of three members, in which the holder crashes in the middle of a write, and another member takes over the
+-- ticket.
 use Rattle.std.specs.Prelude.{List, [], ◌∷◌, ◌++◌, Some, None}
 use Rattle.booth_node.specs.World.{World, WorldEntry}
 use Rattle.booth_examples.specs.WorldExamples.{site_one, site_two, arbitrator, three_members, world_with, at, starts, hears, reads, keeps, sends, is_cut_keeping, is_cut_sending, term, lease, client, port_of, grant_it, revoke_it, asks_votes, votes, is_open, tells_lease, asks_state}
 
 -- All members start without a record, and site one gets a request for the ticket. Site two votes for it, and site one
--- has its lease.
+-- gets its lease.
 abbrev pub it_is_granted : List WorldEntry
 it_is_granted =
     at 0 0 (starts three_members site_one 0 None)
@@ -28,7 +29,8 @@ it_is_granted =
     ∷ at 7022 0 (sends (port_of arbitrator) (tells_lease site_one 1 7020 6))
     ∷ []
 
--- A client requests a revocation. Site one crashes while it writes that, and starts again: it still has the lease.
+-- A client requests a revocation. Site one crashes while it writes the release, and starts again: it still has the
+-- lease.
 abbrev pub its_holder_crashes : List WorldEntry
 its_holder_crashes =
     at 8000 0 (hears client revoke_it)
@@ -38,7 +40,7 @@ its_holder_crashes =
     ∷ []
 
 -- When the lease and site two's promise have ended, site two gets a request for the ticket. The arbitrator votes for
--- it. Site two has the lease, and crashes while it tells site one, which gets the message all the same.
+-- it. Site two gets the lease, and crashes while it informs site one, which gets the message all the same.
 abbrev pub another_takes_it_over : List WorldEntry
 another_takes_it_over =
     at 20000 1 (hears client grant_it)

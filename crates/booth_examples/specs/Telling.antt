@@ -5,8 +5,8 @@ use Rattle.booth_node.specs.Held.{Moment, IsAutomatic}
 use Rattle.booth_node.specs.World.{World, WorldEntry}
 use Rattle.booth_world.specs.Tellers.{Claim, IsLive, IsNext, Tells}
 
--- At a moment of this true time the next entry is one of the member that names it as the holder of an automatic
--- ticket. The claim has not ended at what the member's clock reads then.
+-- At a moment with this true time, the next entry is one by which the member names itself as the holder of an
+-- automatic ticket. The claim has not ended at the time that the member's clock reads then.
 pub record TellsAt (w : World) (ticket : TicketConf) (member time : ℕ) (claim : Claim) : Type 0 where
   pub automatic : IsAutomatic w ticket
   pub moment : Moment w

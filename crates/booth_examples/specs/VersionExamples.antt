@@ -1,5 +1,6 @@
--- Worlds of sessions of both versions: promises are kept through a crash; two hold where a clock runs too fast, by
--- leases of two terms; and two hold where a member of version 2 goes back to version 1.
+-- Worlds with sessions of both versions. In one, promises are kept through a crash. In one, a clock runs too fast and
+-- two members hold, by leases of two terms. In one, a member of version 2 goes back to version 1 and two members
+-- hold.
 use Rattle.std.specs.Prelude.{ℕ, true, List, [], ◌∷◌, ◌++◌, Option, Some, None}
 use Rattle.booth_conf.specs.declared.members.Member.{Member}
 use Rattle.booth_rec.specs.declared.record.Record.{Record}
@@ -9,14 +10,13 @@ use Rattle.booth_node.specs.World.{World, WorldEntry}
 use Rattle.booth_examples.specs.PremiseExamples.{one_is_fast}
 use Rattle.booth_examples.specs.WorldExamples.{site_one, site_two, arbitrator, config_with, three_members, world_by, world_with, at, starts, hears, reads, keeps, sends, term, lease, client, port_of, grant_it, asks_votes, votes, is_open, asks_state}
 
--- a member starts in version 2
+-- A member starts in version 2.
 abbrev pub starts_again : Member → ℕ → Option Record → SessionEntry
 starts_again member reading kept =
     Starts (record { config = config_with three_members; ring = None; me = member.id; second = true }) reading
     (kept ∷ [])
 
--- the record of a term, without a lease, of a member that promised to a site until a reading, and abstained until
--- another
+-- The record of a term, without a lease. Its member promised a site until a reading, and abstained until another.
 abbrev pub promised : ℕ → Member → ℕ → ℕ → Record
 promised number site until abstain = record (plain number None) {
   bound = Some site.id;
@@ -26,7 +26,8 @@ promised number site until abstain = record (plain number None) {
 
 -- ---- promises are kept
 
--- All start in version 1. Site one is asked for the ticket, site two votes for it, and it has its lease.
+-- All members start in version 1. Site one is asked for the ticket, site two votes for it, and site one gets its
+-- lease.
 abbrev pub granted_before : List WorldEntry
 granted_before =
     at 0 0 (starts three_members site_one 0 None)
@@ -48,17 +49,17 @@ granted_before =
     ∷ at 7021 0 (keeps (lease 1 13000))
     ∷ []
 
--- Site one and the arbitrator start in version 2: the one from the record of its lease, the other without a record, so
--- it answers nobody for a whole promise.
+-- Site one and the arbitrator start in version 2. Site one starts from the record of its lease. The arbitrator starts
+-- without a record, so it answers no round for a whole promise.
 abbrev pub begins_to_keep : List WorldEntry
 begins_to_keep =
     at 8000 0 (starts_again site_one 8000 (Some (lease 1 13000)))
     ∷ at 8001 2 (starts_again arbitrator 8001 None)
     ∷ []
 
--- Later site two, still in version 1, asks for votes in the next term. The arbitrator keeps its promise, and crashes
--- before it answers. It starts from that record, hears the same message again, and answers at once. Site two has its
--- lease.
+-- Later site two, still in version 1, requests votes in the next term. The arbitrator writes its promise, and crashes
+-- before it answers. It starts from that record, receives the same message again, and answers at once. Site two gets
+-- its lease.
 abbrev pub answers_at_once : List WorldEntry
 answers_at_once =
     at 20000 1 (hears client grant_it)
@@ -85,13 +86,13 @@ promises_kept = world_with three_members (granted_before ++ begins_to_keep ++ an
 
 -- ---- in version 2 alone
 
--- the record of a lease of a site that promised itself, and abstained for a whole promise after its start
+-- The record of a lease. Its site promised itself, and abstained for a whole promise after its start.
 abbrev pub leased : ℕ → Member → ℕ → ℕ → Record
 leased number site promise until =
     record (promised number site promise 6014) { lease = Some (record { term = number; until = until }) }
 
--- Site one is asked for the ticket, and site two votes for it. When that lease is over site two is asked, and the
--- arbitrator votes for it. Each keeps its promise first, also that to itself.
+-- Site one is asked for the ticket, and site two votes for it. When that lease is over, site two is asked, and the
+-- arbitrator votes for it. Each member writes its promise first, also a promise to itself.
 abbrev pub one_after_another : World
 one_after_another = world_with three_members (
     at 0 0 (starts_again site_one 0 None)
@@ -129,8 +130,8 @@ one_after_another = world_with three_members (
 
 -- ---- in version 2 alone, with a clock that is not true
 
--- Site two votes for site one, but by its own clock, which runs twice as fast, its promise is over in half the time.
--- Then it is asked for the ticket, and the arbitrator votes for it. Both hold, by leases of two terms.
+-- Site two votes for site one, but its own clock runs twice as fast, so its promise is over in half the time. Then it
+-- is asked for the ticket, and the arbitrator votes for it. Both sites hold, by leases of two terms.
 abbrev pub fast_in_second : World
 fast_in_second = world_by one_is_fast three_members (
     at 0 0 (starts_again site_one 0 None)
@@ -168,8 +169,8 @@ fast_in_second = world_by one_is_fast three_members (
 
 -- ---- without 'versions rise'
 
--- The arbitrator keeps a promise in version 2, and later starts in version 1 from that record. It votes for site one,
--- and keeps nothing. It starts once more from the same record, and at once votes for site two in the same term.
+-- The arbitrator writes a promise in version 2, and later starts in version 1 from that record. It votes for site
+-- one, and writes nothing. It starts once more from the same record, and at once votes for site two in the same term.
 abbrev pub with_a_falling_version : World
 with_a_falling_version = world_with three_members (
     at 0 0 (starts three_members site_one 0 None)

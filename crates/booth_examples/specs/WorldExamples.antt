@@ -24,7 +24,7 @@ use Rattle.booth_node.specs.World.{World, WorldEntry, from_nothing}
 
 -- ---- a configuration
 
--- 192.0.2.1, 192.0.2.2 and 192.0.2.3, and the CRC-32 of each of these addresses
+-- The members 192.0.2.1, 192.0.2.2 and 192.0.2.3. The id of each is the CRC-32 of its address.
 abbrev pub site_one : Member
 site_one = record { site = true; address = V4 (192 ∷ 0 ∷ 2 ∷ 1 ∷ []); id = record { 0 = 305685262 } }
 
@@ -34,7 +34,7 @@ site_two = record { site = true; address = V4 (192 ∷ 0 ∷ 2 ∷ 2 ∷ []); id
 abbrev pub arbitrator : Member
 arbitrator = record { site = false; address = V4 (192 ∷ 0 ∷ 2 ∷ 3 ∷ []); id = record { 0 = 4231397922 } }
 
--- a lease of six seconds, which is the shortest that a configuration allows
+-- A ticket with a lease of six seconds, the shortest that a configuration allows.
 abbrev pub web : TicketConf
 web = record {
   name = codes "web";
@@ -65,11 +65,11 @@ config_with members = record {
 
 -- ---- clocks and worlds
 
--- a minute of an exact clock
+-- The readings of an exact clock for a minute.
 abbrev pub exact_clock : List ℕ
 exact_clock = range_with_len 0 60000
 
--- these members, without keys, and clocks of a minute
+-- The world of these members, without keys, with clocks of a minute.
 abbrev pub world_by : (ℕ → List ℕ) → List Member → List WorldEntry → World
 world_by clock members entries = record {
   members = members;
@@ -85,16 +85,16 @@ world_with = world_by (λ m. exact_clock)
 
 -- ---- entries
 
--- the member at a place does this at a true time
+-- The member at a place does this at a true time.
 abbrev pub at : ℕ → ℕ → SessionEntry → WorldEntry
 at time place what = record { member = place; time = time; what = what }
 
--- a member starts in version 1, with one record or none
+-- A member starts in version 1, with one record or none.
 abbrev pub starts : List Member → Member → ℕ → Option Record → SessionEntry
 starts members member reading kept =
     Starts (record { config = config_with members; ring = None; me = member.id; second = false }) reading (kept ∷ [])
 
--- a turn begins with a datagram, and then the clock is read
+-- A turn begins with a datagram, and then the clock is read.
 abbrev pub hears : Peer → PlainMessage → SessionEntry
 hears from message = Makes (calls.Next 100 (Ok (arrivals.Datagram from)) (sealed None message))
 
@@ -107,15 +107,15 @@ keeps kept = Makes (calls.Keep (codes "web") kept (Ok tt))
 abbrev pub sends : Peer → PlainMessage → SessionEntry
 sends to message = Makes (calls.Send to (sealed None message) (Ok tt))
 
--- the member is interrupted while it writes
+-- The member is interrupted while it writes.
 abbrev pub is_cut_keeping : Record → SessionEntry
 is_cut_keeping tried = IsCut (CutKeep (codes "web") tried)
 
--- the member is interrupted while it sends: the datagram may be on its way
+-- The member is interrupted while it sends: the datagram may be on its way.
 abbrev pub is_cut_sending : Peer → PlainMessage → SessionEntry
 is_cut_sending to message = IsCut (CutSend to (sealed None message))
 
--- the record of a term without a lease, and that of a lease
+-- The record of a term without a lease, and the record of a lease.
 abbrev pub term : ℕ → Record
 term number = first_plain number None
 
@@ -130,8 +130,8 @@ client = record { address = V4 (198 ∷ 51 ∷ 100 ∷ 7 ∷ []); port = 40000 }
 abbrev pub port_of : Member → Peer
 port_of member = record { address = member.address; port = 9929 }
 
--- the content of a message about the ticket: the sender, the time by its own clock, a request number, a reason, a
--- result, a leader and a term
+-- A message about the ticket: the sender, the time by its own clock, a request number, a reason, a result, a leader
+-- and a term.
 abbrev pub says : MemberId → ℕ → Cmd → ℕ → ℕ → ℕ → MemberId → ℕ → ℕ → PlainMessage
 says from reading cmd request reason result leader number seconds = record {
   head = record {
@@ -148,7 +148,7 @@ says from reading cmd request reason result leader number seconds = record {
   content = Ticket (record { ticket = codes "web"; leader = leader; term = number; valid_for = seconds });
 }
 
--- a client requests a grant of the ticket, or a revocation
+-- A client requests a grant of the ticket, or a revocation.
 abbrev pub grant_it : PlainMessage
 grant_it = says (record { 0 = 0 }) 0 CGnt 1 0 0 NO_ONE 0 0
 
@@ -157,23 +157,23 @@ revoke_it = says (record { 0 = 0 }) 0 CRvk 2 0 0 NO_ONE 0 0
 
 -- ---- messages of members
 
--- a site requests votes in a term, at this reading
+-- A site requests votes in a term, at this reading.
 abbrev pub asks_votes : Member → ℕ → ℕ → PlainMessage
 asks_votes site number reading = says site.id reading RVot 0 ADMN 0 site.id number 0
 
--- a member votes for a site
+-- A member votes for a site.
 abbrev pub votes : Member → Member → ℕ → ℕ → PlainMessage
 votes member site number reading = says member.id reading VtFr 0 0 0 site.id number 0
 
--- a site announces its lease, with this many seconds left; and a member that knows of no holder asks for the state of
--- a ticket
+-- A site announces its lease, with this many seconds left. A member that knows of no holder asks for the state of a
+-- ticket.
 abbrev pub tells_lease : Member → ℕ → ℕ → ℕ → PlainMessage
 tells_lease site number reading seconds = says site.id reading UpdE 0 0 0 site.id number seconds
 
 abbrev pub asks_state : Member → ℕ → ℕ → PlainMessage
 asks_state member number reading = says member.id reading Stat 0 0 0 NO_ONE number 0
 
--- a client is informed that the round is open
+-- A client is informed that the round is open.
 abbrev pub is_open : Member → ℕ → ℕ → PlainMessage
 is_open site number reading = says site.id reading RGnt 1 0 ASYN NO_ONE number 0
 
@@ -182,8 +182,9 @@ is_open site number reading = says site.id reading RGnt 1 0 ASYN NO_ONE number 0
 abbrev pub alone : List Member
 alone = site_one ∷ []
 
--- it begins with the record of a lease that has ended, and starts from it; when it may answer itself, a client sends
--- a request, and it writes the next term beside that lease, and then a lease of that term
+-- The member begins with the record of a lease that has ended, and starts from it. When it may answer itself, a
+-- client sends a request. The member writes the next term with that lease in the record, and then a lease of that
+-- term.
 abbrev pub one_goes_on : World
 one_goes_on = record (world_with alone (
     at 0 0 (starts alone site_one 0 (Some (lease 7 0)))
@@ -193,8 +194,8 @@ one_goes_on = record (world_with alone (
     ∷ at 7002 0 (keeps (lease 8 13000))
     ∷ [])) { begins = λ m. record { second = false; records = λ name. lease 7 0 } }
 
--- it starts without a record; when it may answer itself, a client sends a request, and it writes a term, and then a
--- lease
+-- The member starts without a record. When it may answer itself, a client sends a request. The member writes a term,
+-- and then a lease.
 abbrev pub one_holds : World
 one_holds = world_with alone (
     at 0 0 (starts alone site_one 0 None)

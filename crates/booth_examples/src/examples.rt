@@ -1,5 +1,5 @@
-//! Small worlds, each the contract of a function that does nothing: they show that the laws are not empty, and need
-//! each premise.
+//! Small worlds that show that the laws are not empty, and that they need each premise. Each is the contract of a
+//! function that does nothing.
 ghost use Rattle.std.specs.Prelude.{ℕ, ◌<◌};
 ghost use Rattle.booth_world.specs.Shadows.{HasShadow};
 ghost use Rattle.booth_node.specs.Held.{Moment};
@@ -44,8 +44,8 @@ pub fn forged_votes_give_leases()
     ensures two_hold { TwoHold with_forged_votes }
 {}
 
-/// A ticket is granted, its holder crashes in the middle of a write and starts again, and when the lease has ended
-/// another member takes the ticket over. Each announces its lease to the other site, with six seconds left.
+/// A ticket is granted, its holder crashes in the middle of a write and starts again. When the lease has ended,
+/// another member takes over the ticket. Each holder announces its lease to the other site, with six seconds left.
 pub fn ticket_is_taken_over()
     ensures world { IsWorld taken_over }
     ensures first { HoldsAt taken_over web 0 12999 }
@@ -55,7 +55,7 @@ pub fn ticket_is_taken_over()
     ensures shadows { (moment : Moment taken_over) → HasShadow taken_over web moment }
 {}
 
-/// Without the premise that all have one configuration: by its own configuration each of two sites is alone.
+/// Without the premise that all members have one configuration: by its own configuration each of two sites is alone.
 pub fn two_configurations_give_leases()
     ensures others { IsWorldBut SameMembers with_two_configurations }
     ensures two_hold { TwoHold with_two_configurations }
@@ -69,8 +69,8 @@ pub fn fast_clock_gives_a_lease()
     ensures two_hold { TwoHold with_a_fast_clock }
 {}
 
-/// The same in version 2 alone. It is an untimed world, whose clocks only rise, and leases in it are distinguished by
-/// their terms.
+/// In version 2 alone, the clock of a site that voted runs twice as fast. This is an untimed world, whose clocks only
+/// rise, and the terms of its leases distinguish them.
 pub fn fast_clock_gives_a_lease_of_its_term()
     ensures untimed { IsUntimedWorld fast_in_second }
     ensures second { IsSecondWorld fast_in_second }
@@ -86,15 +86,16 @@ pub fn two_daemons_vote_twice()
     ensures two_hold { TwoHold with_two_daemons }
 {}
 
-/// A site holds in version 1, and it and an arbitrator start in version 2. The arbitrator promises another site,
-/// crashes after its write, starts from that record and answers at once, and that site holds the ticket.
+/// A site holds in version 1, and then this site and an arbitrator start in version 2. The arbitrator promises
+/// another site, crashes after its write, starts from that record and answers at once. The other site then holds the
+/// ticket.
 pub fn promises_are_kept()
     ensures world { IsWorld promises_kept }
     ensures first { HoldsAt promises_kept web 0 12999 }
     ensures second { HoldsAt promises_kept web 1 25999 }
 {}
 
-/// In version 2 alone a site holds, and when its lease has ended another one does.
+/// In version 2 alone a site holds, and when its lease has ended another site holds.
 pub fn second_holder_follows()
     ensures world { IsWorld one_after_another }
     ensures second { IsSecondWorld one_after_another }
@@ -102,10 +103,10 @@ pub fn second_holder_follows()
     ensures then_holds { HoldsAt one_after_another web 1 25999 }
 {}
 
-/// With a key, a ticket with a handler and a manual ticket, a send, a `next`, a write and a start of a handler fail,
-/// and calls of each kind are interrupted. A vote reaches another member as well. A site holds by a write without a
-/// result yet, by the same write when it failed, and by an interrupted one. Its handler is told the second in which
-/// its lease ends.
+/// A world has a key, a ticket with a handler and a manual ticket. In it a send, a `next`, a write and a start of a
+/// handler fail, and calls of each kind are interrupted. A vote reaches another member as well. A site holds by a
+/// write without a result yet, by the same write after it failed, and by an interrupted write. The site's handler runs
+/// with the time at which the lease ends, in whole seconds.
 pub fn many_kinds_happen()
     ensures world { IsWorld of_many_kinds }
     ensures second { IsSecondWorld of_many_kinds }
@@ -115,8 +116,8 @@ pub fn many_kinds_happen()
     ensures handler { TellsAt of_many_kinds web_by_handler 0 33101 (EndsIn 34) }
 {}
 
-/// Without the premise that versions rise: an arbitrator goes back from version 2 to version 1, and
-/// from one record of version 2 votes for two sites in one term.
+/// Without the premise that versions rise: an arbitrator goes back from version 2 to version 1. From one record of
+/// version 2 it votes for two sites in one term.
 pub fn falling_version_gives_leases()
     ensures others { IsWorldBut VersionsRise with_a_falling_version }
     ensures two_hold { TwoHold with_a_falling_version }

@@ -1,8 +1,8 @@
-//! What passes a test has the property, as contracts of functions that do nothing.
+//! Laws of the tests, as contracts of functions that do nothing: a world that passes a test has the tested property.
 ghost use Rattle.booth_examples.specs.Laws.{CheckedWorldsAreWorlds, CheckedWorldsLackOne, CheckedBeginningsAreFree, CheckedSecondWorlds, CheckedHoldersHold, CheckedTwoHold};
 
-/// A world that passes the test is a world, if its members begin free and its clocks are good; and so for a world
-/// that lacks one premise, and for a world of version 2.
+/// A world that passes the test is a world, if its members begin free and its clocks are good. The same holds for a
+/// world that lacks one premise, and for a world of version 2.
 pub fn checked_worlds_are_worlds()
     ensures whole { CheckedWorldsAreWorlds }
     ensures but_one { CheckedWorldsLackOne }

@@ -1,4 +1,4 @@
-//! Example worlds, which a test shows to be worlds: no clock runs here, and no message is sent.
+//! Example worlds, which a test shows to be worlds. No clock runs here, and no message is sent.
 #![tactic(auto)]
 
 pub mod examples;

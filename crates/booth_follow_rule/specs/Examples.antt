@@ -1,4 +1,4 @@
--- Stories that were worked out by hand: what comes before each reading, and what is done.
+-- Stories that were worked out by hand: the events before each reading, and the action after it.
 use Rattle.std.specs.Prelude.{◌≡◌, ℕ, List, [], ◌∷◌, map, Option, Some, None}
 use Rattle.booth_follow_rule.specs.declared.margins.Margins.{Margins}
 use Rattle.booth_follow_rule.specs.declared.news.News.{News}
@@ -22,16 +22,17 @@ short_times = record { margin = 5000; kill = 2500; pause = 5000 }
 abbrev pub row : ℕ → News → FollowDeed → Row
 row reading heard deed = record { at = record { reading = reading; heard = heard }; deed = deed }
 
--- the deeds of a story are those of the rule, for a follower with these times to which an earlier one left such an end
+-- the actions of a story are the actions of the rule, for a follower with these times if an earlier follower left this
+-- end
 abbrev pub IsFollowedBy : Margins → Option ℕ → List Row → Type 0
 IsFollowedBy m left rows = follow_deeds m left (map (λ r. r.at) rows) ≡ map (λ r. r.deed) rows
 
 abbrev pub IsFollowed : Option ℕ → List Row → Type 0
 IsFollowed left rows = IsFollowedBy times left rows
 
--- A service through a whole life of a ticket: what an earlier follower left is stopped; an end is armed, and it is
--- started; its lease is renewed and then not, and it is killed; it is started again, until another site is shown, and
--- the end is asked for.
+-- A service through a whole life of a ticket: the follower stops what an earlier one left; it arms an end, and starts
+-- the service; it renews the lease and then cannot, and kills the service; it starts it again, until a list shows
+-- another site, and the follower is asked to end.
 abbrev pub a_whole_life : List Row
 a_whole_life =
     row 1000 n.Nothing (deeds.Run Stop 1 0)
@@ -59,9 +60,9 @@ a_whole_life =
     ∷ row 99100 (n.List (Here 300000)) deeds.Nothing
     ∷ []
 
--- What fails: a stop that fails is followed by a kill, and a kill that fails by another after a pause; a renewal that
--- fails is made again 0.9 seconds after it was made; a start that fails is cleared up, and made again behind a renewal;
--- where readings stood still for too long there is no time to stop.
+-- Failures: a stop that fails is followed by a kill, and a kill that fails by another after a pause; a renewal that
+-- fails is run again 0.9 seconds after it was run; a start that fails is cleaned up, and tried again after a renewal;
+-- if readings stood still for too long, there is no time to stop.
 abbrev pub what_fails : List Row
 what_fails =
     row 1000 n.Nothing (deeds.Run Stop 1 0)
@@ -87,8 +88,8 @@ what_fails =
     ∷ row 56300 n.Nothing deeds.Leave
     ∷ []
 
--- No start: a stop that does not end is followed by a kill; a lease, or an armed end, that has no more than the margin
--- left starts nothing; nor does an end of a run that is none of the last.
+-- No start: a stop that does not end is followed by a kill; a lease, or an armed end, with no more than the margin
+-- left starts nothing; nor does the end of a run that is not among the last.
 abbrev pub no_start : List Row
 no_start =
     row 1000 n.Nothing (deeds.Run Stop 1 0)
@@ -105,8 +106,9 @@ no_start =
     ∷ row 24100 (n.End 4 Done) (deeds.Run Start 5 50000)
     ∷ []
 
--- A renewal that fails leaves the end before in force, as one that runs on does; that one is made again after a pause.
--- The service is stopped in time for the end before; a renewal that is done while it stops gives the stop more time.
+-- If a renewal fails or is still running, the earlier end stays in force. A renewal that is still running is run again
+-- after a pause. The service is stopped in time for the end before; a renewal that succeeds while it stops gives the
+-- stop more time.
 abbrev pub a_renewal_fails : List Row
 a_renewal_fails =
     row 1000 n.Nothing (deeds.Run Stop 1 0)
@@ -129,8 +131,9 @@ a_renewal_fails =
     ∷ row 56000 (n.End 7 Done) deeds.Nothing
     ∷ []
 
--- A lease of 20 seconds that is renewed each 10 seconds. A renewal that fails is made again 0.9 seconds after it was
--- made, or at once where it took longer to fail. So the service, whose end would have it stopped at 21000, runs on.
+-- A lease of 20 seconds that is renewed every 10 seconds. A renewal that fails is run again 0.9 seconds after it was
+-- run, or at once if it took longer to fail. So the service, which would have been stopped at 21000 for its end,
+-- keeps running.
 abbrev pub a_short_lease : List Row
 a_short_lease =
     row 1000 n.Nothing (deeds.Run Stop 1 0)
@@ -153,8 +156,8 @@ a_short_lease =
     ∷ row 41000 n.Nothing (deeds.Run Stop 8 46000)
     ∷ []
 
--- No renewal of such a lease is done: one is made each 0.9 seconds, the service is stopped in time for the end before,
--- and it is started again behind one that is done.
+-- While no renewal of such a lease succeeds, one is run every 0.9 seconds, and the service is stopped in time for the
+-- earlier end. It is started again after a renewal that succeeds.
 abbrev pub no_renewal_is_done : List Row
 no_renewal_is_done =
     row 1000 n.Nothing (deeds.Run Stop 1 0)
@@ -182,7 +185,7 @@ no_renewal_is_done =
     ∷ row 27100 (n.End 10 Done) (deeds.Run Start 11 36000)
     ∷ []
 
--- A stop has longer where the lease is renewed meanwhile, as when the end was asked for.
+-- A stop has more time if the lease is renewed meanwhile, for example when the follower is asked to end.
 abbrev pub a_stop_has_longer : List Row
 a_stop_has_longer =
     row 1000 n.Nothing (deeds.Run Stop 1 0)
@@ -198,8 +201,8 @@ a_stop_has_longer =
     ∷ row 85002 n.Nothing deeds.Leave
     ∷ []
 
--- A service that an earlier follower left with an end is taken over, if it runs: it goes on beyond that end where a
--- list tells a later one.
+-- A service that an earlier follower left with an end is taken over if it runs: it continues beyond that end if a list
+-- has a later one.
 abbrev pub taken_over : List Row
 taken_over =
     row 1000 n.Nothing (deeds.Run Check 1 60000)
@@ -211,7 +214,7 @@ taken_over =
     ∷ row 70000 n.Nothing (deeds.Run Stop 3 90000)
     ∷ []
 
--- If it does not run, it is stopped, and started where a list then shows this site.
+-- If it does not run, it is stopped, and started when a list shows this site.
 abbrev pub not_running : List Row
 not_running =
     row 1000 n.Nothing (deeds.Run Check 1 60000)
@@ -222,7 +225,7 @@ not_running =
     ∷ row 8100 (n.End 3 Done) (deeds.Run Start 4 60000)
     ∷ []
 
--- Without an answer the service that was taken over is stopped the margin before the end that was left.
+-- No answer arrives. The service that was taken over is stopped one margin before the end that was left.
 abbrev pub nobody_answers : List Row
 nobody_answers =
     row 1000 n.Nothing (deeds.Run Check 1 60000)
@@ -233,7 +236,7 @@ nobody_answers =
     ∷ row 55000 n.Nothing (deeds.Run Kill 3 60000)
     ∷ []
 
--- Where a list shows another site, it is stopped, whether or not the check is done.
+-- If a list shows another site, the service is stopped, whether or not the check is done.
 abbrev pub shown_elsewhere : List Row
 shown_elsewhere =
     row 1000 n.Nothing (deeds.Run Check 1 60000)
@@ -241,14 +244,14 @@ shown_elsewhere =
     ∷ row 1100 (n.End 2 Done) deeds.Nothing
     ∷ []
 
--- A follower that begins within the margin of that end stops the service.
+-- A follower that starts within the margin of that end stops the service.
 abbrev pub begun_late : List Row
 begun_late =
     row 40000 n.Nothing (deeds.Run Stop 1 60000)
     ∷ row 55000 n.Nothing (deeds.Run Kill 2 60000)
     ∷ []
 
--- One that begins within the time of a kill kills it.
+-- A follower that starts within the time of a kill before that end kills the service.
 abbrev pub begun_too_late : List Row
 begun_too_late =
     row 55000 n.Nothing (deeds.Run Kill 1 60000)
@@ -256,7 +259,7 @@ begun_too_late =
     ∷ row 56000 n.Stop deeds.Leave
     ∷ []
 
--- All these stories are followed.
+-- The rule follows all these stories.
 pub record StoriesAreFollowed : Type 0 where
   pub a_whole_life_is : IsFollowed None a_whole_life
   pub what_fails_is : IsFollowed None what_fails

@@ -1,4 +1,4 @@
--- What is known after some moments and the deeds that followed them, whoever did them: no stage is in it.
+-- What is known after some moments and the actions that followed them, by whatever rule: it contains no stage.
 use Rattle.std.specs.Prelude.{ℕ, Bool, true, false, ◌==◌, max, List, [], ◌∷◌, Option, Some, None, if◌then◌else◌}
 use Rattle.booth_follow_rule.specs.declared.margins.Margins.{Margins}
 use Rattle.booth_follow_rule.specs.declared.news.News.{News}
@@ -13,22 +13,24 @@ use Rattle.booth_follow_rule.specs.declared.state.Word.{Word}
 use Rattle.booth_follow_rule.specs.declared.state.Word.TheVariants.{Check, Renew, Start, Stop, Kill}
 use Rattle.booth_follow_rule.specs.Rule.{Moment, follow_step, opening, state_after}
 
--- a moment, and the deed that followed it
+-- a moment, and the action that followed it
 pub record Row : Type 0 where
   pub at : Moment
   pub deed : FollowDeed
 
--- The service was started or taken over, and no stop or kill was done since; or one was, and no start was made since.
+-- The service was started or taken over, and no stop or kill has succeeded since; or one has, and no start was made
+-- since.
 pub data Service : Type 0 where
   Unknown : Service
   Started : Service
   Over : Service
 
--- What the last list since the service was over shows, with the end that the last list of this site told; the armed
--- end, which the last renewal that was done told, or 0 where the service was over since, and the latest of those; the
--- last renewal that is not done, and whether it failed; whether the end was asked for; what the program was run for
--- last but for renewals, and that run's number; the number of the last run; the service, and the reading at which it
--- was over; the reading of the first of the kills that were made last; the last reading; whether the follower left.
+-- What the last list since the service ended shows, with the end in the last list that named this site; the armed
+-- end, which is that of the last renewal that succeeded, or 0 if the service ended since, and the latest of those;
+-- the last renewal that has not succeeded, and whether it failed; whether the follower was asked to end; the last
+-- word for which the program was run except renewals, and the number of that run; the number of the last run; the
+-- service, and the reading at which it ended; the reading of the first of the last kills; the last reading; whether
+-- the follower has left.
 pub record Known : Type 0 where
   pub here : Bool
   pub end : ℕ
@@ -45,7 +47,7 @@ pub record Known : Type 0 where
   pub seen : ℕ
   pub left : Bool
 
--- What is known at first. An end that an earlier follower left counts as told and armed.
+-- What is known at first. An end that an earlier follower left counts as received and armed.
 abbrev pub nothing_known : Known
 nothing_known = record {
   here = false;
@@ -68,15 +70,15 @@ abbrev pub known_first : Option ℕ → Known
 known_first None = nothing_known
 known_first (Some end) = record nothing_known { here = true; end = end; armed = end; latest = end }
 
--- ---- what news tell
+-- ---- the effect of news
 
--- a renewal is done: its end is armed
+-- a renewal succeeded: its end is armed
 abbrev pub told_armed : Known → ℕ → Option Renewal → Known
 told_armed k run (Some r) =
     if run == r.run then record k { armed = r.end; latest = max k.latest r.end; renewal = None } else k
 told_armed k run None = k
 
--- the service is over
+-- the service has ended
 abbrev pub told_over : Known → ℕ → Known
 told_over k reading = record k { here = false; armed = 0; renewal = None; service = Over; over_at = reading }
 
@@ -85,14 +87,14 @@ abbrev pub told_failed : Known → ℕ → Option Renewal → Known
 told_failed k run (Some r) = if run == r.run then record k { renewal = Some (record r { failed = true }) } else k
 told_failed k run None = k
 
--- the last run was done: where it was a stop or a kill, the service is over
+-- the last run succeeded: if it was a stop or a kill, the service has ended
 abbrev pub told_done : Known → ℕ → Service → Option Word → Known
 told_done k reading Over last = k
 told_done k reading service (Some Stop) = told_over k reading
 told_done k reading service (Some Kill) = told_over k reading
 told_done k reading service last = k
 
--- a run was done, once its renewal is known
+-- a run succeeded, and `told_armed` has already noted its renewal
 abbrev pub told_ended : Known → ℕ → ℕ → Known
 told_ended k reading run = if run == k.run then told_done k reading k.service k.last else k
 
@@ -104,9 +106,9 @@ told k reading (news.End run Failed) = told_failed k run k.renewal
 told k reading news.Stop = record k { asked = true }
 told k reading news.Nothing = k
 
--- ---- what deeds do
+-- ---- the effect of actions
 
--- a kill after a kill that did not help is of the same kills
+-- a kill after a kill that did not help belongs to the same kills
 abbrev pub killed_from : Option Word → ℕ → ℕ → ℕ
 killed_from (Some Kill) before reading = before
 killed_from last before reading = reading
@@ -135,7 +137,7 @@ done_at k reading deeds.Nothing = record k { seen = reading }
 
 -- ---- rows
 
--- what is known at a row before its deed, and after it
+-- what is known at a row before its action, and after it
 abbrev pub known_at : Known → Row → Known
 known_at k row = told k row.at.reading row.at.heard
 
@@ -147,11 +149,11 @@ abbrev pub AllRows : (Known → Row → Type 0) → Known → List Row → Type 
 AllRows P k [] = Unit {0}
 AllRows P k (row ∷ rows) = P k row × AllRows P (known_after k row) rows
 
--- the rows of a follower that stands so
+-- the rows of a follower in this state
 unfoldable pub rows_from : Margins → State → List Moment → List Row
 rows_from m s [] = []
 rows_from m s (p ∷ ps) = record { at = p; deed = (follow_step m s p).deed } ∷ rows_from m (state_after m s p) ps
 
--- all rows of a follower to which an earlier one left such an end
+-- all rows of a follower whose predecessor left this end
 abbrev pub rows_of : Margins → Option ℕ → List Moment → List Row
 rows_of m left moments = rows_from m (opening left) moments

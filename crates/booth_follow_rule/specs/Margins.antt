@@ -5,22 +5,22 @@ use Rattle.booth_follow_rule.specs.declared.margins.MarginFault.{MarginFault}
 use Rattle.booth_follow_rule.specs.declared.margins.MarginFault.TheVariants.{MarginTooLong, KillTooLong, KillTooShort}
 use Rattle.booth_follow_rule.specs.declared.margins.Margins.{Margins}
 
--- The times that are asked for. The default of the margin is half of what is left of a lease at its renewal, and that
--- of the kill half of the margin.
+-- The times in the arguments. The default margin is half of the time that a lease has left at its renewal. The default
+-- time of a kill is half of the margin.
 abbrev pub margins_with : ℕ → Option ℕ → Margins
 margins_with margin kill = record { margin = margin; kill = unwrap_or kill (margin / 2); pause = PAUSE }
 
 abbrev pub margins_of : ℕ → ℕ → Option ℕ → Option ℕ → Margins
 margins_of expire renewal margin kill = margins_with (unwrap_or margin ((expire - renewal) / 2)) kill
 
--- A lease that is renewed has more than the margin left until the next renewal is over; a stop has time before the
--- kill, and the kill has time.
+-- A renewed lease has more than the margin left until the next renewal has ended; a stop has time before the kill,
+-- and the kill has time.
 pub record Fits (expire renewal : ℕ) (m : Margins) : Type 0 where
   pub renewed : m.margin + SLACK + renewal ≤ expire
   pub stop : m.kill < m.margin
   pub kill : LEAST_KILL ≤ m.kill
 
--- the first of these that is not so
+-- the first of these that does not hold
 abbrev pub HasFault : ℕ → ℕ → Margins → MarginFault → Type 0
 HasFault expire renewal m MarginTooLong = expire < m.margin + SLACK + renewal
 HasFault expire renewal m KillTooLong = (m.margin + SLACK + renewal ≤ expire) × (m.margin ≤ m.kill)

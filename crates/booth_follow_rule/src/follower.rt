@@ -1,4 +1,4 @@
-//! A follower as its caller sees it: begun once, and then told each moment.
+//! A follower as its caller sees it: started once, and then given each moment.
 ghost use Rattle.std.specs.Prelude.{◌≡◌};
 ghost use Rattle.booth_follow_rule.specs.Rule.{follow_step, opening, state_after};
 
@@ -7,7 +7,7 @@ use crate::news::News;
 use crate::state::{FollowDeed, Stage, State};
 use crate::steps::{end_of, hears, step_at};
 
-/// A follower of one ticket. No call takes memory.
+/// A follower of one ticket. No call allocates memory.
 #[derive(Clone, Copy)]
 pub struct Follower {
     margins: Margins,
@@ -15,8 +15,8 @@ pub struct Follower {
 }
 
 impl Follower {
-    /// A follower that has heard nothing. If an earlier one left the service running until an end, in milliseconds, it
-    /// holds to that.
+    /// Returns a follower before any news. If an earlier one left the service running until an end, in milliseconds,
+    /// it keeps to that end.
     pub fn new(margins: Margins, left: Option<u64>) -> Follower
         ensures { result ≡ (record { margins = margins; state = opening left }) }
     {
@@ -39,16 +39,16 @@ impl Follower {
         }
     }
 
-    /// What it knows, and where it stands.
+    /// Returns what it knows, and its stage.
     pub fn state(&self) -> State
         ensures { result ≡ self.now.state }
     {
         self.state
     }
 
-    /// What is to be done at this reading, before which this was heard.
+    /// Returns the action at this reading, after this news.
     ///
-    /// What is to be run is run at once. Where it cannot be, that is told as an end of that run which failed.
+    /// The caller runs the program at once. If it cannot, it reports a failed end of that run.
     pub fn step(&mut self, reading: u64, news: News) -> FollowDeed
         ensures deed { result
             ≡ (follow_step self.old.margins self.old.state (record { reading = reading; heard = news })).deed }

@@ -1,24 +1,24 @@
-//! What holds of the deeds of every follower, whatever it is told.
+//! What holds for the actions of every follower, whatever its news are.
 ghost use Rattle.booth_follow_rule.specs.Examples.{StoriesAreFollowed};
 ghost use Rattle.booth_follow_rule.specs.Laws.{DeedsAreLet, KnowsWhatIsHeard, RenewalsAreApart, RenewalsAreTold, ServesBelowAnEnd, ServesInTime, StartsAreHeld};
 
-/// Each deed is let by what is known before it, and where one is due it is not left out.
+/// Each action is allowed by what is known before it, and an action that is due is not left out.
 pub fn deeds_are_let()
     ensures { DeedsAreLet }
 {}
 
-/// Between a start, or the check by which it was taken over, and the end of its stop or kill the clock is below an
-/// armed end.
+/// From a start of a service, or from the check by which it was taken over, to the end of its stop or kill, the clock
+/// is below an armed end.
 pub fn serves_in_time()
     ensures { ServesInTime }
 {}
 
-/// The stories that were worked out by hand are followed.
+/// The rule follows the stories that were worked out by hand.
 pub fn stories_are_followed()
     ensures { StoriesAreFollowed }
 {}
 
-/// What is known of lists is what the last of them shows.
+/// Only the last list determines what is known from lists.
 pub fn knows_what_is_heard()
     ensures { KnowsWhatIsHeard }
 {}
@@ -28,19 +28,19 @@ pub fn starts_are_held()
     ensures { StartsAreHeld }
 {}
 
-/// Each end that a renewal tells is the one that the last list shows for this site.
+/// The end of each renewal is the one in the last list that shows this site.
 pub fn renewals_are_told()
     ensures { RenewalsAreTold }
 {}
 
-/// Two renewals with none between them are 0.9 s apart, or a pause where that is less, unless a run was done between
-/// them.
+/// Two renewals without another between them are 0.9 s apart, or a pause if that is less, unless a run succeeded
+/// between them.
 pub fn renewals_are_apart()
     ensures { RenewalsAreApart }
 {}
 
-/// While the service is started, and a gap longer, the clock is below an end that a list told and that was armed, or
-/// that an earlier follower left, as far as the outside is prompt.
+/// While the service is started, and for a gap longer, the clock is below an armed end from a list, or one that an
+/// earlier follower left, as far as the environment is prompt.
 pub fn serves_below_an_end()
     ensures { ServesBelowAnEnd }
 {}

@@ -10,13 +10,13 @@ const SLACK: u64 = 2_000;
 /// The shortest time of a kill, in milliseconds.
 const LEAST_KILL: u64 = 1_000;
 
-/// How long a service that was stopped is left so, and a renewal that runs on, in milliseconds.
+/// How long a stopped service stays stopped, and how long a renewal may run before it is run again, in milliseconds.
 const PAUSE: u64 = 5_000;
 
-/// How long after it was run a renewal that failed is run again, in milliseconds.
+/// The time from a run that failed to renew to the next such run, in milliseconds.
 ///
-/// It is less than the second after which a list is asked for again. The failure of a run that cannot be begun is told
-/// in place of what arrives next, and with that very second this would be each list.
+/// It is less than the second between two requests for a list. The failure of a run that cannot be started takes the
+/// place of the next news, and with exactly a second this would be each list.
 pub(crate) const RETRY: u64 = 900;
 
 /// The times of a follower, in milliseconds.
@@ -24,9 +24,9 @@ pub(crate) const RETRY: u64 = 900;
 pub struct Margins {
     /// How long before the end of the lease the service is stopped.
     pub margin: u64,
-    /// How long before that end it is killed, where it has not stopped.
+    /// How long before that end it is killed, if it has not stopped.
     pub kill: u64,
-    /// How long a service that was stopped is left so, and a renewal that runs on.
+    /// How long a stopped service stays stopped, and how long a renewal may run before it is run again.
     pub pause: u64,
 }
 
@@ -41,7 +41,7 @@ pub enum MarginFault {
     KillTooShort,
 }
 
-// Whether a lease that is renewed so often runs out a margin before the next renewal.
+// Returns whether a lease with this time between renewals runs out a margin before the next renewal.
 fn is_too_long(expire: u64, renewal: u64, margin: u64) -> bool
     ensures { MatchBool result (expire < margin + SLACK + renewal) (margin + SLACK + renewal ≤ expire) }
 {
@@ -50,8 +50,12 @@ fn is_too_long(expire: u64, renewal: u64, margin: u64) -> bool
 }
 
 impl Margins {
-    /// The times for a ticket with this `expire` and this time between two renewals. Where they are not given, the
-    /// margin is half of what is left of a lease at its renewal, and the time of a kill half of the margin.
+    /// Returns the times for a ticket with this `expire` and this time between two renewals. If they are not given,
+    /// the margin is half of what is left of a lease at its renewal, and the time of a kill half of the margin.
+    ///
+    /// # Errors
+    ///
+    /// The first of the faults that applies.
     pub fn choose(
         expire: u64,
         renewal: u64,

@@ -1,30 +1,30 @@
-//! What a follower is told.
+//! The news of a follower.
 
 /// What an authentic list of this site's daemon shows of the ticket.
 #[derive(Clone, Copy)]
 pub enum Shown {
-    /// This site holds it, until this reading in milliseconds.
+    /// This site holds it, until this clock reading in milliseconds.
     Here { until: u64 },
-    /// Another site holds it, or nobody.
+    /// Another site holds it, or none does.
     Elsewhere,
 }
 
 /// How a run of the program ended.
 #[derive(Clone, Copy)]
 pub enum RunEnd {
-    /// With status 0: what it was run for is done.
+    /// With status 0: its word was carried out.
     Done,
-    /// With another status, or it could not be run.
+    /// With another status, or it could not be started.
     Failed,
 }
 
-/// What came before a reading.
+/// The news before a reading.
 #[derive(Clone, Copy)]
 pub enum News {
     Nothing,
     List(Shown),
-    /// The run of this number ended.
+    /// The run with this number ended.
     End { run: u64, how: RunEnd },
-    /// The end was asked for.
+    /// The follower was asked to end.
     Stop,
 }

@@ -1,4 +1,4 @@
-//! What follows a reading at each stage.
+//! The action at a reading, by the stage.
 ghost use Rattle.std.specs.Prelude.{◌≡◌, MatchBool, ◌<◌, ◌≤◌, ◌+◌};
 ghost use Rattle.booth_follow_rule.specs.Rule.{after, arms, end_of, ends_service, goes_on, has_failed, has_passed, hears, is_held, is_kept, is_renewable, is_rested, kills_on, leaves, leaves_more, may_renew, moved, next_number, no_deed, not_renewed, opens, renewed, renews, rests, runs, starts, step_at, stops_first, wait_of, while_down, while_killing, while_stopping, while_up};
 
@@ -6,16 +6,16 @@ use crate::margins::{Margins, RETRY};
 use crate::news::{News, RunEnd, Shown};
 use crate::state::{FollowDeed, Renewal, Stage, State, Word};
 
-/// What is done, and what the follower then knows.
+/// An action, and what the follower knows after it.
 #[derive(Clone, Copy)]
 pub(crate) struct Step {
     pub deed: FollowDeed,
     pub state: State,
 }
 
-// ---- what is heard
+// ---- news
 
-// Where a follower stands that had this end armed.
+// Returns the stage after an end was armed.
 fn moved(stage: Stage, end: u64) -> Stage
     ensures { result ≡ moved stage end }
 {
@@ -99,7 +99,7 @@ fn ends(state: State, run: u64, how: RunEnd) -> State
     }
 }
 
-/// What is known once this was heard.
+/// Returns what is known after these news.
 pub(crate) fn hears(state: State, news: News) -> State
     ensures { result ≡ hears state news }
 {
@@ -114,7 +114,7 @@ pub(crate) fn hears(state: State, news: News) -> State
     }
 }
 
-/// How the run of this number ended, where that came.
+/// Returns how the run with this number ended, if it did.
 pub(crate) fn end_of(number: u64, news: News) -> Option<RunEnd>
     ensures { result ≡ end_of number news }
 {
@@ -124,7 +124,7 @@ pub(crate) fn end_of(number: u64, news: News) -> Option<RunEnd>
     }
 }
 
-// ---- what is done
+// ---- actions
 
 fn no_deed(state: State, stage: Stage) -> Step
     ensures { result ≡ no_deed state stage }
@@ -214,7 +214,7 @@ fn rests(reading: u64, state: State) -> Step
     }
 }
 
-// Whether more than this time is left.
+// Returns whether an end is more than this time away.
 fn leaves_more(time: u64, reading: u64, end: u64) -> bool
     ensures { result ≡ leaves_more time reading end }
 {
@@ -230,7 +230,7 @@ fn after(reading: u64, time: u64) -> u64
     reading.saturating_add(time)
 }
 
-// The service is stopped, or killed where there is no time to stop.
+// Stops the service, or kills it if there is no time to stop.
 fn ends_service(margins: &Margins, reading: u64, state: State) -> Step
     ensures { result ≡ ends_service margins.now reading state }
 {
@@ -253,7 +253,7 @@ fn is_kept(margins: &Margins, reading: u64, state: State) -> bool
     is_held(margins, reading, state) && leaves_more(margins.margin, reading, state.armed)
 }
 
-// Whether so much time has passed since a reading.
+// Returns whether this much time has passed since a reading.
 fn has_passed(time: u64, since: u64, reading: u64) -> bool
     ensures { result ≡ has_passed time since reading }
 {
@@ -269,7 +269,7 @@ fn is_rested(margins: &Margins, since: u64, reading: u64) -> bool
     has_passed(margins.pause, since, reading)
 }
 
-// How long after a renewal was run the next one may be.
+// Returns how long after a renewal was run the next one may be run.
 fn wait_of(margins: &Margins, renewal: Renewal) -> u64
     ensures { result ≡ wait_of margins.now renewal }
 {
@@ -425,7 +425,7 @@ fn while_killing(
     }
 }
 
-/// What follows a reading, by the stage, once the news before it was heard.
+/// Returns the action at a reading, by the stage, after the news before it.
 pub(crate) fn step_at(margins: &Margins, reading: u64, how: Option<RunEnd>, state: State) -> Step
     ensures { result ≡ step_at margins.now reading how state state.stage }
 {

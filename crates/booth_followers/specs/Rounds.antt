@@ -23,7 +23,7 @@ abbrev pub ring_in : Result (Option Ring) Ended → Option Ring
 ring_in (Ok ring) = ring
 ring_in (Err ended) = None
 
--- the configuration was read, and the key files that it names, up to the first without a key
+-- the configuration was read, and then the key files that it names. The reads stop at the first file without a key
 pub record AreFilesRead (conf : List ℕ) (found : Option Ring) (entries : List Entry) : Type 0 where
   pub config : ConfigSays
   pub answer : Result (Option Ring) Ended
@@ -58,7 +58,7 @@ pub record IsReadAgain (conf : List ℕ) (f g : Following) (entries : List Entry
 
 -- ---- one round
 
--- The calls of a round's turns and of its reads, and the following and its seat after the round.
+-- A round: the calls of its turns, the calls of its reads, and the following with its seat after the round.
 pub record Round : Type 0 where
   pub turns : List Entry
   pub reads : List Entry
@@ -144,8 +144,8 @@ unfoldable pub turn_calls_of : List Round → List Entry
 turn_calls_of [] = []
 turn_calls_of (r ∷ rs) = r.turns ++ turn_calls_of rs
 
--- The turns of all rounds, one after the other, are turns of one following, whatever keys were read between them:
--- what holds for all turns of a following holds for them.
+-- The turns of all rounds, in sequence, are turns of one following, whatever keys were read between the rounds. So each
+-- law on the turns of a following holds for them.
 abbrev pub RoundsAreTurns : Type 0
 RoundsAreTurns = (conf : List ℕ) (f : Following) (seat : Seat) (rounds : List Round)
     → AreRounds conf f seat rounds → AreTurnsTo f seat (seat_behind seat rounds) (turn_calls_of rounds)

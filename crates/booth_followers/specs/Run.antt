@@ -29,7 +29,7 @@ pub record IsFollowRun (left : Option ℕ) (words : List (List ℕ)) (outcome : 
   pub made : IsFollowMade left words outcome said body
   pub told : IsText BoothFollow said last
 
--- the arguments are those of a service that follows its ticket, with any options
+-- the arguments ask for a service that follows its ticket, with any options
 pub record AskToFollow (words : List (List ℕ)) : Type 0 where
   pub asked : FollowWords
   pub asks : AsksFollow words asked

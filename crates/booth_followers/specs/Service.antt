@@ -52,7 +52,7 @@ pub record IsSetOut (left : Option ℕ) (asked : FollowWords) (config : ConfigSa
   pub is : IsFollowing ring asked.ticket (daemon_of asked config) asked.program margins f
   pub starts : IsStarted left asked.conf f outcome said entries
 
--- memory was out
+-- the memory ran out
 abbrev pub IsRoomless : Outcome → List ℕ → List Entry → Type 0
 IsRoomless outs.OutOfMemory said entries = (said ≡ out_of_memory_text) × (entries ≡ [])
 IsRoomless outcome said entries = ⊥

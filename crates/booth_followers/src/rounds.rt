@@ -74,7 +74,7 @@ fn read_again<H: Host, W: Watch>(alloc: Global, service: &mut Service, watch: &m
 }
 
 /// Has the service follow its ticket until the host asks for the end. If this site's daemon is silent, reads the keys
-/// again, and goes on from the same seat.
+/// again, and continues from the same seat.
 pub(crate) fn serve<H: Host, W: Watch>(
     alloc: Global,
     service: &mut Service,

@@ -96,7 +96,7 @@ fn set_out<H: Host, W: Watch>(
     start(alloc, &mut service, setting, &mut room, host)
 }
 
-// Does what follows margins that fit: reads the key, and goes on.
+// Continues if the margins fit: reads the key, and then does the rest.
 fn follow_with<H: Host, W: Watch>(
     alloc: Global,
     asked: FollowWords,

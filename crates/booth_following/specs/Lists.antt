@@ -22,7 +22,8 @@ pub record IsLine (start line : List ℕ) (until : ℕ) : Type 0 where
 abbrev pub lines_of : List ℕ → List (List ℕ)
 lines_of text = slice_split (λ b. b == 0x0A) text
 
--- The text shows this site until an end if one of its lines reports one. Otherwise it shows another site or nobody.
+-- If a line of the text reports an end for this site, the text shows this site until that end. Otherwise it shows
+-- another site or nobody.
 abbrev pub IsShownIn : List ℕ → List ℕ → Shown → Type 0
 IsShownIn start text (Here until) =
     (place : ℕ) × (place < length (lines_of text)) × IsLine start (get_or (lines_of text) place []) until
@@ -43,8 +44,7 @@ pub record Part : Type 0 where
   pub whole : Bool
   pub text : List ℕ
 
--- It covers the ticket: the whole list does, even without a line of the ticket, and another part does if it has such
--- a line.
+-- It covers the ticket: it is the whole list, even without a line of the ticket, or it has a line of the ticket.
 abbrev pub TellsOf : List ℕ → Part → Type 0
 TellsOf ticket part = (part.whole ≡ true) ⊎ HasLine ticket part.text
 

@@ -162,7 +162,8 @@ pub record IsTurn (f : Following) (old new : Seat) (made : Made) (entries : List
 
 -- ---- silence
 
--- since when an answer is awaited: the reading of the last turn that received one, or that of the first turn
+-- the time since which an answer is awaited: the reading of the last turn that received an answer, or the reading of
+-- the first turn
 abbrev pub awaited_after : Option Awaited → News → ℕ → Option Awaited
 awaited_after awaited (news.List shown) reading = Some (Told reading)
 awaited_after None heard reading = Some (Begun reading)
@@ -213,8 +214,8 @@ AreHeard awaited (t ∷ ts) =
     (is_unheard (awaited_after awaited t.heard t.reading) t.reading ≡ false)
     × AreHeard (awaited_after awaited t.heard t.reading) ts
 
--- This many turns with the following's own keys, none of which ended in silence, lead to this seat; an answer is
--- awaited since then.
+-- `count` turns with the following's own keys lead from the seat `from` to `seat`, and none of them ended in silence.
+-- `awaited` is the answer that is awaited after them, if any.
 pub record IsUnderway (f : Following) (from seat : Seat) (awaited : Option Awaited) (count : ℕ) (entries : List Entry)
     : Type 0 where
   pub turns : List Turn

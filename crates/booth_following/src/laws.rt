@@ -6,7 +6,7 @@ pub fn turns_follow_the_rule()
     ensures { TurnsFollowTheRule }
 {}
 
-/// Exactly the bytes of this site's authentic answers about the ticket report its state.
+/// Bytes report the state of the ticket if and only if they are an authentic answer of this site about the ticket.
 pub fn answers_are_authentic()
     ensures { AnswersAreAuthentic }
 {}
@@ -16,7 +16,7 @@ pub fn answers_end_no_later()
     ensures { AnswersEndNoLater }
 {}
 
-/// Exactly the bytes of this site's authentic list answers are lists.
+/// Bytes count as a list if and only if they are an authentic answer of this site to a request for the list.
 pub fn lists_are_authentic()
     ensures { ListsAreAuthentic }
 {}

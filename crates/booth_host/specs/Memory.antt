@@ -1,4 +1,4 @@
--- What a host in memory tells, and what its script makes it answer.
+-- A host in memory: the calls that it records, and the answers that its script determines.
 use Rattle.std.specs.Prelude.{◌≡◌, ◌+◌, ◌-◌, ◌==◌, ℕ, List, [], nat_eq, option_map, unwrap_or, Option, None, Some, MatchOption, Result, Ok, Err, IfOk, IfErr, IsErrOf, ◌↔◌, Bool, false, if◌then◌else◌, slice_get, length, drop, take, min}
 use Rattle.std.specs.Cmp.Lexicographic.{pointwise}
 use Rattle.std.specs.List.{find}
@@ -48,22 +48,22 @@ out_flag first (Some step) = step.fail_out
 abbrev pub sends_fail : MemoryHost → Bool
 sends_fail host = send_flag host.script.fail_send (running host)
 
--- whether an out fails now
+-- whether a write to standard output fails now
 abbrev pub outs_fail : MemoryHost → Bool
 outs_fail host = out_flag host.script.fail_out (running host)
 
--- what the next step brings: its arrival with its bytes, or Stop after the last
+-- the result of the next step: its arrival with its bytes, or Stop after the last
 abbrev pub IsBrought : Option Step → Result Arrival Failed → List ℕ → Type 0
 IsBrought None answer bytes = (answer ≡ Ok Stop) × (bytes ≡ [])
 IsBrought (Some step) answer bytes = (answer ≡ step.arrival)
     × (bytes ≡ take (min (length step.bytes) DATAGRAM_BYTES) step.bytes)
 
--- an answer without failures: a failing step is Quiet
+-- an answer without failures: a failing step gives Quiet
 abbrev pub quietly : Result Arrival Failed → Result Arrival Failed
 quietly (Ok arrival) = Ok arrival
 quietly (Err fault) = Ok Quiet
 
--- what the next step brings to a quiet host: the same, without failures
+-- the result of the next step at a quiet host: the same, without failures
 abbrev pub IsQuietlyBrought : Option Step → Result Arrival Failed → List ℕ → Type 0
 IsQuietlyBrought None answer bytes = (answer ≡ Ok Stop) × (bytes ≡ [])
 IsQuietlyBrought (Some step) answer bytes = (answer ≡ quietly step.arrival)
@@ -77,7 +77,7 @@ coming host = slice_get host.script.steps.items host.begun
 abbrev pub to_come : MemoryHost → List Step
 to_come host = drop host.begun host.script.steps.items
 
--- all that a script says besides its steps
+-- everything in a script except its steps
 pub record SaysTheSame (old new : Script) : Type 0 where
   pub first : new.first ≡ old.first
   pub taken : new.taken ≡ old.taken
@@ -88,9 +88,9 @@ pub record SaysTheSame (old new : Script) : Type 0 where
   pub sends : new.fail_send ≡ old.fail_send
   pub outs : new.fail_out ≡ old.fail_out
 
--- ---- the host as it was made, and what stays of it
+-- ---- the host as it was made, and what of it is unchanged
 
--- a host that was made of these, and has not begun
+-- a host made of these parts, before its first step
 pub record IsNew (host : MemoryHost) (script : Script) (files : List (List ℕ × List ℕ))
     (records : List (List ℕ × Record)) (most : ℕ) : Type 0 where
   pub runs : host.script ≡ script
@@ -101,7 +101,7 @@ pub record IsNew (host : MemoryHost) (script : Script) (files : List (List ℕ �
   pub tells : memory_past host ≡ Some []
   pub faults : host.faults ≡ 0
 
--- the script, the files, the records and the room stay, and no step begins
+-- the script, the files, the records and the room are unchanged, and no step begins
 pub record Stays (old new : MemoryHost) : Type 0 where
   pub script : new.script ≡ old.script
   pub begun : new.begun ≡ old.begun
@@ -109,14 +109,14 @@ pub record Stays (old new : MemoryHost) : Type 0 where
   pub records : new.records ≡ old.records
   pub room : new.told.room ≡ old.told.room
 
--- the same but for the records
+-- the same, except the records
 pub record StaysButRecords (old new : MemoryHost) : Type 0 where
   pub script : new.script ≡ old.script
   pub begun : new.begun ≡ old.begun
   pub files : new.files ≡ old.files
   pub room : new.told.room ≡ old.told.room
 
--- one more step begins, where one is left, and all else stays
+-- the next step begins, if one is left, and everything else is unchanged
 pub record Begins (old new : MemoryHost) : Type 0 where
   pub script : new.script ≡ old.script
   pub begun : MatchOption (coming old) (new.begun ≡ old.begun) (λ step. new.begun ≡ old.begun + 1)
@@ -131,17 +131,17 @@ abbrev pub file_of : MemoryHost → List ℕ → Option (List ℕ)
 file_of host path =
     option_map (λ file. file.1) (find (λ file. pointwise nat_eq file.0 path) host.files.items)
 
--- a read of what is at this path, or a failure where nothing is; for want of memory it may always fail
+-- a read of the file at this path, or a failure if there is none; if the memory has run out it may always fail
 pub record ReadsFile (found : Option (List ℕ)) (result : Result (List ℕ) ReadFault) : Type 0 where
   pub text : IfOk result (λ text. found ≡ Some text)
   pub missing : IsErrOf result ReadFailed ↔ (found ≡ None)
 
--- the same without failures: what is not there is empty
+-- the same without failures: a missing file is empty
 pub record ReadsQuietly (found : Option (List ℕ)) (result : Result (List ℕ) ReadFault) : Type 0 where
   pub text : IfOk result (λ text. text ≡ unwrap_or found [])
   pub memory : IfErr result (λ fault. fault ≡ NoMemory)
 
--- ---- locks, keeps and starts
+-- ---- locks, writes and starts
 
 -- whether another holds each lock
 abbrev pub taken_in : MemoryHost → Bool
@@ -159,6 +159,6 @@ start_flag (Some step) = step.fail_start
 abbrev pub starts_fail : MemoryHost → Bool
 starts_fail host = start_flag (running host)
 
--- whether a keep fails now
+-- whether a write of a record fails now
 abbrev pub keeps_fail : MemoryHost → Bool
 keeps_fail host = keep_flag (running host)

@@ -1,16 +1,16 @@
--- What a host tells of its calls.
+-- The record of a host's calls.
 use Rattle.std.specs.Prelude.{◌≡◌, List, ◌++◌, Option, None, Some, IsSome}
 use Rattle.booth_host.specs.declared.entry.Entry.{Entry}
 
--- the past with these entries after it, where it is told
+-- the calls with these entries after them, if calls are recorded
 abbrev pub grown : Option (List Entry) → List Entry → Option (List Entry)
 grown None entries = None
 grown (Some past) entries = Some (past ++ entries)
 
--- told after only where told before, and grown by these entries
+-- calls are recorded afterwards only if they were before, and these entries were added
 pub record GrewBy (before after : Option (List Entry)) (entries : List Entry) : Type 0 where
   pub grew : IsSome after → after ≡ grown before entries
 
--- told after only where told before, and grown by entries of which P holds
+-- calls are recorded afterwards only if they were before, and entries with the property P were added
 pub record GrewSome (P : List Entry → Type 0) (before after : Option (List Entry)) : Type 0 where
   pub grew : IsSome after → (entries : List Entry) × (after ≡ grown before entries) × P entries

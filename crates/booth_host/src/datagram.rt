@@ -1,10 +1,10 @@
-//! The bytes of an arrived datagram, whose memory is taken once.
+//! The bytes of a datagram that arrived, in memory that is allocated once.
 ghost use Rattle.std.specs.Prelude.{◌≡◌, ◌≤◌, [], IfOk, length, min, take};
 
 use std::alloc::{AllocError, Global};
 use std::marker::Model;
 
-/// The most bytes that are kept of a datagram: one more than a frame has.
+/// The most bytes of a datagram that are stored: one more than a frame has.
 pub const DATAGRAM_BYTES: usize = 16_461;
 
 /// Up to 16,461 bytes. Contracts see them as a list.
@@ -25,7 +25,7 @@ impl Model for Datagram {
 }
 
 impl Datagram {
-    /// An empty datagram, with the memory of all that it will hold.
+    /// Returns an empty datagram, with all the memory that it will need.
     pub fn new(alloc: Global) -> Result<Datagram, AllocError>
         ensures { IfOk result (λ datagram. datagram ≡ []) }
     {
@@ -41,7 +41,7 @@ impl Datagram {
         self.bytes.clear();
     }
 
-    /// Keeps the first 16,461 of these bytes.
+    /// Stores the first 16,461 of these bytes.
     pub fn set(&mut self, bytes: &[u8])
         ensures { self.new ≡ take (min (length bytes.now) DATAGRAM_BYTES) bytes.now }
     {
@@ -50,7 +50,7 @@ impl Datagram {
         self.bytes.extend_from_slice(&bytes[..len]).unwrap();
     }
 
-    /// The bytes of the datagram.
+    /// Returns the bytes of the datagram.
     pub fn bytes(&self) -> &[u8]
         ensures value { result.now ≡ self.now }
         ensures short { length result.now ≤ DATAGRAM_BYTES }

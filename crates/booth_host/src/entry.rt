@@ -1,4 +1,4 @@
-//! One call of a host, with its arguments and its answer; and how such entries are made.
+//! One call of a host, with its arguments and its answer, and functions that make such entries.
 ghost use Rattle.std.specs.Prelude.{◌≡◌, IfOk};
 ghost use Rattle.booth_host.specs.declared.entry.Entry.{Entry};
 
@@ -17,7 +17,7 @@ pub enum Entry {
         conf_path: ByteText,
         answer: Result<(), Failed>,
     },
-    /// `bytes` are those of the datagram after the call.
+    /// `bytes` are the bytes in the datagram after the call.
     Next {
         wait_ms: u64,
         answer: Result<Arrival, Failed>,
@@ -39,18 +39,18 @@ pub enum Entry {
         path: ByteText,
         answer: Result<bool, Failed>,
     },
-    /// The record that is kept of a ticket was read.
+    /// The read of a ticket's record.
     Kept {
         ticket: ByteText,
         answer: Result<Option<Record>, Failed>,
     },
-    /// A record of a ticket was to be kept.
+    /// The write of a ticket's record.
     Keep {
         ticket: ByteText,
         record: Record,
         answer: Result<(), Failed>,
     },
-    /// The handler of a job was to be started.
+    /// The start of a job's handler.
     Start {
         number: u64,
         ticket: ByteText,

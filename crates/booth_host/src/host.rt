@@ -1,4 +1,4 @@
-//! The trait of all devices. Each call adds its entry to the past, and a failure has its cause.
+//! The trait of all devices (the environment). Each call adds its entry to the past, and each failure has a cause.
 ghost use Rattle.std.specs.Prelude.{◌≡◌, ◌≤◌, List, [], ◌∷◌, ℕ, Result, Option};
 ghost use Rattle.booth_host.specs.declared.entry.Entry.{Entry};
 ghost use Rattle.booth_host.specs.Past.{GrewBy};
@@ -15,7 +15,7 @@ use thiserror::Error;
 #[error("a device failed")]
 pub struct Failed;
 
-/// Why a file was not read.
+/// Why a file could not be read.
 #[derive(Clone, Copy, Debug, PartialEq, Eq, Drop, Error)]
 pub enum ReadFault {
     #[error("the file could not be read")]
@@ -24,64 +24,64 @@ pub enum ReadFault {
     NoMemory,
 }
 
-/// What came while the host was waited for.
+/// What arrived while the program waited.
 #[derive(Clone, Copy, PartialEq, Eq)]
 pub enum Arrival {
     /// A datagram from this peer.
     Datagram(Peer),
-    /// The handler of the job of this number ended with this status.
+    /// The handler with this job number ended with this status.
     Handler { job: u64, status: i32 },
-    /// Nothing, in the time that was given.
+    /// Nothing arrived in the given time.
     Quiet,
-    /// The end was asked for.
+    /// The environment asks for the end.
     Stop,
 }
 
-/// Where a host listens, and the paths that it keeps its files by.
+/// The address at which a host listens, and the paths of its files.
 #[derive(Drop)]
 pub struct Place {
     /// The address to listen at, or none for any.
     pub local: Option<Address>,
     /// The UDP port to listen at, or 0 for any.
     pub port: u16,
-    /// The directory of the kept records.
+    /// The directory of the records.
     pub records: PathText,
     /// The file of the configuration.
     pub conf_path: PathText,
 }
 
-/// What a ticket's handler is to be run for.
+/// The run of a ticket's handler.
 #[derive(Drop)]
 pub struct Job {
-    /// The number by which its result is told.
+    /// The number under which its result is reported.
     pub number: u64,
     pub ticket: Name,
-    /// The handler's path, or a directory's of several programs, and then its arguments, between blanks.
+    /// The path of the handler, or of a directory with several programs, and its arguments, between blanks.
     pub handler: PathText,
     /// The address of this member.
     pub local: Address,
-    /// When the ticket's lease ends, in seconds since 1970, or 0 where it has none.
+    /// When the ticket's lease ends, in seconds since 1970, or 0 if it has none.
     pub expires: u64,
 }
 
 /// All devices of a program.
 ///
-/// A host that tells its calls after a call told them before it, and that call added its one entry.
-/// A call answers `Failed` only where the count of faults rose.
+/// A host that records its calls after a call recorded them before it, and the call added its one entry. A call
+/// returns `Failed` only if the count of faults rose.
 pub trait Host {
-    /// All calls so far, the oldest first, where the host tells them.
+    /// All calls so far, the oldest first, if the host records them.
     ghost past: { Self → Option (List Entry) };
 
     /// How often a device has failed. It never falls, and stays at the greatest u64.
     ghost faults: { Self → ℕ };
 
-    /// Begins to listen at this place.
+    /// Starts to listen at this place.
     fn open(&mut self, place: &Place) -> Result<(), Failed>
         ensures past { GrewBy (past self.old) (past self.new)
             (Entry.Open place.now.local place.now.port place.now.records place.now.conf_path result ∷ []) }
         ensures cause { HasCause (faults self.old) (faults self.new) result };
 
-    /// Waits for at most so many milliseconds, and puts the bytes of a datagram into `into`.
+    /// Waits for at most this many milliseconds, and puts the bytes of a datagram into `into`.
     fn next(&mut self, wait_ms: u64, into: &mut Datagram) -> Result<Arrival, Failed>
         ensures past { GrewBy (past self.old) (past self.new) (Entry.Next wait_ms result into.new ∷ []) }
         ensures cause { HasCause (faults self.old) (faults self.new) result };
@@ -91,33 +91,33 @@ pub trait Host {
         ensures past { GrewBy (past self.old) (past self.new) (Entry.Now result ∷ []) }
         ensures later { faults self.old ≤ faults self.new };
 
-    /// Gives a datagram to the network. It may never arrive.
+    /// Passes a datagram to the network. It may never arrive.
     fn send(&mut self, to: &Peer, bytes: &[u8]) -> Result<(), Failed>
         ensures past { GrewBy (past self.old) (past self.new) (Entry.Send to.now bytes.now result ∷ []) }
         ensures cause { HasCause (faults self.old) (faults self.new) result };
 
-    /// The record that is kept of this ticket, if there is one.
+    /// Reads the record of this ticket, if there is one.
     fn kept(&mut self, ticket: &Name) -> Result<Option<Record>, Failed>
         ensures past { GrewBy (past self.old) (past self.new) (Entry.Kept ticket.now result ∷ []) }
         ensures cause { HasCause (faults self.old) (faults self.new) result };
 
-    /// Keeps this record of this ticket. Where it fails, the record before or this one may be kept.
+    /// Writes this record of this ticket to disk. If that fails, the record before or this one may be on the disk.
     fn keep(&mut self, ticket: &Name, rec: &Record) -> Result<(), Failed>
         ensures past { GrewBy (past self.old) (past self.new) (Entry.Keep ticket.now rec.now result ∷ []) }
         ensures cause { HasCause (faults self.old) (faults self.new) result };
 
-    /// Starts the handler of a job. An arrival tells later how it ended.
+    /// Starts the handler of a job. A later arrival says how it ended.
     fn start(&mut self, job: &Job) -> Result<(), Failed>
         ensures past { GrewBy (past self.old) (past self.new)
             (Entry.Start job.now.number job.now.ticket job.now.handler job.now.local job.now.expires result ∷ []) }
         ensures cause { HasCause (faults self.old) (faults self.new) result };
 
-    /// The bytes of a file.
+    /// Reads the bytes of a file.
     fn read_file(&mut self, alloc: Global, path: &str) -> Result<ByteText, ReadFault>
         ensures past { GrewBy (past self.old) (past self.new) (Entry.ReadFile path.now result ∷ []) }
         ensures cause { HasReadCause (faults self.old) (faults self.new) result };
 
-    /// Takes the lock of a file: true where this host now holds it, false where another does.
+    /// Takes the lock of a file, and returns true if this host has it now, and false if another process has it.
     fn lock(&mut self, path: &str) -> Result<bool, Failed>
         ensures past { GrewBy (past self.old) (past self.new) (Entry.Lock path.now result ∷ []) }
         ensures cause { HasCause (faults self.old) (faults self.new) result };

@@ -1,4 +1,4 @@
-//! The outside of Booth: one trait for all devices, and hosts in memory.
+//! The environment of Booth: one trait for all devices, and hosts in memory.
 #![tactic(auto)]
 
 mod datagram;

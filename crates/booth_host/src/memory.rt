@@ -1,4 +1,4 @@
-//! A host in memory, which runs a script and tells its calls.
+//! A host in memory, which runs a script and records its calls.
 ghost use Rattle.std.specs.Prelude.{◌≡◌, ◌≤◌, [], ◌∷◌, ◌++◌, Some, None, IfOk, OnOk, OnErr, IsSome, MatchResult, false, true, not, is_err, length, option_map, if◌then◌else◌};
 ghost use Rattle.booth_host.specs.Past.{GrewBy};
 ghost use Rattle.booth_host.specs.Causes.{Rose, HasCause, HasReadCause};
@@ -10,7 +10,7 @@ use booth_base::{ByteText, Name, PathText, Peer};
 use booth_rec::Record;
 use std::alloc::{AllocError, Global};
 
-/// What one turn meets: what arrives, what the clock reads, and which of its calls fail.
+/// The input of one turn: the arrival, the reading of the clock, and which of its calls fail.
 #[derive(Drop)]
 pub struct Step {
     pub arrival: Result<Arrival, Failed>,
@@ -24,13 +24,13 @@ pub struct Step {
     pub fail_out: bool,
 }
 
-/// What a host in memory does. Each `next` begins the next step; after the last it answers `Stop`.
+/// The script of a host in memory. Each `next` begins the next step; after the last it returns `Stop`.
 #[derive(Drop)]
 pub struct Script {
-    /// What the clock reads before the first step.
+    /// The reading of the clock before the first step.
     pub first: u64,
     pub steps: Vec<Step>,
-    /// Whether another holds the lock of each file.
+    /// Whether another process has the lock of each file.
     pub taken: bool,
     pub fail_open: bool,
     pub fail_lock: bool,
@@ -38,17 +38,17 @@ pub struct Script {
     pub fail_err: bool,
     /// Whether a send before the first step fails.
     pub fail_send: bool,
-    /// Whether an out before the first step fails.
+    /// Whether a write to standard output before the first step fails.
     pub fail_out: bool,
 }
 
 /// The files of a host in memory, by their paths.
 pub type Files = Vec<(PathText, ByteText)>;
 
-/// The records that a host in memory keeps, by their tickets' names.
+/// The records of a host in memory, by their tickets' names.
 pub type Records = Vec<(Name, Record)>;
 
-/// A host in memory. It tells its calls while its room of entries holds, and nothing from then on.
+/// A host in memory. It records its calls as long as there is room for entries, and nothing from then on.
 #[derive(Drop)]
 pub struct MemoryHost {
     pub(crate) told: Told,
@@ -63,7 +63,7 @@ impl MemoryHost {
     ghost use Rattle.booth_host.specs.Memory.{memory_past, running, coming, to_come, file_of, IsBrought, IsNew, Stays, StaysButRecords, Begins, SaysTheSame, taken_in};
     ghost use Rattle.booth_host.specs.Records.{records_of, place_of, record_of, stored, kept_after, FindsNoPlace, KeepsOrIsFull};
 
-    /// A host that runs this script, has these files and records, and tells at most `room` calls.
+    /// Returns a host that runs this script, has these files and records, and records at most `room` calls.
     pub fn new(
         alloc: Global,
         script: Script,
@@ -83,21 +83,21 @@ impl MemoryHost {
         })
     }
 
-    /// The calls so far, the oldest first, or none where the host no longer tells them.
+    /// Returns the calls so far, the oldest first, or none if the host no longer records them.
     pub fn past(&self) -> Option<&[Entry]>
         ensures { option_map (λ entries. entries.now) result ≡ memory_past self.now }
     {
         self.told.entries()
     }
 
-    /// The records that are kept.
+    /// Returns the records.
     pub fn records(&self) -> &[(Name, Record)]
         ensures { result.now ≡ records_of self.now }
     {
         &self.records
     }
 
-    /// Adds a step behind the others. For want of memory it stays as it was.
+    /// Adds a step after the others. If the memory has run out, nothing changes.
     pub fn add(&mut self, step: Step) -> Result<(), AllocError>
         ensures ok { OnOk result (self.new.script.steps.items ≡ self.old.script.steps.items ++ step ∷ []) }
         ensures err { OnErr result (self.new.script.steps.items ≡ self.old.script.steps.items) }
@@ -112,8 +112,8 @@ impl MemoryHost {
         push(&mut self.script.steps, step)
     }
 
-    /// Drops the calls so far, and the steps that have run. The step that runs goes on, so all calls are answered as
-    /// before.
+    /// Drops the calls so far, and the steps that have run. The current step stays, so later calls have the same
+    /// answers as without this call.
     pub fn forget(&mut self)
         ensures past { memory_past self.new ≡ option_map (λ _. []) (memory_past self.old) }
         ensures running { running self.new ≡ running self.old }
@@ -141,7 +141,7 @@ impl MemoryHost {
         self.faults = self.faults.saturating_add(1);
     }
 
-    // Fails where told so.
+    // Fails if the script says so.
     fn fail_if(&mut self, fails: bool) -> Result<(), Failed>
         ensures past { memory_past self.new ≡ memory_past self.old }
         ensures cause { HasCause self.old.faults self.new.faults result }
@@ -175,7 +175,7 @@ impl MemoryHost {
         answer
     }
 
-    // The step that runs.
+    // Returns the step that runs.
     fn step(&self) -> Option<&Step>
         ensures { option_map (λ step. step.now) result ≡ running self.now }
     {
@@ -185,14 +185,14 @@ impl MemoryHost {
         self.script.steps.get(self.begun - 1)
     }
 
-    // Where a ticket's record stands, if one is kept.
+    // Returns the place of a ticket's record, if there is one.
     fn place(&self, ticket: &Name) -> Option<usize>
         ensures { result ≡ place_of (records_of self.now) ticket.now }
     {
         self.records.iter().position(|(name, _)| name == ticket)
     }
 
-    // The record that is kept of a ticket.
+    // Returns the record of a ticket.
     pub(crate) fn record(&self, ticket: &Name) -> Option<Record>
         ensures { result ≡ record_of (records_of self.now) ticket.now }
     {
@@ -201,7 +201,7 @@ impl MemoryHost {
         Some(*record)
     }
 
-    // Keeps a record, in the place of the one before.
+    // Stores a record, in place of the one before.
     pub(crate) fn store(&mut self, ticket: &Name, rec: &Record) -> Result<(), AllocError>
         ensures ok { OnOk result (records_of self.new ≡ stored (records_of self.old) ticket.now rec.now) }
         ensures err { OnErr result (FindsNoPlace self.old self.new ticket.now) }
@@ -218,7 +218,7 @@ impl MemoryHost {
         }
     }
 
-    // Keeps a record, or tells nothing from now on where there is no memory for it.
+    // Stores a record, or stops the recording of calls if there is no memory for it.
     pub(crate) fn put(&mut self, ticket: &Name, rec: &Record)
         ensures past { GrewBy (memory_past self.old) (memory_past self.new) [] }
         ensures faults { self.new.faults ≡ self.old.faults }
@@ -232,7 +232,7 @@ impl MemoryHost {
         }
     }
 
-    // Keeps a record where the keep does not fail.
+    // Stores a record if its write does not fail.
     fn put_if_ok(&mut self, answer: Result<(), Failed>, ticket: &Name, rec: &Record)
         ensures past { GrewBy (memory_past self.old) (memory_past self.new) [] }
         ensures faults { self.new.faults ≡ self.old.faults }
@@ -247,14 +247,14 @@ impl MemoryHost {
         }
     }
 
-    // Whether another holds each lock.
+    // Returns whether another process has each lock.
     pub(crate) fn is_taken(&self) -> bool
         ensures { result ≡ taken_in self.now }
     {
         self.script.taken
     }
 
-    // The text of the file at this path.
+    // Returns the text of the file at this path.
     pub(crate) fn file(&self, path: &str) -> Option<&ByteText>
         ensures { option_map (λ text. text.now) result ≡ file_of self.now path.now }
     {

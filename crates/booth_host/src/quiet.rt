@@ -12,8 +12,8 @@ use booth_base::{ByteText, Name, Peer};
 use booth_rec::Record;
 use std::alloc::{AllocError, Global};
 
-/// A host in memory without failures: its count of faults stays 0, a failing step is Quiet, and a
-/// missing file is empty.
+/// A host in memory without failures: its count of faults stays 0, a failing step gives Quiet, and a missing file is
+/// empty.
 #[derive(Drop)]
 pub struct QuietHost {
     host: MemoryHost,
@@ -23,7 +23,7 @@ impl QuietHost {
     ghost use Rattle.booth_host.specs.Memory.{quiet_past, running, to_come, IsNew, SaysTheSame};
     ghost use Rattle.booth_host.specs.Records.{records_of};
 
-    /// A host that runs this script without its failures.
+    /// Returns a host that runs this script without its failures.
     pub fn new(
         alloc: Global,
         script: Script,
@@ -38,21 +38,21 @@ impl QuietHost {
         })
     }
 
-    /// The calls so far, where they are told.
+    /// Returns the calls so far, if they are recorded.
     pub fn past(&self) -> Option<&[Entry]>
         ensures { option_map (λ entries. entries.now) result ≡ quiet_past self.now }
     {
         self.host.past()
     }
 
-    /// The records that are kept.
+    /// Returns the records.
     pub fn records(&self) -> &[(Name, Record)]
         ensures { result.now ≡ records_of self.now.host }
     {
         self.host.records()
     }
 
-    /// Adds a step behind the others. For want of memory it stays as it was.
+    /// Adds a step after the others. If the memory has run out, nothing changes.
     pub fn add(&mut self, step: Step) -> Result<(), AllocError>
         ensures ok { OnOk result
             (self.new.host.script.steps.items ≡ self.old.host.script.steps.items ++ step ∷ []) }
@@ -68,8 +68,8 @@ impl QuietHost {
         self.host.add(step)
     }
 
-    /// Drops the calls so far, and the steps that have run. The step that runs goes on, so all calls are answered as
-    /// before.
+    /// Drops the calls so far, and the steps that are over. The current step stays, so later calls have the same
+    /// answers as without this call.
     pub fn forget(&mut self)
         ensures past { quiet_past self.new ≡ option_map (λ _. []) (quiet_past self.old) }
         ensures running { running self.new.host ≡ running self.old.host }

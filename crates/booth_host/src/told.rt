@@ -1,4 +1,4 @@
-//! What a host tells of its calls, while its room of entries and the memory hold.
+//! The record of a host's calls, as long as there is room and memory for entries.
 ghost use Rattle.std.specs.Prelude.{◌≡◌, ◌≤◌, [], ◌∷◌, ◌++◌, Some, None, IfOk, OnErr, OnOk, length, option_map, vec_capacity, vec_len};
 ghost use Rattle.booth_host.specs.Past.{GrewBy};
 ghost use Rattle.booth_host.specs.declared.entry.Entry.{Entry};
@@ -12,8 +12,8 @@ use booth_base::{ByteText, Name, Peer};
 use booth_rec::Record;
 use std::alloc::{AllocError, Global};
 
-/// The calls of a host so far. Where there is no room or no memory for one, nothing is told from then on. Without room
-/// no call takes memory.
+/// The calls of a host so far. If there is no room or no memory for one, nothing is recorded from then on. Without
+/// room no call allocates memory.
 #[derive(Drop)]
 pub struct Told {
     alloc: Global,
@@ -23,7 +23,7 @@ pub struct Told {
     ghost few: { length entries.items ≤ room },
 }
 
-// Adds this where there is memory for it.
+// Appends this, unless the memory has run out.
 pub(crate) fn push<T: Drop>(list: &mut Vec<T>, last: T) -> Result<(), AllocError>
     ensures ok { OnOk result (list.new.items ≡ list.old.items ++ last ∷ []) }
     ensures err { OnErr result (list.new.items ≡ list.old.items) }
@@ -38,7 +38,7 @@ pub(crate) fn push<T: Drop>(list: &mut Vec<T>, last: T) -> Result<(), AllocError
 impl Told {
     ghost use Rattle.booth_host.specs.Told.{told_past};
 
-    /// No call so far, and room for so many.
+    /// Returns an empty record with room for this many calls.
     pub fn new(alloc: Global, room: u32) -> Told
         ensures past { told_past result ≡ Some [] }
         ensures room { result.room ≡ room }
@@ -51,7 +51,7 @@ impl Told {
         }
     }
 
-    /// The calls so far, the oldest first, or none where they are no longer told.
+    /// Returns the calls so far, the oldest first, or none if they are no longer recorded.
     pub fn entries(&self) -> Option<&[Entry]>
         ensures { option_map (λ entries. entries.now) result ≡ told_past self.now }
     {
@@ -70,7 +70,7 @@ impl Told {
         self.entries.clear();
     }
 
-    /// Tells nothing from now on.
+    /// Stops the recording.
     pub fn end(&mut self)
         ensures past { told_past self.new ≡ None }
         ensures room { self.new.room ≡ self.old.room }
@@ -78,12 +78,12 @@ impl Told {
         self.tells = false;
     }
 
-    // Whether one more call can be told, as far as the room goes.
+    // Returns whether there is room for one more call.
     fn has_room(&self) -> bool {
         self.tells && self.entries.len() < self.room as usize
     }
 
-    // Adds this entry, or tells nothing from now on.
+    // Records this entry, or stops the recording.
     fn note(&mut self, entry: Result<Entry, AllocError>)
         ensures told { IfOk entry (λ entry. GrewBy (told_past self.old) (told_past self.new) (entry ∷ [])) }
         ensures untold { OnErr entry (told_past self.new ≡ None) }
@@ -98,7 +98,7 @@ impl Told {
         }
     }
 
-    /// An `open` at this place.
+    /// Records an `open` at this place.
     pub fn open(&mut self, place: &Place, answer: Result<(), Failed>)
         ensures past { GrewBy (told_past self.old) (told_past self.new)
             (Entry.Open place.now.local place.now.port place.now.records place.now.conf_path answer ∷ []) }
@@ -112,7 +112,7 @@ impl Told {
         self.note(entry);
     }
 
-    /// A `next` that waited so long and left these bytes.
+    /// Records a `next` that waited this long and left these bytes.
     pub fn next(&mut self, wait_ms: u64, answer: Result<Arrival, Failed>, bytes: &[u8])
         ensures past { GrewBy (told_past self.old) (told_past self.new) (Entry.Next wait_ms answer bytes.now ∷ []) }
         ensures room { self.new.room ≡ self.old.room }
@@ -125,7 +125,7 @@ impl Told {
         self.note(entry);
     }
 
-    /// A reading of the clock.
+    /// Records a reading of the clock.
     pub fn now(&mut self, reading: u64)
         ensures past { GrewBy (told_past self.old) (told_past self.new) (Entry.Now reading ∷ []) }
         ensures room { self.new.room ≡ self.old.room }
@@ -137,7 +137,7 @@ impl Told {
         self.note(Ok(Entry::Now { reading }));
     }
 
-    /// A `send` of these bytes.
+    /// Records a `send` of these bytes.
     pub fn send(&mut self, to: &Peer, bytes: &[u8], answer: Result<(), Failed>)
         ensures past { GrewBy (told_past self.old) (told_past self.new) (Entry.Send to.now bytes.now answer ∷ []) }
         ensures room { self.new.room ≡ self.old.room }
@@ -150,7 +150,7 @@ impl Told {
         self.note(entry);
     }
 
-    /// A `kept` of this ticket.
+    /// Records a `kept` of this ticket.
     pub fn kept(&mut self, ticket: &Name, answer: Result<Option<Record>, Failed>)
         ensures past { GrewBy (told_past self.old) (told_past self.new) (Entry.Kept ticket.now answer ∷ []) }
         ensures room { self.new.room ≡ self.old.room }
@@ -163,7 +163,7 @@ impl Told {
         self.note(entry);
     }
 
-    /// A `keep` of this ticket's record.
+    /// Records a `keep` of this ticket's record.
     pub fn keep(&mut self, ticket: &Name, rec: &Record, answer: Result<(), Failed>)
         ensures past { GrewBy (told_past self.old) (told_past self.new) (Entry.Keep ticket.now rec.now answer ∷ []) }
         ensures room { self.new.room ≡ self.old.room }
@@ -176,7 +176,7 @@ impl Told {
         self.note(entry);
     }
 
-    /// A `start` of this job's handler.
+    /// Records a `start` of this job's handler.
     pub fn start(&mut self, job: &Job, answer: Result<(), Failed>)
         ensures past { GrewBy (told_past self.old) (told_past self.new)
             (Entry.Start job.now.number job.now.ticket job.now.handler job.now.local job.now.expires answer ∷ []) }
@@ -190,7 +190,7 @@ impl Told {
         self.note(entry);
     }
 
-    /// A `read_file` of this path.
+    /// Records a `read_file` of this path.
     pub fn read_file(&mut self, path: &str, answer: &Result<ByteText, ReadFault>)
         ensures past { GrewBy (told_past self.old) (told_past self.new) (Entry.ReadFile path.now answer.now ∷ []) }
         ensures room { self.new.room ≡ self.old.room }
@@ -203,7 +203,7 @@ impl Told {
         self.note(entry);
     }
 
-    /// A `lock` of this path.
+    /// Records a `lock` of this path.
     pub fn lock(&mut self, path: &str, answer: Result<bool, Failed>)
         ensures past { GrewBy (told_past self.old) (told_past self.new) (Entry.Lock path.now answer ∷ []) }
         ensures room { self.new.room ≡ self.old.room }
@@ -216,7 +216,7 @@ impl Told {
         self.note(entry);
     }
 
-    /// An `out` of these bytes.
+    /// Records an `out` of these bytes.
     pub fn out(&mut self, bytes: &[u8], answer: Result<(), Failed>)
         ensures past { GrewBy (told_past self.old) (told_past self.new) (Entry.Out bytes.now answer ∷ []) }
         ensures room { self.new.room ≡ self.old.room }
@@ -229,7 +229,7 @@ impl Told {
         self.note(entry);
     }
 
-    /// An `err` of these bytes.
+    /// Records an `err` of these bytes.
     pub fn err(&mut self, bytes: &[u8], answer: Result<(), Failed>)
         ensures past { GrewBy (told_past self.old) (told_past self.new) (Entry.Err bytes.now answer ∷ []) }
         ensures room { self.new.room ≡ self.old.room }

@@ -1,4 +1,4 @@
--- The lines of a journal: how calls and answers are spelled, and which lines a call of a host is said by.
+-- The lines of a journal: the spelling of calls and answers, and the lines for a call of a host.
 use Rattle.std.specs.Prelude.{ℕ, List, [], ◌∷◌, ◌++◌, codes, decimal, Option, None, Some, Result, Ok, Err, if◌then◌else◌}
 use Rattle.std.specs.Fmt.{signed_decimal}
 use Rattle.hex.specs.Hex.{encode_lower}
@@ -71,7 +71,7 @@ line text = text ++ codes "\n"
 
 -- ---- entries
 
--- A record as it is written: one of another version than 2 as one of version 1, with its term and its lease.
+-- A record as it is written: a record of another version than 2 as one of version 1, with its term and its lease.
 abbrev pub written : Record → Record
 written kept = if is_second kept then kept else first_plain kept.term kept.lease
 
@@ -91,7 +91,7 @@ kept_answer (Ok None) = answers.Absent
 kept_answer (Ok (Some kept)) = answers.Found (written kept)
 kept_answer (Err fault) = answers.Fails
 
--- the call and the answer by which a journal says an entry, or none where it says nothing of it
+-- the call and the answer that a journal has for an entry, or none if it has none
 abbrev pub said : Entry → Option (Call × Answer)
 said (entries.Now reading) = Some (calls.Now, answers.Reading reading)
 said (entries.Open local port records conf_path answer) = Some (calls.Open local, done_answer answer)
@@ -108,6 +108,6 @@ abbrev pub lines_said : Option (Call × Answer) → List ℕ
 lines_said None = []
 lines_said (Some both) = line (call_text both.0) ++ line (answer_text both.1)
 
--- the lines by which a journal says an entry
+-- the lines of a journal for an entry
 abbrev pub lines_of : Entry → List ℕ
 lines_of entry = lines_said (said entry)

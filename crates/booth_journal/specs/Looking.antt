@@ -1,4 +1,4 @@
--- The first call of what is left of a journal.
+-- The first call in the rest of a journal.
 use Rattle.std.specs.Prelude.{◌≡◌, ◌≤◌, ◌+◌, ℕ, Bool, true, false, List, [], ◌∷◌, codes, length, Option, option_map}
 use Rattle.booth_journal.specs.declared.said.Call.{Call}
 use Rattle.booth_journal.specs.declared.said.Call.TheVariants as calls
@@ -6,8 +6,7 @@ use Rattle.booth_journal.specs.Fields.{IsCut}
 use Rattle.booth_journal.specs.Lines.{answer_text, call_text}
 use Rattle.booth_journal.specs.Says.{Said, Says, lines_saying}
 
--- A text says these calls. This is the line of the first one, this its answer's line where that came, and this stands
--- behind them.
+-- A text with these calls: the line of the first one, the line of its answer if there is one, and what follows them.
 pub record IsFirstCall (text : List ℕ) (left : List Said) (call : List ℕ) (answer : Option (List ℕ)) (behind : List ℕ)
     : Type 0 where
   pub said : Said
@@ -18,7 +17,7 @@ pub record IsFirstCall (text : List ℕ) (left : List Said) (call : List ℕ) (a
   pub says : Says behind more
   pub shorter : length (lines_saying said) + length behind ≤ length text
 
--- behind a call stands no line, or a reading of the clock
+-- a call has no answer: no line follows it, or the next line is a reading of the clock
 abbrev pub HasNoAnswer : List ℕ → Type 0
 HasNoAnswer text = (first behind : List ℕ) → IsCut 0x0A text first behind → first ≡ codes "now"
 

@@ -1,7 +1,7 @@
--- What a sink in memory holds.
+-- The content of a sink in memory.
 use Rattle.std.specs.Prelude.{ℕ, List, Option, Some}
 use Rattle.booth_journal.specs.declared.memory_sink.MemorySink.{MemorySink}
 
--- it tells all its bytes
+-- all its bytes are recorded
 abbrev pub held_in : MemorySink → Option (List ℕ)
 held_in sink = Some sink.bytes.items

@@ -1,4 +1,4 @@
--- What a line of a journal says, and when a text is none.
+-- The content of a line of a journal, and when a text is not one.
 use Rattle.std.specs.Prelude.{◌≡◌, ◌<◌, ◌≤◌, ◌^◌, ℕ, ℤ, List, ◌++◌, codes, decimal, slice_index, length, true, FitsSigned, Option, None, Some, Result, Err, IfOk}
 use Rattle.std.specs.Prelude.{Bool, false, T}
 use Rattle.std.specs.Int.{w32}
@@ -19,7 +19,7 @@ use Rattle.booth_journal.specs.declared.fields.LineFault.{LineFault}
 use Rattle.booth_journal.specs.declared.fields.LineFault.TheVariants.{NoLine}
 use Rattle.booth_journal.specs.Lines.{answer_text, call_text, hex_text, local_text, peer_text, record_text}
 
--- ---- the values that a line may say, as each value of the types is
+-- ---- the values that a line may have, which are those of the types
 
 abbrev pub AreOctets : List ℕ → Type 0
 AreOctets bytes = (k : ℕ) → slice_index bytes k < 2 ^ 8
@@ -51,7 +51,7 @@ IsAnswer (answers.Data from bytes) = IsPeer from × AreOctets bytes × (length b
 IsAnswer (answers.Found kept) = IsWritten kept
 IsAnswer answer = Unit {0}
 
--- ---- which answers a call may have
+-- ---- the answers that a call may have
 
 abbrev pub is_reading : Answer → Bool
 is_reading (answers.Reading reading) = true
@@ -69,7 +69,7 @@ is_done answer = false
 abbrev pub IsDone : Answer → Type 0
 IsDone answer = T (is_done answer)
 
--- what a wait brought
+-- the result of a wait
 abbrev pub is_arrival : Answer → Bool
 is_arrival answers.Fails = true
 is_arrival answers.Quiet = true
@@ -81,7 +81,7 @@ is_arrival answer = false
 abbrev pub IsArrival : Answer → Type 0
 IsArrival answer = T (is_arrival answer)
 
--- what is kept of a ticket
+-- the record of a ticket
 abbrev pub is_found : Answer → Bool
 is_found answers.Fails = true
 is_found answers.Absent = true
@@ -102,8 +102,8 @@ IsAnswerTo (calls.Job number ticket expires) answer = IsDone answer
 
 -- ---- reading
 
--- What is read of a text: what it spells, and NoLine only where it spells nothing. For want of memory a read may
--- always fail.
+-- The result of reading a text: what it spells, and NoLine only if it spells nothing. If the memory has run out,
+-- a read may always fail.
 pub record ReadsAs {A : Type 0} (Spells : A → Type 0) (result : Result A LineFault) : Type 0 where
   pub found : IfOk result Spells
   pub none : result ≡ Err NoLine → (value : A) → Spells value → ⊥

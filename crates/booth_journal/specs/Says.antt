@@ -1,4 +1,4 @@
--- A journal as the calls that it says, each with its answer where that came.
+-- A journal as the list of its calls, each with its answer if there is one.
 use Rattle.std.specs.Prelude.{◌≡◌, ℕ, List, [], ◌∷◌, ◌++◌, Option, None, Some}
 use Rattle.std.specs.List.{flat_map}
 use Rattle.booth_journal.specs.declared.said.Answer.{Answer}
@@ -8,7 +8,7 @@ use Rattle.booth_journal.specs.Lines.{answer_text, call_text, line}
 use Rattle.booth_journal.specs.Reading.{IsAnswer, IsAnswerTo, IsCall}
 use Rattle.booth_journal.specs.Texts.{IsInside, IsJournal}
 
--- a call, and its answer where that came
+-- a call, and its answer if there is one
 pub record Said : Type 0 where
   pub call : Call
   pub answer : Option Answer
@@ -17,12 +17,12 @@ abbrev pub answer_lines : Option Answer → List (List ℕ)
 answer_lines None = []
 answer_lines (Some answer) = answer_text answer ∷ []
 
--- the lines that say one call
+-- the lines of one call
 abbrev pub lines_saying : Said → List (List ℕ)
 lines_saying said = call_text said.call ∷ answer_lines said.answer
 
--- An answer is one that its call may have. A call without one is the last, or the next is a reading of the clock, which
--- begins a start.
+-- An answer is one that its call may have. A call without an answer is the last, or the next is a reading of the
+-- clock, which begins a start.
 abbrev pub IsAnswered : Call → Option Answer → List Said → Type 0
 IsAnswered call (Some answer) more = IsAnswerTo call answer × IsAnswer answer
 IsAnswered call None [] = Unit {0}
@@ -32,17 +32,17 @@ abbrev pub AreWhole : List Said → Type 0
 AreWhole [] = Unit {0}
 AreWhole (said ∷ more) = IsCall said.call × IsAnswered said.call said.answer more × AreWhole more
 
--- The text says these calls. Bytes behind the last line end are no line.
+-- The text consists of these calls. Bytes after the last line end are no line.
 pub record Says (text : List ℕ) (all : List Said) : Type 0 where
   pub tail : List ℕ
   pub whole : text ≡ flat_map line (flat_map lines_saying all) ++ tail
   pub rest : IsInside tail
   pub each : AreWhole all
 
--- each journal says calls
+-- each journal consists of calls
 abbrev pub JournalsSayCalls : Type 0
 JournalsSayCalls = (text : List ℕ) → IsJournal text → (all : List Said) × Says text all
 
--- a text says one list of calls
+-- a text has one list of calls
 abbrev pub TextsSayOneList : Type 0
 TextsSayOneList = (text : List ℕ) (one other : List Said) → Says text one → Says text other → one ≡ other

@@ -1,4 +1,4 @@
--- Which texts are journals: lines, one behind the other, and behind the last one bytes that are no line.
+-- Which texts are journals: lines, one after the other, and after the last one bytes that are no line.
 use Rattle.std.specs.Prelude.{◌≡◌, ◌+◌, ℕ, List, [], ◌∷◌, ◌++◌, codes, length, Option, None, Some, IsSomeAnd}
 use Rattle.std.specs.List.{All, flat_map}
 use Rattle.booth_journal.specs.Fields.{HasNo}
@@ -10,17 +10,17 @@ use Rattle.booth_journal.specs.declared.said.Call.TheVariants as calls
 use Rattle.booth_journal.specs.declared.texts.TextFault.{TextFault}
 use Rattle.booth_journal.specs.declared.texts.TextFault.TheVariants as faults
 
--- ---- one line behind others
+-- ---- one line after others
 
--- A line behind a call that has no answer yet, or behind none: it says a call, or that one's answer. A call is cut
--- where it has none: the next line begins a start, and reads the clock. Last stands the call that has no answer after
--- the line.
+-- A line after others: if the call before it has no answer yet, the line is the answer of that call, and otherwise it
+-- is a call. A call without an answer was interrupted: the next line begins a start, and reads the clock. The last
+-- argument is the call that has no answer after the line.
 abbrev pub Follows : Option Call → List ℕ → Option Call → Type 0
 Follows None text next = IsSomeAnd next (SpellsCall text)
 Follows (Some call) text None = (answer : Answer) × SpellsAnswerTo call text answer
 Follows (Some call) text (Some next) = (next ≡ calls.Now) × (text ≡ codes "now")
 
--- lines, one behind the other
+-- lines, one after the other
 abbrev pub AreSaid : Option Call → List (List ℕ) → Option Call → Type 0
 AreSaid before [] after = before ≡ after
 AreSaid before (text ∷ texts) after =
@@ -32,8 +32,8 @@ AreSaid before (text ∷ texts) after =
 abbrev pub IsInside : List ℕ → Type 0
 IsInside text = HasNo 0x0A text
 
--- Each line of the text says a call or an answer. Bytes behind the last line end are no line: an append that was torn
--- was none.
+-- Each line of the text is a call or an answer. Bytes after the last line end are no line: an append that was torn
+-- does not count.
 pub record IsJournal (text : List ℕ) : Type 0 where
   pub lines : List (List ℕ)
   pub tail : List ℕ
@@ -43,7 +43,7 @@ pub record IsJournal (text : List ℕ) : Type 0 where
   pub rest : IsInside tail
   pub said : AreSaid None lines after
 
--- The lines before line n, counted from 1, say calls and answers; and that line says neither behind them.
+-- The lines before line n, counted from 1, are calls and answers; and that line is neither, after them.
 pub record IsFirstFault (text : List ℕ) (n : ℕ) : Type 0 where
   pub lines : List (List ℕ)
   pub wrong : List ℕ
@@ -56,7 +56,7 @@ pub record IsFirstFault (text : List ℕ) (n : ℕ) : Type 0 where
   pub said : AreSaid None lines before
   pub never : (after : Option Call) → Follows before wrong after → ⊥
 
--- what a fault of a text says; want of memory may come in place of any answer
+-- the meaning of a text's fault; out of memory may come in place of any answer
 abbrev pub HasFault : List ℕ → TextFault → Type 0
 HasFault text (faults.Line n) = IsFirstFault text n
 HasFault text faults.OutOfMemory = Unit {0}

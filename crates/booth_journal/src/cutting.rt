@@ -1,16 +1,16 @@
-//! Cutting a text at a byte.
+//! The division of a text at a byte.
 ghost use Rattle.std.specs.Prelude.{◌≡◌, ◌++◌, List, ℕ, MatchOption};
 ghost use Rattle.std.specs.List.{prefix_len};
 ghost use Rattle.booth_journal.specs.Fields.{HasNo, IsCut, is_other};
 
-// How many bytes stand before the first that is `end`.
+// Returns how many bytes precede the first `end`.
 fn first_len(end: u8, text: &[u8]) -> usize
     ensures { result ≡ prefix_len (is_other end) text.now }
 {
     text.iter().take_while(|byte| **byte != end).count()
 }
 
-/// What stands before the first `end`, and what behind it.
+/// Returns the bytes before the first `end`, and those after it.
 pub(crate) fn cut(end: u8, text: &[u8]) -> Option<(&[u8], &[u8])>
     ensures { MatchOption result (HasNo end text.now) (λ parts. IsCut end text.now parts.0.now parts.1.now) }
 {
@@ -22,7 +22,7 @@ pub(crate) fn cut(end: u8, text: &[u8]) -> Option<(&[u8], &[u8])>
     }
 }
 
-/// What stands behind these bytes, where the text begins with them.
+/// Returns what follows these bytes, if the text begins with them.
 pub(crate) fn behind<'t>(begin: &[u8], text: &'t [u8]) -> Option<&'t [u8]>
     ensures { MatchOption result ((rest : List ℕ) → text.now ≡ begin.now ++ rest → ⊥)
         (λ rest. text.now ≡ begin.now ++ rest.now) }

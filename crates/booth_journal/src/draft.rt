@@ -1,4 +1,4 @@
-//! The bytes of a line that is written, whose memory is taken once.
+//! The bytes of a line that is being written, in memory that is allocated once.
 ghost use Rattle.std.specs.Prelude.{◌≡◌, ◌≤◌, ◌+◌, ◌++◌, [], ◌∷◌, IfOk, codes, decimal, length};
 ghost use Rattle.std.specs.Fmt.{signed_decimal};
 ghost use Rattle.hex.specs.Hex.{encode_lower};
@@ -10,10 +10,10 @@ use itoa::Buffer;
 use std::alloc::{AllocError, Global};
 use std::marker::Model;
 
-/// The most bytes of a draft: a line with the bytes of a datagram in hexadecimal digits has room.
+/// The most bytes of a draft: enough for a line with the bytes of a datagram in hexadecimal digits.
 pub(crate) const DRAFT_BYTES: usize = 33_024;
 
-/// The bytes of a line, as far as it is written. Contracts see them as a list.
+/// The bytes of a line so far. Contracts see them as a list.
 #[derive(Drop)]
 pub struct Draft {
     bytes: Vec<u8>,
@@ -30,7 +30,7 @@ impl Model for Draft {
     ghost invariant = { λ d. (DRAFT_BYTES ≤ vec_capacity d.bytes) × (vec_len d.bytes ≤ DRAFT_BYTES) };
 }
 
-// The two hexadecimal digits of a byte.
+// Returns the two hexadecimal digits of a byte.
 fn digits_of(byte: u8) -> [u8; 2]
     ensures { result ≡ encode_lower (byte ∷ []) }
 {
@@ -40,7 +40,7 @@ fn digits_of(byte: u8) -> [u8; 2]
 }
 
 impl Draft {
-    /// An empty draft, with all its memory.
+    /// Returns an empty draft, with all its memory.
     pub fn new(alloc: Global) -> Result<Draft, AllocError>
         ensures { IfOk result (λ draft. draft ≡ []) }
     {
@@ -49,7 +49,7 @@ impl Draft {
         })
     }
 
-    /// The bytes.
+    /// Returns the bytes.
     pub fn bytes(&self) -> &[u8]
         ensures value { result.now ≡ self.now }
         ensures short { length result.now ≤ DRAFT_BYTES }
@@ -57,7 +57,7 @@ impl Draft {
         &self.bytes
     }
 
-    /// Drops all bytes, and puts these.
+    /// Drops all bytes, and appends these.
     pub(crate) fn begin(&mut self, piece: &[u8])
         requires { length piece.now ≤ DRAFT_BYTES }
         ensures { self.new ≡ piece.now }
@@ -66,7 +66,7 @@ impl Draft {
         self.put(piece);
     }
 
-    /// Puts a piece behind the others.
+    /// Appends a text.
     pub(crate) fn put(&mut self, piece: &[u8])
         requires { length self.old + length piece.now ≤ DRAFT_BYTES }
         ensures { self.new ≡ self.old ++ piece.now }
@@ -74,7 +74,7 @@ impl Draft {
         self.bytes.extend_from_slice(piece).unwrap();
     }
 
-    /// Puts a number.
+    /// Appends a number.
     pub(crate) fn put_number(&mut self, number: u64)
         requires { length self.old + 40 ≤ DRAFT_BYTES }
         ensures bytes { self.new ≡ self.old ++ decimal number }
@@ -84,7 +84,7 @@ impl Draft {
         self.put(digits.format(number).as_bytes());
     }
 
-    /// Puts the status of a program, below 0 with its sign.
+    /// Appends the status of a program, with its sign if it is below 0.
     pub(crate) fn put_status(&mut self, status: i32)
         requires { length self.old + 40 ≤ DRAFT_BYTES }
         ensures bytes { self.new ≡ self.old ++ signed_decimal status }
@@ -94,7 +94,7 @@ impl Draft {
         self.put(digits.format(status).as_bytes());
     }
 
-    /// Puts an address.
+    /// Appends an address.
     pub(crate) fn put_address(&mut self, address: &Address)
         requires { length self.old + 39 ≤ DRAFT_BYTES }
         ensures bytes { self.new ≡ self.old ++ printed address.now }
@@ -103,7 +103,7 @@ impl Draft {
         self.put(address.print().as_bytes());
     }
 
-    /// Puts an address and a port.
+    /// Appends an address and a port.
     pub(crate) fn put_peer(&mut self, peer: &Peer)
         requires { length self.old + 80 ≤ DRAFT_BYTES }
         ensures bytes { self.new ≡ self.old ++ peer_text peer.now }
@@ -114,7 +114,7 @@ impl Draft {
         self.put_number(u64::from(peer.port));
     }
 
-    /// Puts bytes in hexadecimal digits.
+    /// Appends bytes in hexadecimal digits.
     pub(crate) fn put_hex(&mut self, bytes: &[u8])
         requires { length self.old + (length bytes.now + length bytes.now) ≤ DRAFT_BYTES }
         ensures bytes { self.new ≡ self.old ++ encode_lower bytes.now }

@@ -1,4 +1,4 @@
-//! The fields of a line that is read: between them stands one blank.
+//! The fields of a line, with one blank between them.
 ghost use Rattle.std.specs.Prelude.{◌≡◌, List, [], ℕ, IfOk, Err, MatchBool};
 ghost use Rattle.hex.specs.Hex.{encode_lower};
 ghost use Rattle.hex.specs.declared.error.FromHexError.TheVariants.{OutOfMemory as HexMemory};
@@ -15,7 +15,7 @@ use itoa::Buffer;
 use std::alloc::{AllocError, Global};
 use thiserror::Error;
 
-/// Why nothing was read of a text.
+/// Why a text could not be read.
 #[derive(Clone, Copy, Debug, Drop, Error)]
 pub enum LineFault {
     #[error("the text is no line of a journal")]
@@ -31,7 +31,7 @@ pub(crate) struct Carried {
     pub(crate) bytes: ByteText,
 }
 
-/// The number that is printed so.
+/// Returns the number with this text.
 pub(crate) fn number(text: &[u8]) -> Result<u64, LineFault>
     ensures { ReadsAs (SpellsNumber text.now) result }
 {
@@ -49,7 +49,7 @@ pub(crate) fn number(text: &[u8]) -> Result<u64, LineFault>
     }
 }
 
-/// The status that is printed so.
+/// Returns the status with this text.
 pub(crate) fn status(text: &[u8]) -> Result<i32, LineFault>
     ensures { ReadsAs (SpellsStatus text.now) result }
 {
@@ -77,7 +77,7 @@ fn port(text: &[u8]) -> Result<u16, LineFault>
     }
 }
 
-/// The name that these bytes are.
+/// Returns the name with these bytes.
 pub(crate) fn name(text: &[u8]) -> Result<Name, LineFault>
     ensures { ReadsAs (SpellsName text.now) result }
 {
@@ -87,7 +87,7 @@ pub(crate) fn name(text: &[u8]) -> Result<Name, LineFault>
     }
 }
 
-// An address has 4 or 16 bytes.
+// Returns whether an address has 4 or 16 bytes.
 fn is_whole(address: Address)
     ensures { IsAddress address }
 {
@@ -96,7 +96,7 @@ fn is_whole(address: Address)
     }
 }
 
-// The address that is printed so: another text of it is no field.
+// Returns the address with this text: only its printed text is a field.
 fn address(text: &[u8]) -> Result<Address, LineFault>
     ensures { ReadsAs (SpellsAddress text.now) result }
 {
@@ -111,7 +111,7 @@ fn address(text: &[u8]) -> Result<Address, LineFault>
     }
 }
 
-/// The address to listen at.
+/// Returns the address to listen at.
 pub(crate) fn local(text: &[u8]) -> Result<Option<Address>, LineFault>
     ensures { ReadsAs (SpellsLocal text.now) result }
 {
@@ -132,7 +132,7 @@ fn fault_of(error: FromHexError) -> LineFault
     }
 }
 
-// The bytes of hexadecimal digits of lower case.
+// Returns the bytes of hexadecimal digits in lower case.
 fn octets(alloc: Global, text: &[u8]) -> Result<Vec<u8>, LineFault>
     ensures found { IfOk result (λ bytes. AreOctets bytes.items × (text.now ≡ encode_lower bytes.items)) }
     ensures none { result ≡ Err NoLine → (bytes : List ℕ) → AreOctets bytes → text.now ≡ encode_lower bytes → ⊥ }
@@ -157,7 +157,7 @@ fn is_nothing(text: &[u8]) -> bool
     text.is_empty()
 }
 
-// Bytes, of which `-` spells none.
+// Returns bytes; `-` spells none.
 fn bytes_of(alloc: Global, text: &[u8]) -> Result<ByteText, LineFault>
     ensures { ReadsAs (SpellsBytes text.now) result }
 {
@@ -170,7 +170,7 @@ fn bytes_of(alloc: Global, text: &[u8]) -> Result<ByteText, LineFault>
     Ok(ByteText::from_vec(octets(alloc, text)?))
 }
 
-/// The record whose bytes are spelled so.
+/// Returns the record whose bytes have this spelling.
 pub(crate) fn record_of(alloc: Global, text: &[u8]) -> Result<Record, LineFault>
     ensures { ReadsAs (SpellsRecord text.now) result }
 {
@@ -183,7 +183,7 @@ pub(crate) fn record_of(alloc: Global, text: &[u8]) -> Result<Record, LineFault>
     }
 }
 
-/// A peer and bytes.
+/// Returns a peer and bytes.
 pub(crate) fn datagram(alloc: Global, text: &[u8]) -> Result<Carried, LineFault>
     ensures { ReadsAs (SpellsDatagram text.now) result }
 {

@@ -1,4 +1,4 @@
-//! What is written into a sink, until an append fails.
+//! The writes to a sink, up to the first append that fails.
 ghost use Rattle.std.specs.Prelude.{◌≡◌, false};
 ghost use Rattle.booth_journal.specs.Journal.{Wrote};
 
@@ -12,7 +12,7 @@ pub struct Journal<S> {
 }
 
 impl<S: Sink> Journal<S> {
-    /// A journal that writes into this sink.
+    /// Returns a journal that writes to this sink.
     pub(crate) fn new(sink: S) -> Journal<S>
         ensures sink { result.sink ≡ sink }
         ensures works { result.failed ≡ false }
@@ -23,7 +23,7 @@ impl<S: Sink> Journal<S> {
         }
     }
 
-    /// Writes these bytes, or nothing where an append has failed before.
+    /// Writes these bytes, or nothing if an append has failed before.
     pub(crate) fn write(&mut self, bytes: &[u8])
         ensures { Wrote S.held S.faults self.old self.new bytes.now }
     {

@@ -1,4 +1,4 @@
-//! A host over any host that writes down each call and its answer.
+//! A host over any host that records each call and its answer.
 ghost use Rattle.std.specs.Prelude.{◌≡◌, ◌≤◌, ◌++◌, [], ◌∷◌, IfOk, false, length, List};
 ghost use Rattle.booth_host.specs.Past.{GrewBy};
 ghost use Rattle.booth_host.specs.Causes.{HasCause, HasReadCause};
@@ -20,18 +20,18 @@ use booth_host::{Arrival, DATAGRAM_BYTES, Datagram, Failed, Host, Job, Place, Re
 use booth_rec::Record;
 use std::alloc::{AllocError, Global};
 
-/// A host over a host: each call is the inner one's, and is answered as that one answers. A call that a journal says is
-/// written into the sink before it is made, and its answer behind it, until an append fails.
+/// A host over a host: it passes each call on, and returns the answer. A call that has lines in a journal is written
+/// to the sink before it is made, and its answer after it, until an append fails.
 #[derive(Drop)]
 pub struct JournalHost<H, S> {
     host: H,
     journal: Journal<S>,
-    // the line that is written, whose bytes mean nothing between two lines
+    // the line that is being written; its bytes have no meaning between two lines
     draft: Draft,
 }
 
 impl<H: Host, S: Sink> JournalHost<H, S> {
-    /// A host over this host, whose journal goes into this sink. It takes here all memory that it will take.
+    /// Returns a host over this host, whose journal goes to this sink. It allocates all its memory here.
     pub fn new(alloc: Global, host: H, sink: S) -> Result<JournalHost<H, S>, AllocError>
     where
         H: Drop,
@@ -47,14 +47,14 @@ impl<H: Host, S: Sink> JournalHost<H, S> {
         })
     }
 
-    /// What holds the journal.
+    /// Returns the sink of the journal.
     pub fn sink(&self) -> &S
         ensures { result.now ≡ self.now.journal.sink }
     {
         &self.journal.sink
     }
 
-    /// Whether an append has failed: nothing is written any more.
+    /// Returns whether an append has failed: nothing is written any more.
     pub fn has_failed(&self) -> bool
         ensures { result ≡ self.now.journal.failed }
     {
@@ -69,7 +69,7 @@ impl<H: Host, S: Sink> JournalHost<H, S> {
         self.journal.write(self.draft.bytes());
     }
 
-    // Writes bytes in hexadecimal digits, in pieces that have room in the draft.
+    // Writes bytes in hexadecimal digits, in pieces that fit into the draft.
     fn write_pieces(&mut self, bytes: &[u8])
         ensures wrote { Wrote S.held S.faults self.old.journal self.new.journal (encode_lower bytes.now) }
         ensures host { self.new.host ≡ self.old.host }
@@ -84,7 +84,7 @@ impl<H: Host, S: Sink> JournalHost<H, S> {
         }
     }
 
-    // Writes the line that the draft begins and these bytes end.
+    // Writes a line that begins with the draft and ends with these bytes.
     fn write_with(&mut self, bytes: &[u8])
         requires { length self.old.draft ≤ 96 }
         ensures wrote { Wrote S.held S.faults self.old.journal self.new.journal
@@ -102,7 +102,7 @@ impl<H: Host, S: Sink> JournalHost<H, S> {
         }
     }
 
-    // Writes whether a call was done.
+    // Writes whether a call succeeded.
     fn write_done(&mut self, answer: &Result<(), Failed>)
         ensures wrote { Wrote S.held S.faults self.old.journal self.new.journal
             (line (answer_text (done_answer answer.now))) }
@@ -111,7 +111,7 @@ impl<H: Host, S: Sink> JournalHost<H, S> {
         self.journal.write(done_line(answer));
     }
 
-    // Writes what a wait brought.
+    // Writes the result of a wait.
     fn write_arrival(&mut self, answer: &Result<Arrival, Failed>, bytes: &[u8])
         ensures wrote { Wrote S.held S.faults self.old.journal self.new.journal
             (line (answer_text (arrival_answer answer.now bytes.now))) }

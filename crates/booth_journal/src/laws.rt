@@ -2,12 +2,12 @@
 ghost use Rattle.booth_journal.specs.Says.{JournalsSayCalls, TextsSayOneList};
 ghost use Rattle.booth_journal.specs.Texts.{JournalsHaveNoFault, TextsHaveOneFault};
 
-/// The lines of a journal are calls, one behind the other, each with its answer where that came.
+/// The lines of a journal are calls, one after the other, each with its answer if there is one.
 pub fn journals_say_calls()
     ensures { JournalsSayCalls }
 {}
 
-/// A text says one list of calls.
+/// A text has one list of calls.
 pub fn texts_say_one_list()
     ensures { TextsSayOneList }
 {}

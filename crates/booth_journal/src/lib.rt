@@ -1,4 +1,4 @@
-//! The journal of a host: the lines that its calls are said by, and a host over any host that writes them.
+//! The journal of a host: the lines for its calls, and a host over any host that writes them.
 #![tactic(auto)]
 
 mod audit_fault;

@@ -1,4 +1,4 @@
-//! The first call of what is left of a journal.
+//! The first call in the rest of a journal.
 ghost use Rattle.std.specs.Prelude.{◌≡◌, [], List, MatchOption, codes, option_map};
 ghost use Rattle.booth_journal.specs.Fields.{IsCut};
 ghost use Rattle.booth_journal.specs.Looking.{HasNoAnswer, IsFirstCall, is_open};
@@ -8,7 +8,7 @@ ghost use Rattle.booth_journal.specs.declared.said.Call.{Call};
 
 use crate::cutting::{behind, cut};
 
-/// The line of a call, the line of its answer where that came, and what stands behind them.
+/// The line of a call, the line of its answer if there is one, and what follows them.
 #[derive(Clone, Copy)]
 pub struct Looked<'t> {
     pub call: &'t [u8],
@@ -16,7 +16,7 @@ pub struct Looked<'t> {
     pub behind: &'t [u8],
 }
 
-// The line of an answer, and what stands behind it.
+// Returns the line of an answer, and what follows it.
 fn answer_of(text: &[u8]) -> Option<(&[u8], &[u8])>
     ensures { MatchOption result (HasNoAnswer text.now) (λ parts.
         IsCut 0x0A text.now parts.0.now parts.1.now × (parts.0.now ≡ codes "now" → ⊥)) }
@@ -31,7 +31,7 @@ fn answer_of(text: &[u8]) -> Option<(&[u8], &[u8])>
     }
 }
 
-/// The first call that a journal says, or none where it says no call.
+/// Returns the first call of a journal, or none if it has no call.
 pub fn look(text: &[u8]) -> Option<Looked<'_>>
     ensures { (left : List Said) → Says text.now left → MatchOption result (left ≡ []) (λ looked.
         IsFirstCall text.now left looked.call.now (option_map (λ bytes. bytes.now) looked.answer) looked.behind.now) }
@@ -53,7 +53,7 @@ pub fn look(text: &[u8]) -> Option<Looked<'_>>
     }
 }
 
-/// Whether a line is that of a call which opens a socket.
+/// Returns whether a line is that of a call which opens a socket.
 pub fn is_open(text: &[u8]) -> bool
     ensures { (call : Call) → text.now ≡ call_text call → result ≡ is_open call }
 {

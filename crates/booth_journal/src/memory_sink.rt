@@ -7,13 +7,13 @@ use crate::Sink;
 use booth_host::Failed;
 use std::alloc::{AllocError, Global};
 
-/// Bytes in memory, which is taken once. Contracts see its fields.
+/// Bytes in memory that is allocated once. Contracts see its fields.
 #[derive(Drop)]
 pub struct MemorySink {
     bytes: Vec<u8>,
     /// The most bytes.
     room: u32,
-    /// How many more appends pass.
+    /// How many more appends succeed.
     passes: u32,
     faults: u64,
     ghost few: { length bytes.items ≤ room },
@@ -21,7 +21,7 @@ pub struct MemorySink {
 }
 
 impl MemorySink {
-    /// No byte so far, and room for so many. So many appends pass, where their bytes fit.
+    /// Returns an empty sink, with room for this many bytes. This many appends succeed, if their bytes fit.
     pub fn new(alloc: Global, room: u32, passes: u32) -> Result<MemorySink, AllocError>
         ensures empty { IfOk result (λ sink. sink.bytes.items ≡ []) }
         ensures room { IfOk result (λ sink. sink.room ≡ room) }
@@ -36,7 +36,7 @@ impl MemorySink {
         })
     }
 
-    /// All bytes so far.
+    /// Returns all bytes so far.
     pub fn bytes(&self) -> &[u8]
         ensures { result.now ≡ self.now.bytes.items }
     {

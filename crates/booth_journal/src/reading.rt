@@ -1,4 +1,4 @@
-//! The call or the answer that a line says, without its end.
+//! The call or the answer on a line, without the line's end.
 ghost use Rattle.std.specs.Prelude.{◌++◌, codes};
 ghost use Rattle.booth_journal.specs.Reading.{ReadsAs, SpellsAnswerTo, SpellsArrival, SpellsCall, SpellsDone, SpellsFound, SpellsReading};
 
@@ -75,7 +75,7 @@ fn job(rest: &[u8]) -> Result<Call, LineFault>
     }
 }
 
-/// The call that this text spells.
+/// Returns the call that this text spells.
 pub fn read_call(alloc: Global, text: &[u8]) -> Result<Call, LineFault>
     ensures { ReadsAs (SpellsCall text.now) result }
 {
@@ -103,7 +103,7 @@ pub fn read_call(alloc: Global, text: &[u8]) -> Result<Call, LineFault>
     Err(LineFault::NoLine)
 }
 
-/// The answer of a call that was done or failed.
+/// Returns the answer of a call that succeeded or failed.
 pub fn read_done(text: &[u8]) -> Result<Answer, LineFault>
     ensures { ReadsAs (SpellsDone text.now) result }
 {
@@ -116,7 +116,7 @@ pub fn read_done(text: &[u8]) -> Result<Answer, LineFault>
     Err(LineFault::NoLine)
 }
 
-/// The answer of a read of a record.
+/// Returns the answer of a read of a record.
 pub fn read_found(alloc: Global, text: &[u8]) -> Result<Answer, LineFault>
     ensures { ReadsAs (SpellsFound text.now) result }
 {
@@ -161,7 +161,7 @@ fn data(alloc: Global, rest: &[u8]) -> Result<Answer, LineFault>
     })
 }
 
-/// The answer of a wait.
+/// Returns the answer of a wait.
 pub fn read_arrival(alloc: Global, text: &[u8]) -> Result<Answer, LineFault>
     ensures { ReadsAs (SpellsArrival text.now) result }
 {
@@ -183,14 +183,14 @@ pub fn read_arrival(alloc: Global, text: &[u8]) -> Result<Answer, LineFault>
     Err(LineFault::NoLine)
 }
 
-/// The answer of a reading of the clock.
+/// Returns the answer of a reading of the clock.
 pub fn read_reading(text: &[u8]) -> Result<Answer, LineFault>
     ensures { ReadsAs (SpellsReading text.now) result }
 {
     Ok(Answer::Reading(number(text)?))
 }
 
-/// The answer of this call that the text spells.
+/// Returns the answer of this call that the text spells.
 pub fn read_answer(alloc: Global, call: &Call, text: &[u8]) -> Result<Answer, LineFault>
     ensures { ReadsAs (SpellsAnswerTo call.now text.now) result }
 {

@@ -1,8 +1,8 @@
-//! What the lines of a journal say: calls, and answers.
+//! The calls and answers on the lines of a journal.
 use booth_base::{Address, ByteText, Name, Peer};
 use booth_rec::Record;
 
-/// A call that a journal says. The other calls of a host are not written.
+/// A call that has lines in a journal. The other calls of a host are not recorded.
 #[derive(Drop)]
 pub enum Call {
     Now,
@@ -18,7 +18,7 @@ pub enum Call {
         ticket: Name,
         record: Record,
     },
-    /// The handler of a job is to be started.
+    /// The start of a job's handler.
     Job {
         number: u64,
         ticket: Name,
@@ -26,23 +26,23 @@ pub enum Call {
     },
 }
 
-/// An answer that a journal says.
+/// An answer in a journal.
 #[derive(Drop)]
 pub enum Answer {
-    /// The clock's, in milliseconds since 1970.
+    /// The reading of the clock, in milliseconds since 1970.
     Reading(u64),
     Done,
     Fails,
-    /// Nothing came, in the time that was given.
+    /// Nothing arrived in the given time.
     Quiet,
-    /// The end was asked for.
+    /// The host asks for the end.
     Stop,
-    /// The handler of the job of this number ended with this status.
+    /// The handler with this job number ended with this status.
     Ended { job: u64, status: i32 },
-    /// A datagram came from this peer.
+    /// A datagram arrived from this peer.
     Data { from: Peer, bytes: ByteText },
-    /// No record is kept.
+    /// There is no record.
     Absent,
-    /// This record is kept.
+    /// The record.
     Found(Record),
 }

@@ -1,4 +1,4 @@
-//! Calls, and the lines of calls and of answers, each spelled into a draft.
+//! Calls, and the lines of calls and answers, each appended to a draft.
 ghost use Rattle.std.specs.Prelude.{◌≡◌, ◌≤◌, ◌+◌, ◌++◌, codes, length};
 ghost use Rattle.hex.specs.Hex.{encode_lower};
 ghost use Rattle.booth_rec.specs.Spelling.{first_spelling};
@@ -11,7 +11,7 @@ use booth_base::{Address, Name, Peer};
 use booth_host::{DATAGRAM_BYTES, Failed, Job};
 use booth_rec::{Lease, Record};
 
-/// Puts bytes in hexadecimal digits, or `-` for none.
+/// Appends bytes in hexadecimal digits, or `-` for none.
 pub(crate) fn put_bytes(bytes: &[u8], draft: &mut Draft)
     requires few { length bytes.now ≤ DATAGRAM_BYTES }
     requires room { length draft.old ≤ 96 }
@@ -25,14 +25,14 @@ pub(crate) fn put_bytes(bytes: &[u8], draft: &mut Draft)
     }
 }
 
-// The fields of a lease, which are 0 without one.
+// Returns the fields of a lease, which are 0 without one.
 fn fields_of(lease: Option<Lease>) -> Lease
     ensures { result ≡ fields_of lease }
 {
     lease.unwrap_or(Lease { term: 0, until: 0 })
 }
 
-// Puts a record as one of version 1: its term and its lease.
+// Appends a record as one of version 1: its term and its lease.
 fn put_first(kept: &Record, draft: &mut Draft)
     requires { length draft.old ≤ 1000 }
     ensures bytes { draft.new ≡ draft.old ++ encode_lower (first_spelling kept.now) }
@@ -47,7 +47,7 @@ fn put_first(kept: &Record, draft: &mut Draft)
     draft.put_hex(&[0; 8]);
 }
 
-// Puts a record as it is written.
+// Appends a record as it is written.
 fn put_record(kept: &Record, draft: &mut Draft)
     requires { length draft.old ≤ 1000 }
     ensures bytes { draft.new ≡ draft.old ++ record_text (written kept.now) }
@@ -60,7 +60,7 @@ fn put_record(kept: &Record, draft: &mut Draft)
     }
 }
 
-/// Spells an `open` at this address, or at any.
+/// Appends an `open` at this address, or at any.
 pub fn spell_open(local: &Option<Address>, draft: &mut Draft)
     ensures bytes { draft.new ≡ call_text (Call.Open local.now) }
     ensures len { length draft.new ≤ 300 }
@@ -72,7 +72,7 @@ pub fn spell_open(local: &Option<Address>, draft: &mut Draft)
     }
 }
 
-/// The line of an `open` at this address, or at any.
+/// Appends the line of an `open` at this address, or at any address if none is given.
 pub(crate) fn open_line(local: &Option<Address>, draft: &mut Draft)
     ensures { draft.new ≡ line (call_text (Call.Open local.now)) }
 {
@@ -80,7 +80,7 @@ pub(crate) fn open_line(local: &Option<Address>, draft: &mut Draft)
     draft.put(b"\n");
 }
 
-/// What the line of a `send` to this peer begins with.
+/// Appends the start of the line of a `send` to this peer.
 pub(crate) fn send_head(to: &Peer, draft: &mut Draft)
     ensures bytes { draft.new ≡ codes "send " ++ peer_text to.now ++ codes " " }
     ensures len { length draft.new ≤ 96 }
@@ -90,7 +90,7 @@ pub(crate) fn send_head(to: &Peer, draft: &mut Draft)
     draft.put(b" ");
 }
 
-/// Spells a `send` of these bytes to this peer.
+/// Appends a `send` of these bytes to this peer.
 pub fn spell_send(to: &Peer, bytes: &[u8], draft: &mut Draft)
     requires { length bytes.now ≤ DATAGRAM_BYTES }
     ensures { draft.new ≡ call_text (Call.Send to.now bytes.now) }
@@ -99,7 +99,7 @@ pub fn spell_send(to: &Peer, bytes: &[u8], draft: &mut Draft)
     put_bytes(bytes, draft);
 }
 
-/// Spells a `kept` of this ticket.
+/// Appends a `kept` of this ticket.
 pub fn spell_kept(ticket: &Name, draft: &mut Draft)
     ensures bytes { draft.new ≡ call_text (Call.Kept ticket.now) }
     ensures len { length draft.new ≤ 300 }
@@ -108,7 +108,7 @@ pub fn spell_kept(ticket: &Name, draft: &mut Draft)
     draft.put(ticket.bytes());
 }
 
-/// The line of a `kept` of this ticket.
+/// Appends the line of a `kept` of this ticket.
 pub(crate) fn kept_line(ticket: &Name, draft: &mut Draft)
     ensures { draft.new ≡ line (call_text (Call.Kept ticket.now)) }
 {
@@ -116,7 +116,7 @@ pub(crate) fn kept_line(ticket: &Name, draft: &mut Draft)
     draft.put(b"\n");
 }
 
-/// Spells a `keep` of this record of this ticket.
+/// Appends a `keep` of this record of this ticket.
 pub fn spell_keep(ticket: &Name, kept: &Record, draft: &mut Draft)
     ensures bytes { draft.new ≡ call_text (Call.Keep ticket.now (written kept.now)) }
     ensures len { length draft.new ≤ 300 }
@@ -127,7 +127,7 @@ pub fn spell_keep(ticket: &Name, kept: &Record, draft: &mut Draft)
     put_record(kept, draft);
 }
 
-/// The line of a `keep` of this record of this ticket.
+/// Appends the line of a `keep` of this record of this ticket.
 pub(crate) fn keep_line(ticket: &Name, kept: &Record, draft: &mut Draft)
     ensures { draft.new ≡ line (call_text (Call.Keep ticket.now (written kept.now))) }
 {
@@ -135,7 +135,7 @@ pub(crate) fn keep_line(ticket: &Name, kept: &Record, draft: &mut Draft)
     draft.put(b"\n");
 }
 
-/// Spells the start of this job's handler.
+/// Appends the start of this job's handler.
 pub fn spell_job(job: &Job, draft: &mut Draft)
     ensures bytes { draft.new ≡ call_text (Call.Job job.now.number job.now.ticket job.now.expires) }
     ensures len { length draft.new ≤ 300 }
@@ -148,7 +148,7 @@ pub fn spell_job(job: &Job, draft: &mut Draft)
     draft.put_number(job.expires);
 }
 
-/// The line of the start of this job's handler.
+/// Appends the line of the start of this job's handler.
 pub(crate) fn job_line(job: &Job, draft: &mut Draft)
     ensures { draft.new ≡ line (call_text (Call.Job job.now.number job.now.ticket job.now.expires)) }
 {
@@ -156,7 +156,7 @@ pub(crate) fn job_line(job: &Job, draft: &mut Draft)
     draft.put(b"\n");
 }
 
-/// The line of a reading of the clock.
+/// Appends the line of a reading of the clock.
 pub(crate) fn reading_line(reading: u64, draft: &mut Draft)
     ensures { draft.new ≡ line (answer_text (Answer.Reading reading)) }
 {
@@ -165,7 +165,7 @@ pub(crate) fn reading_line(reading: u64, draft: &mut Draft)
     draft.put(b"\n");
 }
 
-/// The line of an answer that says whether a call was done.
+/// Returns the line of an answer that says whether a call succeeded.
 pub(crate) fn done_line(answer: &Result<(), Failed>) -> &'static [u8]
     ensures { result.now ≡ line (answer_text (done_answer answer.now)) }
 {
@@ -175,7 +175,7 @@ pub(crate) fn done_line(answer: &Result<(), Failed>) -> &'static [u8]
     }
 }
 
-/// The line of what a `kept` answers.
+/// Appends the line of the answer of a `kept`.
 pub(crate) fn found_line(answer: &Result<Option<Record>, Failed>, draft: &mut Draft)
     ensures { draft.new ≡ line (answer_text (kept_answer answer.now)) }
 {
@@ -190,7 +190,7 @@ pub(crate) fn found_line(answer: &Result<Option<Record>, Failed>, draft: &mut Dr
     }
 }
 
-/// The line of the end of a job's handler.
+/// Appends the line of the end of a job's handler.
 pub(crate) fn ended_line(job: u64, status: i32, draft: &mut Draft)
     ensures { draft.new ≡ line (answer_text (Answer.Ended job status)) }
 {
@@ -201,7 +201,7 @@ pub(crate) fn ended_line(job: u64, status: i32, draft: &mut Draft)
     draft.put(b"\n");
 }
 
-/// What the line of a datagram from this peer begins with.
+/// Appends the start of the line of a datagram from this peer.
 pub(crate) fn data_head(from: &Peer, draft: &mut Draft)
     ensures bytes { draft.new ≡ codes "data " ++ peer_text from.now ++ codes " " }
     ensures len { length draft.new ≤ 96 }

@@ -10,17 +10,17 @@ use crate::reading::{read_answer, read_call};
 use std::alloc::Global;
 use thiserror::Error;
 
-/// Why a text was not read as a journal.
+/// Why a text could not be read as a journal.
 #[derive(Clone, Copy, Debug, Drop, Error)]
 pub enum TextFault {
-    /// This line, counted from 1, is none of a journal behind the lines before it.
+    /// This line, counted from 1, is none of a journal after the lines before it.
     #[error("line {0} is none of a journal")]
     Line(u64),
     #[error("there is no memory for what a line says")]
     OutOfMemory,
 }
 
-// The call that has no answer after this line.
+// Returns the call without an answer after this line.
 fn follow(alloc: Global, asked: Option<Call>, text: &[u8]) -> Result<Option<Call>, LineFault>
     ensures { ReadsAs (Follows asked text.now) result }
 {
@@ -34,7 +34,7 @@ fn follow(alloc: Global, asked: Option<Call>, text: &[u8]) -> Result<Option<Call
     Ok(None)
 }
 
-/// Reads each line of a text as a journal's.
+/// Reads each line of a text as that of a journal.
 pub fn read_lines(alloc: Global, text: &[u8]) -> Result<(), TextFault>
     ensures journal { OnOk result (IsJournal text.now) }
     ensures fault { IfErr result (HasFault text.now) }

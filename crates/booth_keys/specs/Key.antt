@@ -21,7 +21,7 @@ begun bytes = drop (prefix_len is_blank bytes) bytes
 abbrev pub ended : List ℕ → List ℕ
 ended bytes = take (length bytes - suffix_len is_blank bytes) bytes
 
--- what is left of a key file: of plain text that without the blanks at both ends
+-- the content of a key file: if it is plain text, without the blanks at both ends
 abbrev pub kept : List ℕ → List ℕ
 kept bytes = if list_all is_plain bytes then ended (begun bytes) else bytes
 
@@ -33,8 +33,7 @@ key_read bytes =
 
 -- ---- a law
 
--- A key file that is plain text: blanks, the key, blanks, where the key neither begins nor ends with
--- a blank.
+-- A key file in plain text: blanks, the key, blanks; the key neither begins nor ends with a blank.
 pub record IsKeyText (bytes key : List ℕ) : Type 0 where
   pub before : List ℕ
   pub after : List ℕ
@@ -46,6 +45,6 @@ pub record IsKeyText (bytes key : List ℕ) : Type 0 where
   pub begins : prefix_len is_blank key ≡ 0
   pub ends : suffix_len is_blank key ≡ 0
 
--- Just that key is left of it.
+-- The content of such a file is exactly the key.
 abbrev pub KeyTextIsKey : Type 0
 KeyTextIsKey = (bytes key : List ℕ) → IsKeyText bytes key → kept bytes ≡ key

@@ -12,10 +12,10 @@ use thiserror::Error;
 /// The fewest bytes of a key.
 pub const LEAST_BYTES: usize = 8;
 
-/// The most bytes of a key, which are those of a block of the hash.
+/// The most bytes of a key: those of a block of the hash.
 pub const BLOCK_BYTES: usize = 64;
 
-/// A key of 8 to 64 bytes, and the hashes behind its pads. Contracts see its bytes.
+/// A key of 8 to 64 bytes, and the hashes after its pads. Contracts see its bytes.
 #[derive(Drop)]
 pub struct Key {
     bytes: ArrayVec<u8, BLOCK_BYTES>,
@@ -35,7 +35,7 @@ impl Model for Key {
         × ArePads k.bytes.items k.pads };
 }
 
-/// Why bytes are no key. It speaks of what is left of them without the blanks at both ends.
+/// Why bytes are not a key. The sizes are those without the blanks at both ends.
 #[derive(Clone, Copy, Debug, PartialEq, Eq, Drop, Error)]
 pub enum KeyFault {
     #[error("the key has fewer than 8 bytes")]
@@ -84,7 +84,7 @@ fn ended(bytes: &[u8]) -> &[u8]
     &bytes[..bytes.len() - last_blanks(bytes)]
 }
 
-// A key of other bytes than text is kept as it is.
+// Returns the content of a key file. A file with other bytes than text is used unchanged.
 fn kept(bytes: &[u8]) -> &[u8]
     ensures { result.now ≡ kept bytes.now }
 {
@@ -96,8 +96,12 @@ fn kept(bytes: &[u8]) -> &[u8]
 }
 
 impl Key {
-    /// The key of a key file's bytes. Where each byte is from 0x09 to 0x0D or from 0x20 to 0x7E, the
-    /// blanks at both ends, 0x09 to 0x0D and 0x20, are no part of the key.
+    /// Returns the key in a key file's bytes. If each byte is from 0x09 to 0x0D or from 0x20 to 0x7E, the blanks at
+    /// both ends, 0x09 to 0x0D and 0x20, are not part of the key.
+    ///
+    /// # Errors
+    ///
+    /// The key is too short or too long.
     pub fn read(bytes: &[u8]) -> Result<Key, KeyFault>
         ensures { result ≡ key_read bytes.now }
     {
@@ -111,7 +115,7 @@ impl Key {
         Ok(Key::of(key))
     }
 
-    /// The key of exactly these bytes.
+    /// Returns the key with exactly these bytes.
     pub(crate) fn of(bytes: &[u8]) -> Key
         requires enough { LEAST_BYTES ≤ length bytes.now }
         requires fits { length bytes.now ≤ BLOCK_BYTES }
@@ -125,14 +129,14 @@ impl Key {
         }
     }
 
-    /// An equal key.
+    /// Returns an equal key.
     pub fn copy(&self) -> Key
         ensures { result ≡ self.now }
     {
         Key::of(&self.bytes)
     }
 
-    /// The hashes behind its pads.
+    /// Returns the hashes after its pads.
     pub(crate) fn pads(&self) -> &Pads
         ensures { ArePads self.now result.now }
     {

@@ -12,7 +12,7 @@ pub const MAC_BYTES: usize = 20;
 /// The bytes of a MAC by SHA-256, of which a frame has the first 24.
 pub(crate) const MAC256_BYTES: usize = 32;
 
-/// The HMAC-SHA1 of these bytes under the key (RFC 2104, with FIPS 180-4's SHA-1).
+/// Returns the HMAC-SHA1 of these bytes under the key (RFC 2104, with FIPS 180-4's SHA-1).
 pub fn hmac(key: &Key, bytes: &[u8]) -> [u8; MAC_BYTES]
     ensures { result ≡ mac key.now bytes.now }
 {
@@ -20,7 +20,7 @@ pub fn hmac(key: &Key, bytes: &[u8]) -> [u8; MAC_BYTES]
     digest_behind(&pads.outer, &digest_behind(&pads.inner, bytes))
 }
 
-/// The HMAC-SHA-256 of these bytes under the key (RFC 2104, with FIPS 180-4's SHA-256).
+/// Returns the HMAC-SHA-256 of these bytes under the key (RFC 2104, with FIPS 180-4's SHA-256).
 pub fn hmac256(key: &Key, bytes: &[u8]) -> [u8; MAC256_BYTES]
     ensures { result ≡ mac256 key.now bytes.now }
 {
@@ -34,8 +34,8 @@ fn difference(a: &[u8], b: &[u8]) -> u8
     a.iter().zip(b).fold(0, |found, (x, y)| found | (x ^ y))
 }
 
-/// Whether two MACs are equal. It looks at all bytes, wherever the first difference is, so that the
-/// time tells nothing of it.
+/// Returns whether two MACs are equal. It compares all bytes, wherever the first difference is, so that the time does
+/// not show it.
 pub fn are_equal(a: &[u8], b: &[u8]) -> bool
     requires { length a.now ≡ length b.now }
     ensures answer { result ≡ bytes_eq a.now b.now }

@@ -1,4 +1,4 @@
-//! The hashes of a key, each behind one of the key's pads (RFC 2104, section 4).
+//! The hashes of a key, each after one of the key's pads (RFC 2104, section 4).
 ghost use Rattle.std.specs.Prelude.{◌≡◌, ◌≤◌, ◌-◌, ◌++◌, ℕ, List, length, replicate};
 ghost use Rattle.sha1.specs.Sha1.{sha1};
 ghost use Rattle.sha1.specs.Sha1 as first;
@@ -17,7 +17,8 @@ const INNER: u8 = 0x36;
 
 const OUTER: u8 = 0x5C;
 
-/// Each hash behind the inner pad of a key, and behind the outer one: what each MAC by this key begins with.
+/// The state of each hash after the inner pad of a key, and after the outer pad. Each MAC by this key starts from these
+/// states.
 #[derive(Drop)]
 pub(crate) struct Pads {
     pub(crate) inner: Sha1,
@@ -26,7 +27,7 @@ pub(crate) struct Pads {
     pub(crate) outer256: Sha256,
 }
 
-// The key's block: its bytes, then zeros.
+// Returns the key's block: its bytes, then zeros.
 fn block(key: &[u8]) -> [u8; BLOCK_BYTES]
     requires { length key.now ≤ BLOCK_BYTES }
     ensures { result ≡ block key.now }
@@ -47,7 +48,7 @@ fn pad(key: &[u8], with: u8) -> [u8; BLOCK_BYTES]
     pad
 }
 
-// SHA-1 that has taken these bytes.
+// Returns SHA-1 after these bytes.
 fn begun(bytes: &[u8]) -> Sha1
     ensures { first.Holds result bytes.now }
 {
@@ -56,7 +57,7 @@ fn begun(bytes: &[u8]) -> Sha1
     hasher
 }
 
-// SHA-256 that has taken these bytes.
+// Returns SHA-256 after these bytes.
 fn begun256(bytes: &[u8]) -> Sha256
     ensures { Holds256 result bytes.now }
 {
@@ -64,7 +65,7 @@ fn begun256(bytes: &[u8]) -> Sha256
 }
 
 impl Pads {
-    /// The hashes behind the pads of this key.
+    /// Returns the hashes after the pads of this key.
     pub(crate) fn new(key: &[u8]) -> Pads
         requires { length key.now ≤ BLOCK_BYTES }
         ensures { ArePads key.now result }
@@ -80,7 +81,7 @@ impl Pads {
     }
 }
 
-/// The SHA-1 digest of what this hash has taken, with these bytes behind it.
+/// Returns the SHA-1 digest of the bytes that this hash has processed, followed by these.
 pub(crate) fn digest_behind(taken: &Sha1, bytes: &[u8]) -> [u8; MAC_BYTES]
     ensures { (before : List ℕ) → first.Holds taken.now before → result ≡ sha1 (before ++ bytes.now) }
 {
@@ -89,7 +90,7 @@ pub(crate) fn digest_behind(taken: &Sha1, bytes: &[u8]) -> [u8; MAC_BYTES]
     hasher.finalize()
 }
 
-/// The SHA-256 digest of what this hash has taken, with these bytes behind it.
+/// Returns the SHA-256 digest of the bytes that this hash has processed, followed by these.
 pub(crate) fn digest256_behind(taken: &Sha256, bytes: &[u8]) -> [u8; MAC256_BYTES]
     ensures { (before : List ℕ) → Holds256 taken.now before → result ≡ sha256 (before ++ bytes.now) }
 {

@@ -4,7 +4,7 @@ ghost use Rattle.booth_keys.specs.Ring.{alone};
 
 use crate::key::Key;
 
-/// The hash by which the MAC of what is sent is made.
+/// The hash for the MACs of messages that a member sends.
 #[derive(Clone, Copy, PartialEq, Eq, Drop)]
 pub enum Hash {
     /// HMAC-SHA1, of 20 bytes.
@@ -16,16 +16,16 @@ pub enum Hash {
 /// The keys that a member has.
 #[derive(Drop)]
 pub struct Ring {
-    /// The key by which it seals what it sends.
+    /// The key with which it seals its messages.
     pub first: Key,
-    /// While the key is changed, the other one: what is sealed by it gets in as well.
+    /// The other key, while the key is changed: messages that are sealed with it are accepted as well.
     pub old: Option<Key>,
-    /// The hash by which it seals. What gets in does not depend on it.
+    /// The hash with which it seals. It makes no difference for the messages that are accepted.
     pub hash: Hash,
 }
 
 impl Ring {
-    /// The ring of one key, by which it seals with HMAC-SHA1.
+    /// Returns the ring with one key, which seals with HMAC-SHA1.
     pub fn of(key: Key) -> Ring
         ensures { result ≡ alone key }
     {
@@ -36,7 +36,7 @@ impl Ring {
         }
     }
 
-    /// An equal ring.
+    /// Returns an equal ring.
     pub fn copy(&self) -> Ring
         ensures { result ≡ self.now }
     {

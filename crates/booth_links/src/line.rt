@@ -84,7 +84,7 @@ impl Line {
         })
     }
 
-    /// Starts with this stream, which the system watches for bytes.
+    /// Starts a link over this stream. The system watches the stream for bytes.
     pub(crate) fn begin(&mut self, stream: TcpStream) {
         self.queue.clear();
         self.watch = Watch::Bytes;

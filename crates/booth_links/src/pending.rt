@@ -16,10 +16,10 @@ use std::io::ErrorKind;
 /// The most pending peers.
 pub(crate) const PENDING: usize = 512;
 
-/// How often peers that have waited for too long are looked for, in milliseconds.
+/// The time between two searches for peers that have waited for too long, in milliseconds.
 const SWEEP_MS: u64 = 1_000;
 
-/// The token of the first place. Those below are of the seats and of the listener.
+/// The token of the first place. The smaller tokens belong to the seats and the listener.
 pub(crate) const FIRST: usize = LINKS + 1;
 
 /// A connection that was accepted.

@@ -59,7 +59,7 @@ fn new_lines(alloc: Global) -> Result<Vec<Line>, AllocError> {
 }
 
 impl RealLinks {
-    /// Returns links before any place is opened. No peer reaches them.
+    /// Returns new links. No place is open yet, so no peer reaches them.
     pub fn new(rt: HostRuntime, alloc: Global) -> Result<RealLinks, AllocError>
         ensures unopened { IfOk result (λ links. links.entrance.listener ≡ None) }
         ensures turn { IfOk result (λ links. links.turn ≡ Turn.Links) }

@@ -39,7 +39,7 @@ ready_text tickets = codes "ready, tickets: " ++ decimal tickets
 abbrev pub of_ticket : List ℕ → List ℕ → List ℕ
 of_ticket name text = codes "ticket " ++ name ++ codes ": " ++ text
 
--- when a lease ends; that of a manual ticket has no end
+-- the text for the end of a lease; the lease of a manual ticket has no end
 abbrev pub end_text : ℕ → List ℕ
 end_text until =
     if until == NO_END then codes " without an end" else codes " until " ++ date_text (until / 1000) ++ codes " UTC"

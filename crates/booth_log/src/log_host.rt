@@ -1,4 +1,4 @@
-//! A host over any host that logs its calls.
+//! A host that logs its calls, over any other host.
 ghost use Rattle.std.specs.Prelude.{◌≡◌, ◌≤◌, [], ◌∷◌, IfOk, List, Option, length};
 ghost use Rattle.booth_host.specs.Past.{GrewBy};
 ghost use Rattle.booth_host.specs.Causes.{HasCause, HasReadCause};

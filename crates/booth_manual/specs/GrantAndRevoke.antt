@@ -73,7 +73,7 @@ finish_revoke setup view tried false = quiet (record view { sure = false })
 
 -- ---- after a write
 
--- the call that waits goes on with the result of its write
+-- the call that waits continues with the result of its write
 abbrev pub goes_on : Setup → ManualView → Call → Record → Bool → Outcome
 goes_on setup view calls.Grant tried ok = finish_grant setup view ok
 goes_on setup view calls.Again tried ok = finish_again view tried ok

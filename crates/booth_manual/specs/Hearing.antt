@@ -11,7 +11,8 @@ use Rattle.booth_manual.specs.declared.view.ManualView.{ManualView}
 use Rattle.booth_manual.specs.Messages.{is_same, tells_state}
 use Rattle.booth_manual.specs.Outcome.{Outcome, quiet, saying}
 
--- a member announces that it holds the ticket: it becomes the known holder, but not at the owner
+-- a member announces that it holds the ticket: the receiver then knows it as the holder, unless the receiver is the
+-- owner
 abbrev pub updated : ManualView → MemberId → ManualView
 updated view site = if view.owner then view else record view { shown = Some site }
 
@@ -23,8 +24,8 @@ is_shown (Some other) member = is_same other member
 abbrev pub revoked : ManualView → MemberId → ManualView
 revoked view site = if is_shown view.shown site then record view { shown = None } else view
 
--- a message of state names another member as the holder: it becomes the known holder if there was none, but not at
--- the owner
+-- a message of state names another member as the holder: the receiver then knows it as the holder if it knew none,
+-- unless the receiver is the owner
 abbrev pub learned : Setup → ManualView → MemberId → ManualView
 learned setup view leader =
     if is_none view.shown && not view.owner

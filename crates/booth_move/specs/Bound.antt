@@ -1,4 +1,4 @@
--- How many pairs a move may have before it ends.
+-- The number of pairs that a move may have before it ends.
 use Rattle.std.specs.Prelude.{◌≤◌, ◌+◌, ◌-◌, ◌*◌, ℕ, Bool, true, false}
 use Rattle.booth_talk.specs.declared.wait.TheConstants.{MOST_PAIRS}
 use Rattle.booth_move.specs.declared.deeds.MoveDeed.{MoveDeed}
@@ -7,7 +7,7 @@ use Rattle.booth_move.specs.declared.stage.Request.{Request}
 use Rattle.booth_move.specs.declared.stage.Stage.{Stage}
 use Rattle.booth_move.specs.declared.stage.Stage.TheVariants.{Opening, Revoking, Granting, Pausing, Ended}
 
--- the waits for the answer to one request: that for the first answer, and that for its outcome
+-- The waits for the answer to one request: the wait for the first answer, and the wait for its outcome.
 abbrev pub wait_left : Bool → ℕ → ℕ
 wait_left true pairs = MOST_PAIRS - pairs
 wait_left false pairs = MOST_PAIRS + (MOST_PAIRS - pairs)
@@ -15,7 +15,7 @@ wait_left false pairs = MOST_PAIRS + (MOST_PAIRS - pairs)
 abbrev pub request_left : Request → ℕ
 request_left last = wait_left last.begun last.pairs
 
--- the waits of a revoke that is sent on to the owner
+-- The waits of a revoke that is redirected to the owner.
 abbrev pub on_left : Bool → ℕ
 on_left true = 0
 on_left false = 2 * MOST_PAIRS

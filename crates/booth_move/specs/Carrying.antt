@@ -37,13 +37,13 @@ setup_of moving = record {
   wait = moving.wait;
 }
 
--- ---- what is sent
+-- ---- the messages of requests
 
 abbrev pub cmd_of : Asks → Cmd
 cmd_of asks.Revoke = CRvk
 cmd_of asks.Grant = CGnt
 
--- the message of a request, except its time and MAC
+-- The message of a request, except its time and MAC.
 abbrev pub request : Moving → Asks → ℕ → PlainMessage
 request moving what number = record {
   head = record {
@@ -60,19 +60,19 @@ request moving what number = record {
   content = Ticket (asked_part moving.ticket);
 }
 
--- the bytes of a request with this number that is sent at this reading
+-- The bytes of a request with this number that is sent at this reading.
 abbrev pub request_bytes : Moving → Asks → ℕ → ℕ → List ℕ
 request_bytes moving what number start = sealed moving.ring (stamped moving.ring start (request moving what number))
 
--- the address at which the member at a place listens
+-- The address at which the member at a place listens.
 abbrev pub member_peer : Moving → ℕ → Option Place
 member_peer moving place = option_map (peer_at moving.config) (slice_get moving.config.members place)
 
 abbrev pub sending_to : Asks → ℕ → Place → Sending
 sending_to what number to = record { to = to; what = what; number = number }
 
--- the message for an action: the first revoke goes to the member that is asked for the ticket, and the others to
--- members by their places
+-- The message for an action. The first revoke goes to the member that is asked for the ticket. Every other request
+-- goes to a member by its place.
 abbrev pub sent_for : Moving → MoveDeed → Option Sending
 sent_for moving deeds.Nothing = None
 sent_for moving (deeds.Revoke None number) = Some (sending_to asks.Revoke number moving.to)
@@ -81,34 +81,34 @@ sent_for moving (deeds.Revoke (Some place) number) =
 sent_for moving (deeds.Grant number) = option_map (sending_to asks.Grant number) (member_peer moving moving.target)
 sent_for moving (deeds.End end) = None
 
--- the call that sends it at a reading
+-- The call that sends the message at a reading.
 abbrev pub send_call : Moving → ℕ → Sending → Result Unit Failed → Entry
 send_call moving start s answer = Send s.to (request_bytes moving s.what s.number start) answer
 
 -- ---- replies
 
--- the message has the right MAC, if there is a key, and answers the last request
+-- The message, if it has the right MAC (if there is a key) and answers the last request.
 abbrev pub answer_read : Moving → Stage → List ℕ → Result PlainMessage FrameFault → Option PlainMessage
 answer_read moving stage bytes (Ok m) =
     if is_signed moving.ring m.head bytes && is_answer (setup_of moving) stage m then Some m else None
 answer_read moving stage bytes (Err fault) = None
 
--- the answer in these bytes, if they are one
+-- The answer in these bytes, if they are one.
 unfoldable pub answer_in : Moving → Stage → List ℕ → Option PlainMessage
 answer_in moving stage bytes = answer_read moving stage bytes (decoded bytes)
 
--- the answer in an arrival; only a datagram has one
+-- The answer in an arrival. Only a datagram has one.
 abbrev pub answer_at : Moving → Stage → Result Arrival Failed → List ℕ → Option PlainMessage
 answer_at moving stage (Ok (Datagram peer)) bytes = answer_in moving stage bytes
 answer_at moving stage answer bytes = None
 
--- a pair of calls, as the move receives it
+-- A pair of calls, as the move receives it.
 abbrev pub told : Moving → Stage → CallPair → Pair
 told moving stage p = record { reading = p.reading; reply = answer_at moving stage p.answer p.bytes }
 
 -- ---- the calls
 
--- the send for an action, if the action is one and the send did not fail
+-- The send for an action, if the action has a message. The send succeeded.
 abbrev pub sends : Moving → ℕ → Option Sending → List Entry
 sends moving start None = []
 sends moving start (Some s) = send_call moving start s (Ok tt) ∷ []
@@ -116,19 +116,19 @@ sends moving start (Some s) = send_call moving start s (Ok tt) ∷ []
 abbrev pub step_at : Moving → Stage → CallPair → Step
 step_at moving stage p = move_step (setup_of moving) stage (told moving stage p)
 
--- the calls of these pairs from a stage, and the sends between them
+-- The calls of these pairs from a stage on, with the sends between them.
 unfoldable pub calls_from : Moving → Stage → List CallPair → List Entry
 calls_from moving stage [] = []
 calls_from moving stage (p ∷ ps) =
     let step : Step = step_at moving stage p in
     (calls_of p ++ sends moving p.reading (sent_for moving step.deed)) ++ calls_from moving step.stage ps
 
--- the stage that these pairs lead to
+-- The stage after these pairs.
 unfoldable pub stage_from : Moving → Stage → List CallPair → Stage
 stage_from moving stage [] = stage
 stage_from moving stage (p ∷ ps) = stage_from moving (step_at moving stage p).stage ps
 
--- the calls of a move that goes on after these pairs, and its stage
+-- The calls of a move that continues after these pairs.
 abbrev pub calls_so_far : Moving → ℕ → List CallPair → List Entry
 calls_so_far moving start pairs =
     sends moving start (sent_for moving (opens start).deed) ++ calls_from moving (opens start).stage pairs
@@ -143,7 +143,7 @@ pub record IsFinished (moving : Moving) (start : ℕ) (end : MoveEnd) (entries :
   pub whole : entries ≡ calls_so_far moving start pairs ++ calls_of last
   pub is : (step_at moving (stage_so_far moving start pairs) last).deed ≡ deeds.End end
 
--- a request could not be sent: that of the start, or one that follows a pair
+-- A request could not be sent: the request of the start, or a request after a pair.
 pub record IsUnopened (moving : Moving) (start : ℕ) (failed : Failed) (entries : List Entry) : Type 0 where
   pub s : Sending
   pub is : sent_for moving (opens start).deed ≡ Some s
@@ -165,37 +165,37 @@ IsCarried moving start (Err failed) entries =
 
 -- ---- in the code
 
--- the calls for an action, with this message if there is one
+-- The calls for an action, with this message if there is one.
 abbrev pub IsSent : Moving → ℕ → Option Sending → Result Unit Failed → List Entry → Type 0
 IsSent moving start None (Ok done) entries = entries ≡ []
 IsSent moving start (Some s) answer entries = entries ≡ send_call moving start s answer ∷ []
 IsSent moving start None (Err failed) entries = ⊥
 
--- the calls of this many pairs, after which the move is at this stage
+-- The calls of this many pairs, after which the move is at this stage.
 pub record IsUnderway (moving : Moving) (start : ℕ) (stage : Stage) (count : ℕ) (entries : List Entry) : Type 0 where
   pub pairs : List CallPair
   pub number : length pairs ≡ count
   pub stands : stage_so_far moving start pairs ≡ stage
   pub whole : entries ≡ calls_so_far moving start pairs
 
--- the end, if the action is one
+-- The end, if the action is one.
 abbrev pub end_of : MoveDeed → Option MoveEnd
 end_of (deeds.End end) = Some end
 end_of deed = None
 
--- the calls of one pair after which the move goes on, with what is sent then
+-- The calls of one pair after which the move continues, with the send for its action.
 pub record IsGoneOn (moving : Moving) (old new : Stage) (entries : List Entry) : Type 0 where
   pub p : CallPair
   pub stands : new ≡ (step_at moving old p).stage
   pub whole : entries ≡ calls_of p ++ sends moving p.reading (sent_for moving (step_at moving old p).deed)
 
--- the calls of the last pair
+-- The calls of the last pair.
 pub record IsLast (moving : Moving) (old : Stage) (end : MoveEnd) (entries : List Entry) : Type 0 where
   pub p : CallPair
   pub is : (step_at moving old p).deed ≡ deeds.End end
   pub whole : entries ≡ calls_of p
 
--- the calls of a pair after which the send failed
+-- The calls of a pair after which the send failed.
 pub record IsStuck (moving : Moving) (old : Stage) (failed : Failed) (entries : List Entry) : Type 0 where
   pub p : CallPair
   pub s : Sending
@@ -207,7 +207,7 @@ IsPair moving old new (Ok None) entries = IsGoneOn moving old new entries
 IsPair moving old new (Ok (Some end)) entries = IsLast moving old end entries
 IsPair moving old new (Err failed) entries = IsStuck moving old failed entries
 
--- if the move goes on, it has fewer pairs left
+-- If the move continues, it has fewer pairs left.
 abbrev pub Goes : Stage → Result (Option MoveEnd) Failed → Stage → Type 0
 Goes old (Ok None) new = 1 ≤ pairs_left old → (1 ≤ pairs_left new) × (pairs_left new + 1 ≤ pairs_left old)
 Goes old result new = Unit {0}

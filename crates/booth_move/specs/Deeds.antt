@@ -1,4 +1,4 @@
--- What follows a pair at each stage of a move, and the actions of a move.
+-- The action and the stage after a pair at each stage of a move, and the actions of a move.
 use Rattle.std.specs.Prelude.{ℕ, Bool, true, false, not, ◌+◌, ◌%◌, ◌^◌, ◌&&◌, ◌==◌, nat_lt, List, [], ◌∷◌}
 use Rattle.std.specs.Prelude.{Option, Some, None, if◌then◌else◌}
 use Rattle.booth_wire.specs.declared.codes.results.TheConstants.{SUCCESS, ASYN, BUSY, REDR}
@@ -24,23 +24,23 @@ no_deed stage = record { deed = deeds.Nothing; stage = stage }
 abbrev pub ends : MoveEnd → Step
 ends end = record { deed = deeds.End end; stage = Ended }
 
--- the revoke is sent for the first time, to the same member as by `booth revoke`
+-- The revoke is sent for the first time, to the same member as by `booth revoke`.
 abbrev pub opens : ℕ → Step
 opens start = record { deed = deeds.Revoke None (number_of start); stage = Revoking (request_at start) false }
 
 -- ---- the revoke
 
--- the revoke is sent to the member that the reply named as the owner, as a new request
+-- The revoke is redirected to the member that the reply named as the owner, as a new request.
 abbrev pub sends_on : ℕ → ℕ → Step
 sends_on place reading =
     record { deed = deeds.Revoke (Some place) (number_of reading); stage = Revoking (request_at reading) true }
 
--- the place of the member that the reply named as the owner; the revoke is sent on once
+-- The place of the member that the reply named as the owner. The revoke is redirected once only.
 abbrev pub followed : List ℕ → Bool → Reply → Option ℕ
 followed ids sent_on reply =
     if not sent_on && reply.result == REDR then place_of reply.leader ids else None
 
--- the grant with this number is sent, after this many repeats
+-- The grant with this number is sent, after this many repeats.
 abbrev pub grants : ℕ → ℕ → ℕ → Step
 grants number reading repeats =
     record { deed = deeds.Grant number; stage = Granting (sent number reading) repeats }
@@ -62,21 +62,21 @@ while_revoking ids sent_on reading (Came reply) = revoke_answered ids sent_on re
 
 -- ---- the grant
 
--- the next request number, which is 0 after the last
+-- The next request number, which is 0 after the last.
 abbrev pub next_number : ℕ → ℕ
 next_number number = (number + 1) % 2 ^ 32
 
--- the grant is sent again
+-- The grant is sent again.
 abbrev pub repeats_grant : Request → ℕ → ℕ → Step
 repeats_grant last repeats reading = grants (next_number last.number) reading (repeats + 1)
 
--- The target is busy. The pair with this answer may have the reading at which the grant is repeated.
+-- The target is busy. If the reading of this answer is late enough, the grant is repeated at once.
 abbrev pub rests : Request → ℕ → ℕ → Step
 rests last repeats reading =
     if is_rested last reading then repeats_grant last repeats reading
     else no_deed (Pausing (record last { pairs = 0 }) repeats)
 
--- the grant has an answer
+-- The grant has an answer.
 abbrev pub grant_answered : Request → ℕ → ℕ → Reply → Step
 grant_answered last repeats reading reply =
     if reply.result == SUCCESS then ends Moved
@@ -95,15 +95,15 @@ abbrev pub pauses_on : Option Request → ℕ → Step
 pauses_on (Some last) repeats = no_deed (Pausing last repeats)
 pauses_on None repeats = ends NoReply
 
--- The target is left alone, and replies are ignored. At the first reading that is late enough the grant is repeated,
--- with the next number and this reading as its start.
+-- The move sends the target nothing, and ignores replies. At the first reading that is late enough, it repeats the
+-- grant, with the next number and this reading as its start.
 abbrev pub while_pausing : Request → ℕ → ℕ → Step
 while_pausing last repeats reading =
     if is_rested last reading then repeats_grant last repeats reading else pauses_on (one_more last) repeats
 
 -- ---- all stages
 
--- what follows a pair
+-- The action and the stage after a pair.
 abbrev pub move_step : MoveSetup → Stage → Pair → Step
 move_step setup (Opening start) p = opens start
 move_step setup (Revoking last sent_on) p =
@@ -113,18 +113,18 @@ move_step setup (Granting last repeats) p =
 move_step setup (Pausing last repeats) p = while_pausing last repeats p.reading
 move_step setup Ended p = no_deed Ended
 
--- the actions to which these pairs lead from a stage, one for each pair
+-- The actions of these pairs from a stage on, one for each pair.
 unfoldable pub deeds_from : MoveSetup → Stage → List Pair → List MoveDeed
 deeds_from setup stage [] = []
 deeds_from setup stage (p ∷ ps) =
     let step : Step = move_step setup stage p in step.deed ∷ deeds_from setup step.stage ps
 
--- The actions of a move that starts at this reading, one for each pair. The first is that of the start, whatever its
--- pair has.
+-- The actions of a move that starts at this reading, one for each pair. The first is the action of the start,
+-- whatever its pair has.
 abbrev pub move_deeds : MoveSetup → ℕ → List Pair → List MoveDeed
 move_deeds setup start pairs = deeds_from setup (Opening start) pairs
 
--- the stage to which these pairs lead from a stage
+-- The stage after these pairs, from a stage on.
 unfoldable pub stage_after : MoveSetup → Stage → List Pair → Stage
 stage_after setup stage [] = stage
 stage_after setup stage (p ∷ ps) = stage_after setup (move_step setup stage p).stage ps

@@ -1,4 +1,4 @@
--- What holds for the actions of every move.
+-- Laws of the actions of every move.
 use Rattle.std.specs.Prelude.{◌≡◌, ◌≢◌, ◌≤◌, ◌+◌, ◌*◌, ◌++◌, ◌⊎◌, ℕ, true, false, List, [], ◌∷◌, length, map, position, Some, None, IfSome}
 use Rattle.std.specs.Prelude.{Bool, T}
 use Rattle.booth_base.specs.declared.address.MemberId.{MemberId}
@@ -20,21 +20,21 @@ use Rattle.booth_move.specs.Deeds.{move_deeds, move_step, next_number, stage_aft
 use Rattle.booth_move.specs.Move.{IsSoundStage, MoveSetup, Pair, id_number, is_answer, is_reply_to, place_of}
 use Rattle.booth_move.specs.Rows.{Brings, Follows}
 
--- ---- how often
+-- ---- the number of requests
 
--- the places to which the revoke is sent on, in order
+-- The places to which the revoke is redirected, in order.
 abbrev pub redirections : List MoveDeed → List ℕ
 redirections [] = []
 redirections (deeds.Revoke (Some place) number ∷ ds) = place ∷ redirections ds
 redirections (d ∷ ds) = redirections ds
 
--- the numbers of the grants, in order
+-- The numbers of the grants, in order.
 abbrev pub grants_of : List MoveDeed → List ℕ
 grants_of [] = []
 grants_of (deeds.Grant number ∷ ds) = number ∷ grants_of ds
 grants_of (d ∷ ds) = grants_of ds
 
--- The revoke is sent on at most once, and the grant is sent at most eleven times.
+-- The revoke is redirected at most once, and the grant is sent at most eleven times.
 pub record AsksSeldom : Type 0 where
   pub once : (setup : MoveSetup) (start : ℕ) (pairs : List Pair) →
       length (redirections (move_deeds setup start pairs)) ≤ 1
@@ -43,7 +43,7 @@ pub record AsksSeldom : Type 0 where
 
 -- ---- numbers
 
--- each number is the next after the one before it
+-- Each number is the next after the number before it.
 abbrev pub IsRisingFrom : ℕ → List ℕ → Type 0
 IsRisingFrom number [] = Unit {0}
 IsRisingFrom number (next ∷ rest) = (next ≡ next_number number) × IsRisingFrom next rest
@@ -52,7 +52,7 @@ abbrev pub IsRising : List ℕ → Type 0
 IsRising [] = Unit {0}
 IsRising (first ∷ rest) = IsRisingFrom first rest
 
--- The number of each repeated grant is the next after that of the grant before it.
+-- The number of each repeated grant is the next after the number of the grant before it.
 abbrev pub NumbersRise : Type 0
 NumbersRise = (setup : MoveSetup) (start : ℕ) (pairs : List Pair) → IsRising (grants_of (move_deeds setup start pairs))
 
@@ -66,7 +66,7 @@ are_nothing (d ∷ ds) = false
 abbrev pub AreNothing : List MoveDeed → Type 0
 AreNothing ds = T (are_nothing ds)
 
--- nothing comes after an end
+-- No action comes after an end.
 abbrev pub EndsOnce : List MoveDeed → Type 0
 EndsOnce [] = Unit {0}
 EndsOnce (deeds.End end ∷ ds) = AreNothing ds
@@ -83,8 +83,9 @@ has_end (d ∷ ds) = has_end ds
 abbrev pub HasEnd : List MoveDeed → Type 0
 HasEnd ds = T (has_end ds)
 
--- The most pairs before the end. The first is that of the start. There are at most two revokes, eleven grants and ten
--- pauses; a request has two waits, since the move may wait for its outcome after it was begun.
+-- The greatest number of pairs before the end. The first is the pair of the start. There are at most two revokes,
+-- eleven grants and ten pauses. A request has two waits, because the move may wait for its outcome after it was
+-- begun.
 abbrev pub most_pairs : ℕ
 most_pairs = 1 + (2 * 2 + 11 * 2 + 10) * MOST_PAIRS
 
@@ -95,13 +96,13 @@ EveryMoveEnds = (setup : MoveSetup) (start : ℕ) (pairs : List Pair) →
 
 -- ---- the reply after which the grant is allowed
 
--- each reply that the move receives answers its last request
+-- Each reply that the move receives answers its last request.
 abbrev pub AreAnswers : MoveSetup → Stage → List Pair → Type 0
 AreAnswers setup stage [] = Unit {0}
 AreAnswers setup stage (p ∷ ps) =
     IfSome p.reply (λ m. is_answer setup stage m ≡ true) × AreAnswers setup (move_step setup stage p).stage ps
 
--- a reply to the revoke with this number, with result 0
+-- The pair has a reply to the revoke with this number, with result 0.
 pub record IsRevoked (setup : MoveSetup) (number : ℕ) (p : Pair) : Type 0 where
   pub m : PlainMessage
   pub is : p.reply ≡ Some m
@@ -117,15 +118,15 @@ GrantsAfterReply setup revoke (p ∷ ps) (deeds.Revoke to number ∷ ds) = Grant
 GrantsAfterReply setup revoke (p ∷ ps) (deeds.Grant number ∷ ds) = IsRevoked setup revoke p
 GrantsAfterReply setup revoke (p ∷ ps) (d ∷ ds) = GrantsAfterReply setup revoke ps ds
 
--- No grant is sent before the reply that the ticket was released, and none at all without that reply.
+-- A grant is sent only after the reply that the ticket was released, and never without that reply.
 abbrev pub GrantsAreLet : Type 0
 GrantsAreLet = (setup : MoveSetup) (start : ℕ) (pairs : List Pair) → AreAnswers setup (Opening start) pairs →
     GrantsAfterReply setup (number_of start) pairs (move_deeds setup start pairs)
 
--- ---- how it ends
+-- ---- the end of a move, by its reply
 
--- The revoke's last reply, which is not 0, does not tell the move to wait, and is not a first one that names another
--- member as the owner.
+-- The last reply to the revoke has this result, which is not 0. The move does not have to wait after the reply, and the
+-- reply is not a first one that names another member as the owner.
 pub record RefusedBy (setup : MoveSetup) (grants sent_on : ℕ) (p : Pair) (result : ℕ) : Type 0 where
   pub m : PlainMessage
   pub is : p.reply ≡ Some m
@@ -135,8 +136,8 @@ pub record RefusedBy (setup : MoveSetup) (grants sent_on : ℕ) (p : Pair) (resu
   pub not_followed : result ≡ REDR → (1 ≤ sent_on) ⊎ (place_of (leader_in m.content) setup.ids ≡ None)
   pub no_grant : grants ≡ 0
 
--- The grant's last reply, which is neither 0 nor that it was begun, nor that a target is busy which may be asked
--- again.
+-- The last reply to the grant has this result. The result is not 0, and not that the grant was begun; nor is the
+-- target busy while the grant may still be repeated.
 pub record StrandedBy (grants : ℕ) (p : Pair) (result : ℕ) : Type 0 where
   pub brings : Brings result p
   pub not_done : result ≢ SUCCESS
@@ -144,7 +145,7 @@ pub record StrandedBy (grants : ℕ) (p : Pair) (result : ℕ) : Type 0 where
   pub granted : 1 ≤ grants
   pub often : result ≡ BUSY → grants ≡ 11
 
--- The reply that ends the move, after this many grants and after the revoke was sent on this often. The table says
+-- The reply that ends the move, after this many grants and this many redirections of the revoke. The table defines
 -- when a wait is over.
 abbrev pub IsEndedBy : MoveSetup → ℕ → ℕ → Pair → MoveEnd → Type 0
 IsEndedBy setup grants sent_on p Moved = Brings SUCCESS p × (1 ≤ grants)
@@ -153,7 +154,7 @@ IsEndedBy setup grants sent_on p (Refused result) = RefusedBy setup grants sent_
 IsEndedBy setup grants sent_on p (Stranded result) = StrandedBy grants p result
 IsEndedBy setup grants sent_on p NoReply = Unit {0}
 
--- the reply that ended the move, for each end among these actions
+-- The reply that ended the move, for each end among these actions.
 abbrev pub EndsByReply : MoveSetup → ℕ → ℕ → List Pair → List MoveDeed → Type 0
 EndsByReply setup grants sent_on [] ds = Unit {0}
 EndsByReply setup grants sent_on (p ∷ ps) [] = Unit {0}
@@ -163,21 +164,21 @@ EndsByReply setup grants sent_on (p ∷ ps) (deeds.Revoke (Some place) number �
     EndsByReply setup grants (sent_on + 1) ps ds
 EndsByReply setup grants sent_on (p ∷ ps) (d ∷ ds) = EndsByReply setup grants sent_on ps ds
 
--- Each end comes with its reply.
+-- Each end of a move reports the reply that arrived with it.
 abbrev pub EndsAreTold : Type 0
 EndsAreTold = (setup : MoveSetup) (start : ℕ) (pairs : List Pair) →
     EndsByReply setup 0 0 pairs (move_deeds setup start pairs)
 
 -- ---- each step
 
--- Each step is a row of the table, and leads to a stage for which this holds again.
+-- Each step is a row of the table, and leads to a sound stage again.
 pub record StepsAreRows : Type 0 where
   pub row : (setup : MoveSetup) (stage : Stage) (p : Pair) → IsSoundStage stage →
       Follows setup stage p (move_step setup stage p).deed (move_step setup stage p).stage
   pub sound : (setup : MoveSetup) (stage : Stage) (p : Pair) → IsSoundStage stage →
       IsSoundStage (move_step setup stage p).stage
 
--- Steps one after the other give the actions of a move, one for each pair, and the first sends the revoke.
+-- Steps one after the other give the actions of a move, one for each pair. The first step sends the revoke.
 pub record StepsMakeDeeds : Type 0 where
   pub first : (setup : MoveSetup) (start : ℕ) (p : Pair) →
       move_deeds setup start (p ∷ []) ≡ deeds.Revoke None (number_of start) ∷ []
@@ -192,7 +193,7 @@ pub record StepsMakeDeeds : Type 0 where
 
 -- ---- places
 
--- A place among the members' ids is that of the member with this id in the configuration.
+-- A place among the members' ids is the place of the member with this id in the configuration.
 abbrev pub PlacesAreMembers : Type 0
 PlacesAreMembers = (members : List Member) (id : MemberId) →
     place_of id (map id_number members) ≡ position (has_id id) members

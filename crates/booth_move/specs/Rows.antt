@@ -1,4 +1,4 @@
--- The action and the stage after a pair: a table of all cases, by what the pair has.
+-- The action and the stage after a pair: a table of all cases, by the content of the pair.
 use Rattle.std.specs.Prelude.{◌≡◌, ◌≢◌, ◌<◌, ◌≤◌, ◌+◌, ◌⊎◌, ℕ, Bool, true, false, Some, None}
 use Rattle.booth_wire.specs.declared.codes.results.TheConstants.{SUCCESS, ASYN, BUSY, REDR}
 use Rattle.booth_wire.specs.PlainMessage.{PlainMessage}
@@ -20,59 +20,59 @@ use Rattle.booth_move.specs.declared.waiting.TheConstants.{PAUSE}
 
 -- ---- the content of a pair
 
--- a reply with this result
+-- The pair has a reply with this result.
 pub record Brings (result : ℕ) (p : Pair) : Type 0 where
   pub m : PlainMessage
   pub is : p.reply ≡ Some m
   pub with : m.head.result ≡ result
 
--- a reply with the member at this place as the owner
+-- The pair has a reply that names the member at this place as the owner.
 pub record Names (setup : MoveSetup) (place : ℕ) (p : Pair) : Type 0 where
   pub m : PlainMessage
   pub is : p.reply ≡ Some m
   pub with : m.head.result ≡ REDR
   pub there : place_of (leader_in m.content) setup.ids ≡ Some place
 
--- no reply, at a reading that is not too late
+-- The pair has no reply, and its reading is not too late.
 pub record IsSilent (last : Request) (p : Pair) : Type 0 where
   pub none : p.reply ≡ None
   pub early : last.begun ≡ false → p.reading ≤ last.start + PATIENCE
 
--- no reply, at a reading that is too late for a first answer
+-- The pair has no reply, and its reading is too late for a first answer.
 pub record IsLate (last : Request) (p : Pair) : Type 0 where
   pub none : p.reply ≡ None
   pub first : last.begun ≡ false
   pub late : last.start + PATIENCE < p.reading
 
--- the reply that the request was begun, for a move that waits for the outcome
+-- The pair has the reply that the request was begun, for a move that waits for the outcome.
 pub record IsBegun (wait : Bool) (p : Pair) : Type 0 where
   pub brings : Brings ASYN p
   pub waits : wait ≡ true
 
 -- ---- waits
 
--- no answer came: no reply, or once more the reply that the request was begun
+-- The pair has no answer: it has no reply, or it repeats the reply that the request was begun.
 abbrev pub HasNoAnswer : Bool → Request → Pair → Type 0
 HasNoAnswer wait last p = IsSilent last p ⊎ ((last.begun ≡ true) × IsBegun wait p)
 
--- The wait goes on: by one more pair, or, after the first reply that the request was begun, by further pairs.
+-- The wait continues: by one more pair, or, after the first reply that the request was begun, by further pairs.
 abbrev pub GoesOn : Bool → Request → Pair → Request → Type 0
 GoesOn wait last p next =
     (HasNoAnswer wait last p × (last.pairs + 1 < MOST_PAIRS) × (next ≡ record last { pairs = last.pairs + 1 }))
     ⊎ (IsBegun wait p × (last.begun ≡ false) × (next ≡ record last { pairs = 0; begun = true }))
 
--- the wait ends without an answer
+-- The wait ends without an answer.
 abbrev pub Expires : Bool → Request → Pair → Type 0
 Expires wait last p = IsLate last p ⊎ (HasNoAnswer wait last p × (last.pairs + 1 ≡ MOST_PAIRS))
 
 -- ---- requests
 
--- a new request: its start is the pair's reading, and its number is that of the start
+-- A new request that starts at the pair's reading. Its number is the one that belongs to the reading.
 pub record IsNew (p : Pair) (number : ℕ) (next : Request) : Type 0 where
   pub number_is : number ≡ number_of p.reading
   pub is : next ≡ sent number p.reading
 
--- the grant once more: with the next number, at a reading that is late enough
+-- The grant is repeated: with the next number, at a reading that is late enough.
 pub record IsRepeat (p : Pair) (last : Request) (repeats number : ℕ) (next : Request) (again : ℕ) : Type 0 where
   pub rested : last.start + PAUSE ≤ p.reading
   pub fewer : repeats < REPEATS
@@ -82,8 +82,8 @@ pub record IsRepeat (p : Pair) (last : Request) (repeats number : ℕ) (next : R
 
 -- ---- ends
 
--- The revoke's last reply has this result, and nothing else follows it: a named owner is not followed if the revoke
--- was sent on before, or if the owner is no member.
+-- The last reply to the revoke has this result, and no other action follows it. The move does not follow a named
+-- owner if the revoke was redirected before, or if the owner is no member.
 pub record IsRefused (setup : MoveSetup) (sent_on : Bool) (p : Pair) (result : ℕ) : Type 0 where
   pub m : PlainMessage
   pub is : p.reply ≡ Some m
@@ -92,7 +92,7 @@ pub record IsRefused (setup : MoveSetup) (sent_on : Bool) (p : Pair) (result : �
   pub not_begun : result ≡ ASYN → setup.wait ≡ false
   pub not_followed : result ≡ REDR → (sent_on ≡ true) ⊎ (place_of (leader_in m.content) setup.ids ≡ None)
 
--- the grant's last reply has this result, and nothing else follows it
+-- The last reply to the grant has this result, and no other action follows it.
 pub record IsStranded (repeats : ℕ) (p : Pair) (result : ℕ) : Type 0 where
   pub brings : Brings result p
   pub not_done : result ≢ SUCCESS
@@ -117,7 +117,7 @@ EndsPause last p end = ⊥
 
 -- ---- the table
 
--- The action and the stage after a pair at a stage. There are no others.
+-- The action and the stage after a pair at a stage. There are no other cases.
 abbrev pub Follows : MoveSetup → Stage → Pair → MoveDeed → Stage → Type 0
 Follows setup (Opening start) p (deeds.Revoke None number) (Revoking next on) =
     (number ≡ number_of start) × (next ≡ sent number start) × (on ≡ false)

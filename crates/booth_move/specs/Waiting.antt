@@ -12,17 +12,17 @@ use Rattle.booth_move.specs.declared.waiting.Waits.TheVariants.{On, Over, Came}
 
 -- ---- requests
 
--- a request with this number that was just sent
+-- A request with this number that was just sent.
 abbrev pub sent : ℕ → ℕ → Request
 sent number reading = record { number = number; start = reading; pairs = 0; begun = false }
 
--- a new request: its start is the reading, and its number is that of the start
+-- A new request that starts at this reading. Its number is the one that belongs to the reading.
 abbrev pub request_at : ℕ → Request
 request_at reading = sent (number_of reading) reading
 
 -- ---- waits
 
--- one more pair without an answer, or none if it was the last
+-- The request after one more pair without an answer, or none if the pair was the last.
 abbrev pub one_more : Request → Option Request
 one_more last = if last.pairs + 1 == MOST_PAIRS then None else Some (record last { pairs = last.pairs + 1 })
 
@@ -30,12 +30,12 @@ abbrev pub waits_on : Option Request → Waits
 waits_on None = Over
 waits_on (Some last) = On last
 
--- The reply says that the request was begun. After the first such reply there are further pairs, without a limit of
--- time; a later one counts as a pair without an answer.
+-- The wait after a reply that the request was begun. After the first reply of this kind there are further pairs,
+-- without a limit of time. A later one counts as a pair without an answer.
 abbrev pub passed_over : Request → Waits
 passed_over last = if last.begun then waits_on (one_more last) else On (record last { pairs = 0; begun = true })
 
--- the reading is past the wait for the first answer
+-- The reading is past the wait for the first answer.
 abbrev pub is_late : Request → ℕ → Bool
 is_late last reading = not last.begun && nat_lt (last.start + PATIENCE) reading
 
@@ -48,6 +48,6 @@ judged wait last reading (Some m) =
 
 -- ---- pauses
 
--- the reading is late enough to repeat the grant
+-- The reading is late enough to repeat the grant.
 abbrev pub is_rested : Request → ℕ → Bool
 is_rested last reading = nat_le (last.start + PAUSE) reading

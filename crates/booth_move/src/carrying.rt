@@ -20,8 +20,8 @@ use booth_talk::MOST_PAIRS;
 use booth_wire::{Body, Cmd, Frame, Head, Message, TicketPart, decode, options};
 use std::alloc::{AllocError, Global};
 
-/// The most pairs of a move after its start: those of two revokes, eleven grants and ten pauses. A request has two
-/// waits.
+/// The greatest number of pairs of a move after its start: the pairs of two revokes, eleven grants and ten pauses. A
+/// request has two waits.
 const MOVE_PAIRS: u64 = 36 * MOST_PAIRS;
 
 /// A move, and the cluster in which it is made.
@@ -30,7 +30,7 @@ pub struct Moving {
     pub config: Config,
     pub ring: Option<Ring>,
     pub ticket: Name,
-    /// The place of the site that the ticket is moved to.
+    /// The place of the site to which the ticket is moved.
     pub target: usize,
     /// Whether the move waits for outcomes.
     pub wait: bool,
@@ -243,7 +243,7 @@ fn end_of(deed: MoveDeed) -> Option<MoveEnd>
     }
 }
 
-// Makes one pair of calls, and sends what follows. Returns the end, if the move has reached it.
+// Makes one pair of calls, and sends the message for the next action. Returns the end, if the move has reached it.
 fn one_pair<H: Host>(
     moving: &Moving,
     mover: &mut Mover,
@@ -273,7 +273,7 @@ fn one_pair<H: Host>(
 ///
 /// # Errors
 ///
-/// `Failed` only if a request could not be sent.
+/// Returns `Failed` only if a request could not be sent.
 pub fn carry_out<H: Host>(
     moving: &Moving,
     start: u64,

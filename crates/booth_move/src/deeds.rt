@@ -1,6 +1,6 @@
-//! The next action of a move, and how it ends.
+//! The next action of a move, and its end.
 
-/// How a move ended.
+/// The end of a move.
 #[derive(Clone, Copy, PartialEq, Eq)]
 pub enum MoveEnd {
     /// The ticket was granted to the target.

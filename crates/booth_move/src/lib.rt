@@ -1,4 +1,4 @@
-//! A planned move of a ticket from one site to another: its next request, its messages and replies, and how it ended.
+//! A planned move of a ticket from one site to another: its next request, its messages and replies, and its end.
 #![tactic(auto)]
 
 mod carrying;

@@ -1,4 +1,4 @@
-//! A move as its caller sees it: started once, and then given each pair.
+//! A move for its caller: it is started once, and then given each pair.
 ghost use Rattle.std.specs.Prelude.{◌≡◌, ◌≤◌, true, length, IfSome, IsSomeAnd, IsTrue, map, option_map, slice_get};
 ghost use Rattle.booth_base.specs.declared.limits.TheConstants.{MEMBERS};
 ghost use Rattle.booth_wire.specs.PlainMessage.{plain_of};
@@ -98,7 +98,7 @@ impl Mover {
         &self.ticket
     }
 
-    /// Returns the place of the site that the ticket is moved to.
+    /// Returns the place of the site to which the ticket is moved.
     pub fn target(&self) -> usize
         ensures value { result ≡ self.now.setup.target }
         ensures sound { IsSoundSetup self.now.setup }
@@ -106,8 +106,8 @@ impl Mover {
         self.target
     }
 
-    /// Returns whether a reply answers the last request: it answers its command, has its number, and comes from a
-    /// member. Before the first request none does, and after the end it does not matter.
+    /// Returns whether a reply answers the last request: it answers the request's command, has its number, and comes
+    /// from a member. Before the first request no reply does, and after the end it does not matter.
     pub fn is_answer(&self, reply: &Message<'_>) -> bool
         ensures { result ≡ is_answer self.now.setup self.now.stage (plain_of reply.now) }
     {
@@ -121,7 +121,7 @@ impl Mover {
         }
     }
 
-    // Returns what follows this pair.
+    // Returns the action and the stage after this pair.
     fn next(&self, now: u64, reply: Option<&Message<'_>>) -> Step
         ensures { result ≡ move_step self.now.setup self.now.stage
             (record { reading = now; reply = option_map (λ m. plain_of m.now) reply.entry }) }
@@ -144,7 +144,7 @@ impl Mover {
     /// Returns the action after a pair: an arrival, which may have a reply to the last request, and then this
     /// reading.
     ///
-    /// The first step is that of the start, and sends the revoke.
+    /// The first step is the step of the start, and sends the revoke.
     pub fn step(&mut self, now: u64, reply: Option<&Message<'_>>) -> MoveDeed
         requires { IfSome (option_map (λ m. plain_of m.now) reply)
             (λ m. is_answer self.old.setup self.old.stage m ≡ true) }

@@ -7,20 +7,20 @@ pub struct Request {
     pub number: u32,
     /// The reading at which it was sent.
     pub start: u64,
-    /// How many pairs this wait has had.
+    /// The number of pairs that this wait has had.
     pub pairs: u64,
-    /// Whether a reply said that the request was begun. The move then waits for its outcome.
+    /// Whether a reply stated that the request was begun. The move then waits for its outcome.
     pub begun: bool,
 }
 
-/// What a move waits for.
+/// The stage of a move, by the answer for which it waits.
 #[derive(Clone, Copy)]
 pub enum Stage {
     /// Nothing was sent yet.
     Opening { start: u64 },
-    /// The revoke has no answer yet. `sent_on`: it was sent on to another member.
+    /// The revoke has no answer yet. `sent_on` is true if it was redirected to another member.
     Revoking { last: Request, sent_on: bool },
-    /// The ticket was released, and the grant has no answer yet. `repeats`: how often it was repeated.
+    /// The ticket was released, and the grant has no answer yet. `repeats` is the number of its repeats.
     Granting { last: Request, repeats: u32 },
     /// The target is busy, and the grant is repeated after a pause.
     Pausing { last: Request, repeats: u32 },

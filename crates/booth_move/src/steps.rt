@@ -1,4 +1,4 @@
-//! What follows a pair at each stage of a move.
+//! The action and the stage after a pair at each stage of a move.
 ghost use Rattle.std.specs.Prelude.{◌≡◌, ◌<◌, ◌≤◌, length, IfSome};
 ghost use Rattle.booth_base.specs.declared.limits.TheConstants.{MEMBERS};
 ghost use Rattle.booth_talk.specs.declared.wait.TheConstants.{MOST_PAIRS};
@@ -13,7 +13,7 @@ use booth_base::MemberId;
 use booth_talk::Reply;
 use booth_wire::results;
 
-/// How often a grant is repeated.
+/// The number of times that a grant is repeated.
 const REPEATS: u32 = 10;
 
 /// An action, and the stage after it.
@@ -23,7 +23,7 @@ pub(crate) struct Step {
     pub stage: Stage,
 }
 
-/// Returns no action.
+/// Returns a step without an action.
 pub(crate) fn no_deed(stage: Stage) -> Step
     ensures { result ≡ no_deed stage }
 {
@@ -83,7 +83,7 @@ pub(crate) fn place_of(ids: &[u32], id: MemberId) -> Option<usize>
     ids.iter().position(|other| *other == id.0)
 }
 
-// Returns the place to which a revoke is sent on.
+// Returns the place to which a revoke is redirected.
 fn followed(ids: &[u32], sent_on: bool, reply: &Reply) -> Option<u32>
     requires { length ids.now ≤ MEMBERS }
     ensures { result ≡ followed ids.now sent_on reply.now }
@@ -123,7 +123,7 @@ fn revoke_answered(ids: &[u32], sent_on: bool, reading: u64, reply: Reply) -> St
     }
 }
 
-/// Returns what follows a pair while the revoke has no answer.
+/// Returns the step after a pair while the revoke has no answer.
 pub(crate) fn while_revoking(ids: &[u32], sent_on: bool, reading: u64, waits: Waits) -> Step
     requires { length ids.now ≤ MEMBERS }
     ensures { result ≡ while_revoking ids.now sent_on reading waits }
@@ -153,7 +153,7 @@ fn repeats_grant(last: Request, repeats: u32, reading: u64) -> Step
     grants(next_number(last.number), reading, repeats + 1)
 }
 
-// Leaves a busy target alone for a while.
+// Pauses while the target is busy.
 fn rests(last: Request, repeats: u32, reading: u64) -> Step
     requires { repeats < REPEATS }
     ensures { result ≡ rests last repeats reading }
@@ -183,7 +183,7 @@ fn grant_answered(last: Request, repeats: u32, reading: u64, reply: Reply) -> St
     ends(MoveEnd::Stranded(reply.result))
 }
 
-/// Returns what follows a pair while the grant has no answer.
+/// Returns the step after a pair while the grant has no answer.
 pub(crate) fn while_granting(last: Request, repeats: u32, reading: u64, waits: Waits) -> Step
     ensures { result ≡ while_granting last repeats reading waits }
 {
@@ -197,7 +197,7 @@ pub(crate) fn while_granting(last: Request, repeats: u32, reading: u64, waits: W
     }
 }
 
-/// Returns what follows a pair while the target is left alone.
+/// Returns the step after a pair during the pause.
 pub(crate) fn while_pausing(last: Request, repeats: u32, reading: u64) -> Step
     requires pairs { last.pairs < MOST_PAIRS }
     requires repeats { repeats < REPEATS }

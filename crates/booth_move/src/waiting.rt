@@ -10,16 +10,16 @@ use booth_base::{MemberId, NO_ONE};
 use booth_talk::{MOST_PAIRS, PATIENCE, Reply};
 use booth_wire::{Body, Message, results};
 
-/// How long a busy target is left alone, in ms.
+/// The time between the answer of a busy target and the next grant, in ms.
 const PAUSE: u64 = 1_000;
 
 /// The meaning of a pair for a wait.
 pub(crate) enum Waits {
-    /// The wait goes on with this request.
+    /// The wait continues with this request.
     On(Request),
     /// The wait ended without an answer.
     Over,
-    /// This is the answer.
+    /// This answer came.
     Came(Reply),
 }
 
@@ -42,7 +42,7 @@ pub(crate) fn request_of(number: u32, reading: u64) -> Request
     }
 }
 
-/// Returns the wait after one more pair, or none if that was the last.
+/// Returns the wait after one more pair, or `None` if that pair was the last.
 pub(crate) fn one_more(last: Request) -> Option<Request>
     requires { last.pairs < MOST_PAIRS }
     ensures { result ≡ one_more last }
@@ -64,7 +64,7 @@ fn waits_on(next: Option<Request>) -> Waits
     }
 }
 
-// Goes on after the reply that the request was begun, to wait for its outcome.
+// Continues after the reply that the request was begun, to wait for its outcome.
 fn passed_over(last: Request) -> Waits
     requires { last.pairs < MOST_PAIRS }
     ensures { result ≡ passed_over last }
@@ -93,7 +93,7 @@ fn is_late(last: Request, reading: u64) -> bool
     }
 }
 
-/// Returns whether a busy target was left alone for long enough.
+/// Returns whether the pause for a busy target was long enough.
 pub(crate) fn is_rested(last: Request, reading: u64) -> bool
     ensures { result ≡ is_rested last reading }
 {
@@ -121,7 +121,7 @@ fn reply_of(message: &Message<'_>) -> Reply
     }
 }
 
-/// Returns the meaning of a pair for the wait for the answer to the last request.
+/// Returns what a pair means for a move that waits for the answer to its last request.
 pub(crate) fn judged(wait: bool, last: Request, reading: u64, reply: Option<&Message<'_>>) -> Waits
     requires { last.pairs < MOST_PAIRS }
     ensures { result ≡ judged wait last reading (option_map (λ m. plain_of m.now) reply.entry) }

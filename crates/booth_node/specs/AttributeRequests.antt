@@ -1,4 +1,4 @@
--- Clients' requests about the attributes of a ticket, their replies, and which prerequisites hold.
+-- Clients' requests about the attributes of a ticket, the replies to them, and whether prerequisites hold.
 use Rattle.std.specs.Prelude.{ℕ, Bool, List, [], Option, Some, None, option_map, position, slice_get, if◌then◌else◌}
 use Rattle.std.specs.List.{flat_map, list_all}
 use Rattle.std.specs.Option.{option_map_or}
@@ -29,23 +29,23 @@ use Rattle.booth_node.specs.Replies.{Reply, reply_message}
 
 -- ---- prerequisites
 
--- the prerequisites of the ticket at a place
+-- The prerequisites of the ticket at a place.
 abbrev pub prereqs_at : List TicketConf → ℕ → List Prereq
 prereqs_at tickets place = option_map_or (λ ticket. ticket.prereqs) (slice_get tickets place) []
 
--- whether the prerequisites hold that a grant of this kind needs, for the ticket at a place
+-- Whether the prerequisites for a grant of this kind hold, for the ticket at a place.
 abbrev pub is_ready : NodeConfig → Attributes → ℕ → GrantKind → Bool
 is_ready node attributes place kind =
     list_all (holds_for kind (pairs_of attributes place)) (prereqs_at node.config.tickets place)
 
 -- ---- requests
 
--- an attribute as a command names it; only a list names none
+-- The request for an attribute that a command names. Only a list names no attribute.
 abbrev pub named_pair : (Pair → AttrWish) → Option (List ℕ) → List ℕ → Option AttrWish
 named_pair wish name value =
     option_map (λ name. wish (record { name = name; value = value })) name
 
--- the request of a command with this name and value
+-- The request of a command with this name and value.
 abbrev pub attr_wish : Cmd → Option (List ℕ) → List ℕ → Option AttrWish
 attr_wish ASet name value = named_pair (λ pair. wishes.Set pair) name value
 attr_wish AGet name value = named_pair (λ pair. wishes.Get pair) name value
@@ -59,22 +59,22 @@ attr_request_of head (Attr part) =
     (attr_wish head.cmd part.name part.value)
 attr_request_of head content = None
 
--- the request in a client's message, if it is about attributes
+-- The request in a client's message, if it is about attributes.
 abbrev pub attr_request_in : PlainMessage → Option AttrRequest
 attr_request_in message = attr_request_of message.head message.content
 
--- this member is a site
+-- This member is a site.
 abbrev pub is_at_site : NodeConfig → Bool
 is_at_site node = is_site_at node.config.members (own_place node)
 
--- the place of the ticket with this name, if this member is a site: an arbitrator has no attributes
+-- The place of the ticket with this name, if this member is a site. An arbitrator has no attributes.
 abbrev pub attended_place : NodeConfig → List ℕ → Option ℕ
 attended_place node name =
     if is_at_site node then position (is_called name) node.config.tickets else None
 
 -- ---- the attributes afterwards
 
--- the attributes after a request about the ticket at a place
+-- The attributes after a request about the ticket at a place.
 abbrev pub after_wish : Attributes → ℕ → AttrWish → Attributes
 after_wish all place (wishes.Set pair) = after_set all place pair.name pair.value
 after_wish all place (wishes.Get pair) = all
@@ -83,28 +83,28 @@ after_wish all place wishes.List = all
 
 -- ---- the reply
 
--- the reply repeats ticket, name and value
+-- The content of a reply that repeats the ticket, the name and the value.
 abbrev pub repeated : List ℕ → Pair → Content
 repeated ticket pair =
     Attr (record { ticket = ticket; name = Some pair.name; value = pair.value })
 
--- there is no room for one more name
+-- The result of setting an attribute. It differs from success if there is no room for one more name.
 abbrev pub set_result : SetAnswer → ℕ
 set_result set.Done = SUCCESS
 set_result set.Full = BUSY
 
--- there is no such name
+-- The result of deleting an attribute. It differs from success if there is no such name.
 abbrev pub del_result : DelAnswer → ℕ
 del_result del.Done = SUCCESS
 del_result del.NoSuch = NATR
 
--- if the name exists, its value
+-- The reply with the value of a name, if the name exists.
 abbrev pub get_reply : List ℕ → Pair → Option (List ℕ) → Reply
 get_reply ticket pair None = record { result = NATR; content = repeated ticket pair }
 get_reply ticket pair (Some value) =
     record { result = SUCCESS; content = repeated ticket (record pair { value = value }) }
 
--- for a list, a line for each attribute of the ticket; for any other request, nothing
+-- The text of the reply: for a list, a line for each attribute of the ticket; for any other request, nothing.
 abbrev pub pairs_text : Attributes → ℕ → AttrWish → List ℕ
 pairs_text all place wishes.List = flat_map line_of (pairs_of all place)
 pairs_text all place wish = []
@@ -119,14 +119,14 @@ attr_reply all place ticket (wishes.Delete pair) =
 attr_reply all place ticket wishes.List =
     record { result = SUCCESS; content = Text (pairs_text all place wishes.List) }
 
--- the command that answers a request
+-- The command that answers a request.
 abbrev pub attr_answer : AttrWish → Cmd
 attr_answer (wishes.Set pair) = RAtr
 attr_answer (wishes.Get pair) = RAtr
 attr_answer (wishes.Delete pair) = RAtr
 attr_answer wishes.List = RALs
 
--- the reply to a request about the attributes of the ticket at a place, as it is sent at this moment
+-- The reply to a request about the attributes of the ticket at a place, as it is sent at this moment.
 abbrev pub attr_message : NodeConfig → ℕ → Attributes → ℕ → AttrRequest → PlainMessage
 attr_message node now all place request =
     stamped node.ring now

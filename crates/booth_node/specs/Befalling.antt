@@ -11,22 +11,22 @@ use Rattle.booth_node.specs.declared.event.Event.TheVariants.{Due, Heard, Asked,
 abbrev pub Befalling : Type 0
 Befalling = Event
 
--- its deadline has passed
+-- The ticket's deadline has passed.
 abbrev pub comes_due : Befalling
 comes_due = Due
 
--- the member at a place sent a message about it
+-- The member at a place sent a message about the ticket.
 abbrev pub is_told : ℕ → Head → TicketPart → Befalling
 is_told from head part = Heard from head part
 
--- a client sent a request about it
+-- A client sent a request about the ticket.
 abbrev pub is_asked : Request → Befalling
 is_asked request = Asked request
 
--- a handler has ended
+-- A handler has ended.
 abbrev pub ends_job : ℕ → Service → Befalling
 ends_job job service = Over job service
 
--- a client's request about the attributes of a ticket
+-- A client's request about the attributes of a ticket.
 abbrev pub AttributeAsking : Type 0
 AttributeAsking = AttrRequest

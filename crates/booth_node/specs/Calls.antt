@@ -31,8 +31,8 @@ use Rattle.booth_node.specs.State.{State}
 
 -- ---- calls for a ticket's actions
 
--- the call for an action of a ticket, with this answer: a write under the ticket's name, a start of its handler, or a
--- send of the message, sealed at this moment, to its receiver
+-- This call is a ticket's action with this answer: a write under the ticket's name, a start of its handler, or a send
+-- of the message, sealed at this moment, to its receiver.
 abbrev pub IsCallOf : NodeConfig → ℕ → List ℕ → TicketAsk → Bool → Entry → Type 0
 IsCallOf node now name (KeepsRecord tried) ok (calls.Keep ticket rec answer) =
     (ticket ≡ name) × (rec ≡ tried) × (is_ok answer ≡ ok)
@@ -44,31 +44,31 @@ IsCallOf node now name (Say to head part) ok (calls.Send peer bytes answer) =
     (peer_of node.config to ≡ Some peer) × (bytes ≡ sealed node.ring (sent_as node now head part))
 IsCallOf node now name ask ok call = ⊥
 
--- these calls are those of these actions, one for one
+-- These calls are these actions, one for one.
 abbrev pub AreCallsOf : NodeConfig → ℕ → List ℕ → List Act → List Entry → Type 0
 AreCallsOf node now name [] [] = Unit {0}
 AreCallsOf node now name (act ∷ acts) (call ∷ calls) =
     IsCallOf node now name act.ask act.ok call × AreCallsOf node now name acts calls
 AreCallsOf node now name acts calls = ⊥
 
--- a call that is no write, or a write that succeeded
+-- The call is not a write, or it is a write that succeeded.
 abbrev pub IsNoFailedKeep : Entry → Type 0
 IsNoFailedKeep (calls.Keep ticket rec answer) = is_ok answer ≡ true
 IsNoFailedKeep call = Unit {0}
 
--- if the first call is a write, it succeeded
+-- If the first call is a write, it succeeded.
 abbrev pub KeepsFirst : List Entry → Type 0
 KeepsFirst [] = Unit {0}
 KeepsFirst (call ∷ calls) = IsNoFailedKeep call
 
 -- ---- the receivers of calls
 
--- the client is one of these
+-- The client is one of these.
 abbrev pub IsAmong : Waiter → List Waiter → Type 0
 IsAmong waiter [] = ⊥
 IsAmong waiter (other ∷ others) = (waiter ≡ other) ⊎ IsAmong waiter others
 
--- these bytes, to this peer, are a member's command, from this member to one of the configuration
+-- These bytes, to this peer, are a member's command from this member to a member of the configuration.
 pub record IsBetweenMembers (node : NodeConfig) (peer : Peer) (bytes : List ℕ) : Type 0 where
   pub place : ℕ
   pub message : PlainMessage
@@ -77,14 +77,15 @@ pub record IsBetweenMembers (node : NodeConfig) (peer : Peer) (bytes : List ℕ)
   pub between : direction_of message.head.cmd ≡ BetweenMembers
   pub from : message.head.from ≡ node.me
 
--- The results of a grant for a client that waits: it was done, it failed, its handler failed, or, if the client does
--- not wait for the write, the record is not written yet. A result that tells the client to wait is none of these.
+-- The results that end a grant for a client that waits: the grant was done, it failed, its handler failed, or the
+-- record is not written yet. The last one is only for a client that does not wait for the write. A result that asks
+-- the client to wait ends no grant.
 abbrev pub EndsGrant : Waiter → ℕ → Type 0
 EndsGrant waiter result =
     (result ≡ SUCCESS) ⊎ (result ≡ FAIL) ⊎ (result ≡ XPRG) ⊎ ((result ≡ PEND) × (waiter.commit ≡ false))
 
--- this message is the outcome of a grant for a client that waits: it has the client's request number, neither options
--- nor a reason, and comes from this member
+-- This message is the outcome of a grant for a client that waits. It has the client's request number, neither options
+-- nor a reason, and comes from this member.
 pub record IsOutcome (me : MemberId) (waiter : Waiter) (head : Head) : Type 0 where
   pub cmd : head.cmd ≡ RGnt
   pub request : head.request ≡ waiter.number
@@ -93,7 +94,7 @@ pub record IsOutcome (me : MemberId) (waiter : Waiter) (head : Head) : Type 0 wh
   pub result : EndsGrant waiter head.result
   pub from : head.from ≡ me
 
--- the message is about the ticket at a place of the configuration
+-- The message is about the ticket at a place of the configuration.
 pub record NamesTicket (node : NodeConfig) (place : ℕ) (content : Content) : Type 0 where
   pub part : TicketPart
   pub ticket : TicketConf
@@ -101,8 +102,8 @@ pub record NamesTicket (node : NodeConfig) (place : ℕ) (content : Content) : T
   pub there : slice_get node.config.tickets place ≡ Some ticket
   pub named : part.ticket ≡ ticket.name
 
--- these bytes, to this peer, are the outcome for one of these waiting clients, of its grant of the ticket for which
--- it waits
+-- These bytes, to this peer, inform one of these waiting clients about the outcome of its grant, of the ticket for
+-- which it waits.
 pub record TellsWaiter (node : NodeConfig) (waiters : List (List Waiter)) (peer : Peer) (bytes : List ℕ)
     : Type 0 where
   pub place : ℕ
@@ -114,7 +115,7 @@ pub record TellsWaiter (node : NodeConfig) (waiters : List (List Waiter)) (peer 
   pub outcome : IsOutcome node.me waiter message.head
   pub about : NamesTicket node place message.content
 
--- one of these calls sends this waiting client the outcome of its grant of the ticket at this place
+-- One of these calls sends this waiting client the outcome of its grant of the ticket at this place.
 pub record IsToldIn (node : NodeConfig) (place : ℕ) (waiter : Waiter) (entries : List Entry) : Type 0 where
   pub before : List Entry
   pub message : PlainMessage
@@ -124,8 +125,8 @@ pub record IsToldIn (node : NodeConfig) (place : ℕ) (waiter : Waiter) (entries
   pub outcome : IsOutcome node.me waiter message.head
   pub about : NamesTicket node place message.content
 
--- the call writes a record, starts a handler, or sends a message to a member or to one of these waiting clients: it
--- reaches no other client
+-- The call writes a record, starts a handler, or sends a message to a member or to one of these waiting clients. It
+-- reaches no other client.
 abbrev pub ReachesWaiters : NodeConfig → List (List Waiter) → Entry → Type 0
 ReachesWaiters node waiters (calls.Keep ticket rec answer) = Unit {0}
 ReachesWaiters node waiters (calls.Start number ticket handler local expires answer) = Unit {0}
@@ -135,7 +136,7 @@ ReachesWaiters node waiters call = ⊥
 
 -- ---- turns
 
--- A turn at this moment accepts the datagram of this peer as this message; these are the calls for its actions.
+-- A turn at this moment accepts the datagram of this peer as this message, and these are the calls for its actions.
 pub record LetsIn (node : NodeConfig) (old : State) (now : ℕ) (from : Peer) (message : PlainMessage)
     (entries : List Entry) (new : State) : Type 0 where
   pub bytes : List ℕ
@@ -143,8 +144,8 @@ pub record LetsIn (node : NodeConfig) (old : State) (now : ℕ) (from : Peer) (m
   pub deeds : Leads (IsDone node.ring) (react node old now (Ok (arrivals.Datagram from)) bytes) entries
       (Ends new)
 
--- The calls for the arrival are those of these actions of the ticket at a place, and leave it with a view and waiting
--- clients for which this holds. The calls for the deadlines follow.
+-- The calls for the arrival do these actions of the ticket at a place. They leave the ticket with a view and waiting
+-- clients that have the property. The calls for the deadlines follow.
 pub record ArrivalDoes (node : NodeConfig) (now place : ℕ) (setup : Setup) (acts : List Act)
     (Holds : Left → Type 0) (entries : List Entry) (new : State) : Type 0 where
   pub arrival : List Entry

@@ -1,5 +1,5 @@
--- Actions that a node does whenever it may: it answers a round, a grant asks all members, and a majority gains the
--- ticket.
+-- Actions that a node does whenever it may: it answers a round, a grant asks all members for their votes, and a
+-- majority gains the ticket.
 use Rattle.std.specs.Prelude.{◌≡◌, ℕ, false, List, ◌++◌, position, slice_get, Some, None}
 use Rattle.booth_base.specs.declared.address.Peer.{Peer}
 use Rattle.booth_conf.specs.Config.{has_id}
@@ -30,14 +30,15 @@ use Rattle.booth_node.specs.Jobs.{handler_at}
 use Rattle.booth_node.specs.Opening.{AreSetUp}
 use Rattle.booth_node.specs.State.{State}
 
--- the message is about the automatic ticket at this place, which has this setup and this view
+-- The message is about the automatic ticket at this place, which has this setup and this view.
 pub record IsAbout (node : NodeConfig) (state : State) (message : PlainMessage) (place : ℕ)
     (part : TicketPart) (setup : Setup) (view : View) : Type 0 where
   pub content : message.content ≡ Ticket part
   pub named : position (is_called part.ticket) node.config.tickets ≡ Some place
   pub there : slice_get state.tickets place ≡ Some (record { setup = setup; known = Automatic view })
 
--- the first calls answer the round, to its member: in version 2 they write the promise and then send the answer
+-- The first calls answer the round, to the member that opened it. In version 2 they write the promise and then send
+-- the answer.
 pub record IsRoundAnswered (node : NodeConfig) (now : ℕ) (setup : Setup) (view : View) (kind : RoundKind)
     (message : PlainMessage) (part : TicketPart) (entries : List Entry) : Type 0 where
   pub member : ℕ
@@ -48,8 +49,8 @@ pub record IsRoundAnswered (node : NodeConfig) (now : ℕ) (setup : Setup) (view
   pub answers : AreCallsOf node now setup.ticket
       (answering_acts setup view member kind message.head part now) first
 
--- If a member may make a promise for a round that it received, and the write of its promise succeeds, it sends the
--- answer in the same turn, before all else.
+-- A member may make a promise for a round that it received, and the write of its promise succeeds. Then it sends the
+-- answer in the same turn, before all other actions.
 abbrev pub RoundsAreAnswered : Type 0
 RoundsAreAnswered =
     (node : NodeConfig) (old new : State) (now : ℕ) (from : Peer) (message : PlainMessage)
@@ -58,14 +59,14 @@ RoundsAreAnswered =
     → IsRound kind message.head → MayAnswer view message.head.from part.term now → KeepsFirst entries
     → IsRoundAnswered node now setup view kind message part entries
 
--- a client's message as the request for a grant
+-- The request for a grant in a client's message.
 abbrev pub grant_of : Peer → PlainMessage → Request
 grant_of from message =
     record { wish = Grant; from = from; number = message.head.request; options = message.head.options }
 
--- A grant of a ticket without a handler that is not refused, and so has its prerequisites, asks every other member
--- for its vote in that turn and tells the client that it was begun, if the write of the new term succeeds and this
--- member alone is no majority. The client then waits, if it asked for that.
+-- A grant asks every other member for its vote in its turn, and informs the client that it was begun. The conditions
+-- are: the ticket has no handler; the grant is not refused, so its prerequisites hold; the write of the new term
+-- succeeds; and this member alone is no majority. The client then waits, if it asked for that.
 abbrev pub GrantsAskAll : Type 0
 GrantsAskAll =
     (node : NodeConfig) (old new : State) (now : ℕ) (from : Peer) (message : PlainMessage)
@@ -80,9 +81,9 @@ GrantsAskAll =
     (AsksVotes (asked_record setup view now)
     (joined (grant_of from message) ASYN (waiting_at old.waiters place))) entries new
 
--- If the answer that completes a majority arrives before the lease of its round would end, and the write succeeds,
--- the ticket is granted until `expire` after the round was opened, and all other members and each client that waits
--- for the ticket are told in that turn; then no client waits.
+-- The answer that completes a majority arrives before the lease of its round would end, and the write succeeds. Then
+-- the ticket is granted until `expire` after the round was opened. The member informs all other members, and each
+-- client that waits for the ticket, in that turn; then no client waits.
 abbrev pub MajoritiesGain : Type 0
 MajoritiesGain =
     (node : NodeConfig) (old new : State) (now : ℕ) (from : Peer) (message : PlainMessage)

@@ -1,4 +1,4 @@
--- What a node counts, and how the counters change.
+-- The counters of a node, and their changes.
 use Rattle.std.specs.Prelude.{ℕ, ◌+◌, ◌-◌, ◌/◌, ◌^◌, min, Bool, true, false, slice_index, slice_index_or, slice_set, replicate}
 use Rattle.booth_base.specs.declared.limits.TheConstants.{MEMBERS}
 use Rattle.booth_auth.specs.declared.admission.DropFault.{DropFault}
@@ -9,11 +9,11 @@ use Rattle.booth_node.specs.declared.state.Common.{Common}
 use Rattle.booth_node.specs.declared.state.Counters.{Counters}
 use Rattle.booth_node.specs.State.{State}
 
--- a counter that stays at its greatest value
+-- The next value of a counter. The counter stays at its greatest value.
 abbrev pub more : ℕ → ℕ
 more count = min (count + 1) (2 ^ 64 - 1)
 
--- the counter of each fault, of eight in the gate's order
+-- The place of each fault among the eight drop counters, in the gate's order.
 abbrev pub place_of : DropFault → ℕ
 place_of (Frame fault) = 0
 place_of NoMac = 1
@@ -24,7 +24,7 @@ place_of Own = 5
 place_of Ticket = 6
 place_of Leader = 7
 
--- one more datagram was dropped for this fault
+-- The counters after one more datagram was dropped for this fault.
 abbrev pub count_drop : Common → DropFault → Common
 count_drop common fault =
     let count = more (slice_index common.drops (place_of fault)) in
@@ -33,18 +33,18 @@ count_drop common fault =
 abbrev pub dropped : State → DropFault → State
 dropped state fault = record state { common = count_drop state.common fault }
 
--- the counters of a member before any message
+-- The counters of a member before any message.
 abbrev pub no_counts : Counters
 no_counts = record { accepted = 0; sent = 0; errors = 0; last = 0 }
 
--- the counters of the member at a place
+-- The counters of the member at a place.
 abbrev pub counters_at : Common → ℕ → Counters
 counters_at common place = slice_index_or common.members place no_counts
 
 abbrev pub with_counters : Common → ℕ → Counters → Common
 with_counters common place counters = record common { members = slice_set common.members place counters }
 
--- one more datagram of the member was accepted, at this moment
+-- The counters of a member after one more of its datagrams was accepted, at this moment.
 abbrev pub counted : Counters → ℕ → Counters
 counted counters now = record counters { accepted = more counters.accepted; last = now / 1000 }
 
@@ -53,16 +53,16 @@ accepted state place now = record state {
   common = with_counters state.common place (counted (counters_at state.common place) now);
 }
 
--- one more message was sent to the member, or failed to be
+-- The counters of a member after one more message to it was sent, or failed to be sent.
 abbrev pub tried : Counters → Bool → Counters
 tried counters true = record counters { sent = more counters.sent }
 tried counters false = record counters { errors = more counters.errors }
 
--- a send by a rule counts for its receiver; a reply to a client counts for no member
+-- The counters after a rule's send, which counts for its receiver. A reply to a client counts for no member.
 abbrev pub count_send : Common → To → Bool → Common
 count_send common (Member place) ok = with_counters common place (tried (counters_at common place) ok)
 count_send common (Client peer) ok = common
 
--- nothing was counted, and no handler was started
+-- The counters at the beginning: nothing was counted, and no handler was started.
 abbrev pub nothing_counted : Common
 nothing_counted = record { drops = replicate 8 0; members = replicate MEMBERS no_counts; next_job = 1 }

@@ -1,4 +1,4 @@
--- Laws of turns, for every state and all bytes.
+-- The laws of turns, for every state and all bytes.
 use Rattle.std.specs.Prelude.{◌≡◌, ◌⊎◌, ◌<◌, ◌+◌, ℕ, List, [], ◌∷◌, ◌++◌, length, position, Option, Some, None, Result, Ok, Err}
 use Rattle.std.specs.List.{All}
 use Rattle.booth_keys.specs.declared.ring.Ring.{Ring}
@@ -41,7 +41,7 @@ OpensWithItsTickets =
     → length records ≡ length node.config.tickets
     → AreSetUp node (opened node records reading)
 
--- They stay the same through every turn.
+-- The tickets of a node stay the same through every turn.
 abbrev pub KeepsItsTickets : Type 0
 KeepsItsTickets =
     (node : NodeConfig) (old new : State) (now : ℕ) (arrival : Result Arrival Failed) (bytes : List ℕ)
@@ -50,8 +50,8 @@ KeepsItsTickets =
 
 -- ---- the action for a datagram
 
--- A member's message goes to the ticket that it names, as a message of the member that its head names; a client's
--- request about a ticket goes to that ticket.
+-- The action fits its message. A member's message goes to the ticket that it names, as a message of the member in its
+-- head. A client's request about a ticket goes to that ticket.
 abbrev pub IsSettled : NodeConfig → Action → Type 0
 IsSettled node (Drops fault) = Unit {0}
 IsSettled node (Hears from ticket head part) =
@@ -81,7 +81,7 @@ DropsAlone =
     → Leads (IsDone node.ring) (dues node now Went (dropped (record old { last_reading = now }) fault))
     entries (Ends new)
 
--- the drop counters after a verdict, and after an arrival
+-- The drop counters after a verdict, and after an arrival.
 abbrev pub drops_by : Common → Result PlainMessage DropFault → List ℕ
 drops_by common (Err fault) = (count_drop common fault).drops
 drops_by common (Ok message) = common.drops
@@ -91,7 +91,7 @@ drops_after node now common (Ok (arrivals.Datagram from)) bytes =
     drops_by common (verdict node.config node.ring node.me now bytes)
 drops_after node now common answer bytes = common.drops
 
--- A turn counts a fault exactly if its datagram has it, and no other fault.
+-- A turn counts a fault exactly if its datagram has that fault, and it counts no other fault.
 abbrev pub CountsEachFault : Type 0
 CountsEachFault =
     (node : NodeConfig) (old new : State) (now : ℕ) (arrival : Result Arrival Failed) (bytes : List ℕ)
@@ -100,8 +100,8 @@ CountsEachFault =
 
 -- ---- clients
 
--- This reply answers the message: it has the command that answers the message's, its request number, the part with
--- this number and no reason, and comes from this member.
+-- This reply answers the message. It has the command that answers the message's command, the message's request
+-- number, this part number and no reason, and it comes from this member.
 pub record IsReplyTo (node : NodeConfig) (message : PlainMessage) (number : ℕ) (reply : PlainMessage) : Type 0 where
   pub cmd : answer_of message.head.cmd ≡ Some reply.head.cmd
   pub request : reply.head.request ≡ message.head.request
@@ -109,8 +109,8 @@ pub record IsReplyTo (node : NodeConfig) (message : PlainMessage) (number : ℕ)
   pub reason : reply.head.reason ≡ 0
   pub from : reply.head.from ≡ node.me
 
--- These replies answer the message: one reply, or the parts of a list, numbered from this number on; each part but
--- the last says that more follow.
+-- These replies answer the message: one reply, or the parts of a list, numbered from this number on. Each part except
+-- the last states that more follow.
 abbrev pub AreRepliesTo : NodeConfig → PlainMessage → ℕ → List PlainMessage → Type 0
 AreRepliesTo node message number [] = ⊥
 AreRepliesTo node message number (reply ∷ []) = IsReplyTo node message number reply
@@ -118,7 +118,7 @@ AreRepliesTo node message number (reply ∷ next ∷ replies) =
     IsReplyTo node message number reply × (message.head.cmd ≡ CLst) × (reply.head.result ≡ MORE)
     × AreRepliesTo node message (number + 1) (next ∷ replies)
 
--- these calls are the sends of these messages to this peer, in their order
+-- These calls send these messages to this peer, in their order.
 abbrev pub AreSends : Option Ring → Peer → List PlainMessage → List Entry → Type 0
 AreSends ring to [] [] = Unit {0}
 AreSends ring to (message ∷ messages) (calls.Send peer bytes answer ∷ entries) =
@@ -126,8 +126,8 @@ AreSends ring to (message ∷ messages) (calls.Send peer bytes answer ∷ entrie
 AreSends ring to messages entries = ⊥
 
 -- The last calls for the arrival are the replies, to the sender of the request. Each other call of the turn that
--- reaches a client is the outcome of a grant for a client that waits: before the replies a client that waited when
--- the turn began, after them one that waits then.
+-- reaches a client is the outcome of a grant for a client that waits. Before the replies, this is a client that
+-- waited when the turn began. After them, it is a client that waits after the replies.
 pub record IsAnswered (node : NodeConfig) (old : State) (now : ℕ) (from : Peer) (message : PlainMessage)
     (entries : List Entry) (new : State) : Type 0 where
   pub before : List Entry
@@ -142,7 +142,7 @@ pub record IsAnswered (node : NodeConfig) (old : State) (now : ℕ) (from : Peer
   pub waiting : All (ReachesWaiters node after.waiters) deadlines
   pub follow : Leads (IsDone node.ring) (dues node now Went after) deadlines (Ends new)
 
--- Each accepted request of a client has its one reply in the same turn, and a list has its parts.
+-- Each accepted request of a client gets its one reply in the same turn, and a request for a list gets its parts.
 abbrev pub ClientsAreAnswered : Type 0
 ClientsAreAnswered =
     (node : NodeConfig) (old new : State) (now : ℕ) (from : Peer) (message : PlainMessage)
@@ -151,7 +151,7 @@ ClientsAreAnswered =
     → direction_of message.head.cmd ≡ ToDaemon
     → IsAnswered node old now from message entries new
 
--- the request of a client in a datagram, if it has one that is accepted
+-- The request of a client in a datagram, if the datagram has one that is accepted.
 abbrev pub asked_by : Direction → PlainMessage → Option PlainMessage
 asked_by ToDaemon message = Some message
 asked_by BetweenMembers message = None
@@ -166,8 +166,7 @@ request_of node now (Ok (arrivals.Datagram from)) bytes =
     request_let_in (verdict node.config node.ring node.me now bytes)
 request_of node now answer bytes = None
 
--- In every other turn a client receives only the outcome of a grant, and only a client that waited when the turn
--- began.
+-- In every other turn a client receives only the outcome of a grant, and only if it waited when the turn began.
 abbrev pub OthersAreNotAnswered : Type 0
 OthersAreNotAnswered =
     (node : NodeConfig) (old new : State) (now : ℕ) (arrival : Result Arrival Failed) (bytes : List ℕ)
@@ -175,8 +174,8 @@ OthersAreNotAnswered =
     → Leads (IsDone node.ring) (react node old now arrival bytes) entries (Ends new)
     → request_of node now arrival bytes ≡ None → All (ReachesWaiters node old.waiters) entries
 
--- No waiting client is forgotten: after each turn it still waits for the same ticket, or was sent the outcome of its
--- grant of that ticket in the turn.
+-- No waiting client is forgotten: after each turn it still waits for the same ticket, or it was sent the outcome of
+-- its grant of that ticket in the turn.
 abbrev pub NobodyIsForgotten : Type 0
 NobodyIsForgotten =
     (node : NodeConfig) (old new : State) (now : ℕ) (arrival : Result Arrival Failed) (bytes : List ℕ)

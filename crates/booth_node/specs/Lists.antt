@@ -1,31 +1,31 @@
--- A list of tickets in parts, one for each reply to a client.
+-- A list of tickets, divided into parts, one for each reply to a client.
 use Rattle.std.specs.Prelude.{◌≡◌, ◌≤◌, ◌<◌, ◌+◌, ◌++◌, ℕ, List, [], ◌∷◌, length, drop, nat_le, if◌then◌else◌}
 use Rattle.std.specs.List.{All}
 use Rattle.booth_base.specs.declared.buffer.TheConstants.{TEXT_BYTES}
 
--- the text of a part
+-- The text of a part.
 abbrev pub part_text : List (List ℕ) → List ℕ
 part_text [] = []
 part_text (line ∷ lines) = line ++ part_text lines
 
--- a line at the front of the first part
+-- The parts with a line added at the front of the first part.
 abbrev pub with_first : List ℕ → List (List (List ℕ)) → List (List (List ℕ))
 with_first line [] = (line ∷ []) ∷ []
 with_first line (part ∷ parts) = (line ∷ part) ∷ parts
 
--- Lines are cut into parts, each with as many whole lines, from the first, as a text holds. This many bytes of the
--- first part are used.
+-- The lines, cut into parts. From the first on, each part has as many whole lines as a text holds. This many bytes of
+-- the first part are used already.
 abbrev pub cut_lines : ℕ → List (List ℕ) → List (List (List ℕ))
 cut_lines taken [] = [] ∷ []
 cut_lines taken (line ∷ lines) =
     if nat_le (taken + length line) TEXT_BYTES then with_first line (cut_lines (taken + length line) lines)
     else [] ∷ with_first line (cut_lines (length line) lines)
 
--- the parts after this many lines: none after the last line
+-- The parts after this many lines. There are none after the last line.
 abbrev pub parts_from : List (List ℕ) → ℕ → List (List (List ℕ))
 parts_from lines count = if nat_le (length lines) count then [] else cut_lines 0 (drop count lines)
 
--- This text is the first part of these lines, and has this many of them.
+-- This text is the first part of these lines, and contains this many of them.
 pub record IsPart (lines : List (List ℕ)) (count : ℕ) (text : List ℕ) : Type 0 where
   pub part : List (List ℕ)
   pub text_is : text ≡ part_text part
@@ -39,18 +39,18 @@ abbrev pub joined : List (List (List ℕ)) → List (List ℕ)
 joined [] = []
 joined (part ∷ parts) = part ++ joined parts
 
--- the first line of the next part, if there is one, does not fit into a part that has this many bytes
+-- The first line of the next part, if there is one, does not fit into a part that has this many bytes.
 abbrev pub IsFull : ℕ → List (List (List ℕ)) → Type 0
 IsFull used [] = Unit {0}
 IsFull used ([] ∷ parts) = ⊥
 IsFull used ((line ∷ part) ∷ parts) = TEXT_BYTES < used + length line
 
--- each part fits, and only the last could hold one more line
+-- Each part fits, and only the last could hold one more line.
 abbrev pub AreFull : List (List (List ℕ)) → Type 0
 AreFull [] = Unit {0}
 AreFull (part ∷ parts) = (length (part_text part) ≤ TEXT_BYTES) × IsFull (length (part_text part)) parts × AreFull parts
 
--- There is at least one part; joined the parts are the lines; each part fits, and only the last could hold one more
+-- There is at least one part. Joined, the parts are the lines. Each part fits, and only the last could hold one more
 -- line.
 pub record AreParts (lines : List (List ℕ)) (parts : List (List (List ℕ))) : Type 0 where
   pub some : 1 ≤ length parts

@@ -6,7 +6,7 @@ use Rattle.booth_node.specs.declared.node.Turn.TheVariants.{Went, Stopped}
 use Rattle.booth_node.specs.declared.node_config.NodeConfig.{NodeConfig}
 use Rattle.booth_node.specs.Reaction.{IsTurn}
 
--- each turn begins in the state after the turn before it, and none of them stopped
+-- Each turn begins in the state after the turn before it, and no turn stopped.
 abbrev pub AreTurns : NodeConfig → State → List (List Entry) → State → Type 0
 AreTurns node old [] new = new ≡ old
 AreTurns node old (entries ∷ turns) new =
@@ -16,7 +16,7 @@ abbrev pub joined_turns : List (List Entry) → List Entry
 joined_turns [] = []
 joined_turns (turn ∷ turns) = turn ++ joined_turns turns
 
--- this many turns, none of which stopped
+-- The entries are the calls of this many turns, and no turn stopped.
 pub record IsNodeLog (node : NodeConfig) (old : State) (count : ℕ) (new : State) (entries : List Entry)
     : Type 0 where
   pub turns : List (List Entry)
@@ -24,7 +24,7 @@ pub record IsNodeLog (node : NodeConfig) (old : State) (count : ℕ) (new : Stat
   pub whole : entries ≡ joined_turns turns
   pub each : AreTurns node old turns new
 
--- turns, the last of which stopped
+-- The entries are the calls of turns, and the last turn stopped.
 pub record IsStoppedLog (node : NodeConfig) (old new : State) (entries : List Entry) : Type 0 where
   pub count : ℕ
   pub mid : State

@@ -1,4 +1,4 @@
--- The state of a node after its opening.
+-- The state of a node after it was opened.
 use Rattle.std.specs.Prelude.{◌≡◌, ℕ, ◌+◌, ◌-◌, ◌^◌, min, Bool, true, false, List, [], ◌∷◌, length, map, position, replicate, slice_get, Option, unwrap_or, if◌then◌else◌}
 use Rattle.std.specs.Option.{option_map_or}
 use Rattle.booth_conf.specs.Config.{has_id}
@@ -14,21 +14,21 @@ use Rattle.booth_node.specs.declared.node_config.NodeConfig.{NodeConfig}
 use Rattle.booth_node.specs.Counting.{nothing_counted}
 use Rattle.booth_node.specs.State.{State}
 
--- the member's place in the configuration
+-- The member's place in the configuration.
 abbrev pub own_place : NodeConfig → ℕ
 own_place node = unwrap_or (position (has_id node.me) node.config.members) 0
 
 abbrev pub is_site_at : List Member → ℕ → Bool
 is_site_at members place = option_map_or (λ member. member.site) (slice_get members place) false
 
--- how many sites come before this member; an arbitrator has no rank
+-- The number of sites that come before this member. An arbitrator has no rank.
 abbrev pub rank_at : NodeConfig → ℕ → ℕ
 rank_at node index =
     if is_site_at node.config.members (own_place node)
     then rank_of node.config.members (weights_at node.config.tickets index) (own_place node)
     else 0
 
--- the setup of the ticket at this place
+-- The setup of the ticket at this place.
 abbrev pub setup_of : NodeConfig → ℕ → TicketConf → Setup
 setup_of node index ticket = record {
   ticket = ticket.name;
@@ -41,35 +41,36 @@ setup_of node index ticket = record {
   second = node.second;
 }
 
--- the setups of these tickets, from this place on
+-- The setups of these tickets, from this place on.
 abbrev pub setups_from : NodeConfig → ℕ → List TicketConf → List Setup
 setups_from node index [] = []
 setups_from node index (ticket ∷ tickets) = setup_of node index ticket ∷ setups_from node (index + 1) tickets
 
--- the tickets are those of the configuration, each set up for this node, with a list of the clients that wait for it
+-- The node's tickets are the tickets of the configuration. Each is set up for this node, and has a list of the
+-- clients that wait for it.
 abbrev pub AreSetUp : NodeConfig → State → Type 0
 AreSetUp node state =
     (map (λ ticket. ticket.setup) state.tickets ≡ setups_from node 0 node.config.tickets)
     × (length state.waiters ≡ length node.config.tickets)
 
--- what is known about a ticket at its start, automatic or manual
+-- The knowledge about a ticket at its start, automatic or manual.
 abbrev pub known_at_start : Bool → Setup → Record → ℕ → Known
 known_at_start true setup rec now = (opened_by_hand setup rec now).known
 known_at_start false setup rec now = (ticket_opened setup rec now).known
 
--- a ticket of the configuration starts, by its kind
+-- A ticket of the configuration at its start, by its kind.
 abbrev pub opened_by : TicketConf → Setup → Record → ℕ → TicketState
 opened_by ticket setup rec now =
     record { setup = setup; known = known_at_start ticket.manual setup rec now }
 
--- each ticket starts from its record, from this place on
+-- The tickets at their start, each from its record, from this place on.
 abbrev pub started_from : NodeConfig → ℕ → ℕ → List TicketConf → List (Option Record) → List TicketState
 started_from node now index (ticket ∷ tickets) (rec ∷ records) =
     opened_by ticket (setup_of node index ticket) (record_or_none rec) now
     ∷ started_from node now (index + 1) tickets records
 started_from node now index tickets records = []
 
--- the clock reading that a start uses
+-- The clock reading that a start uses.
 abbrev pub start_reading : ℕ → ℕ
 start_reading reading = min reading (2 ^ 62 - 1)
 

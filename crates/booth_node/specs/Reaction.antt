@@ -1,4 +1,4 @@
--- What a node does for an arrival and for its deadlines: the actions of one turn, as a tree.
+-- The actions of a node in one turn, for an arrival and for its deadlines, as a tree.
 use Rattle.std.specs.Prelude.{◌≡◌, ◌-◌, ◌^◌, ℕ, min, max, Bool, true, List, ◌∷◌, length, map, position, slice_get, Option, Some, None, Result, Ok, Err, is_ok, []}
 use Rattle.std.specs.List.{range_with_len}
 use Rattle.booth_keys.specs.declared.ring.Ring.{Ring}
@@ -51,13 +51,14 @@ use Rattle.booth_node.specs.State.{State, with_ticket}
 
 -- ---- requests to the host
 
--- A message has its time; a record is written under its ticket's name; a job is that of a ticket's handler.
+-- A request to the host: to send a message with its time, to write a record under its ticket's name, or to start a
+-- job of a ticket's handler.
 pub data Ask : Type 0 where
   Send : Peer → PlainMessage → Ask
   Keep : List ℕ → Record → Ask
   Start : Job → Ask
 
--- This entry is the request, with this answer: the bytes of a send are the message, sealed with the ring if there is
+-- This entry is the request, with this answer. The bytes of a send are the message, sealed with the ring if there is
 -- one.
 abbrev pub IsDone : Option Ring → Ask → Bool → Entry → Type 0
 IsDone ring (Send peer message) ok (calls.Send to bytes answer) =
@@ -71,32 +72,32 @@ IsDone ring ask ok entry = ⊥
 
 -- ---- one ticket's actions, among the others
 
--- the address at which a member listens
+-- The address at which a member listens.
 abbrev pub peer_at : ConfigSays → Option Member → Option Peer
 peer_at config None = None
 peer_at config (Some member) = Some (record { address = member.address; port = config.port })
 
--- the receiver of a message
+-- The receiver of a message.
 abbrev pub peer_of : ConfigSays → To → Option Peer
 peer_of config (whom.Member place) = peer_at config (slice_get config.members place)
 peer_of config (whom.Client peer) = Some peer
 
--- a message of a ticket, as it is sent at this moment
+-- A message of a ticket, as it is sent at this moment.
 abbrev pub sent_as : NodeConfig → ℕ → Head → TicketPart → PlainMessage
 sent_as node now head part = stamped node.ring now (record { head = head; content = Ticket part })
 
--- The result of a ticket's request at the node: the answer with which the ticket goes on, and the counters.
+-- The result of a ticket's request at the node: the answer with which the ticket continues, and the counters.
 pub record Answered : Type 0 where
   pub ok : Bool
   pub common : Common
 
--- a send to a peer, if there is one: its success is not passed on, but counted
+-- A send to a peer, if there is one. Its success is counted, but not passed on to the ticket.
 abbrev pub sends : Option Peer → PlainMessage → Common → To → Deeds Ask Answered
 sends None message common to = Ends (record { ok = true; common = common })
 sends (Some peer) message common to =
     Does (Send peer message) (λ ok. Ends (record { ok = true; common = count_send common to ok }))
 
--- a request of the ticket with this name as the node's: each start uses up a number
+-- A request of the ticket with this name, as the node's request. Each start uses up a number.
 abbrev pub one_of : NodeConfig → ℕ → List ℕ → Common → TicketAsk → Deeds Ask Answered
 one_of node now name common (KeepsRecord tried) =
     Does (Keep name tried) (λ ok. Ends (record { ok = ok; common = common }))
@@ -110,16 +111,16 @@ pub record Lifted (S : Type 0) : Type 0 where
   pub common : Common
   pub left : S
 
--- the actions of a ticket as the node's, each request by its meaning there
+-- The actions of a ticket as the node's actions, with each request translated by `one_of`.
 abbrev pub lifted : {S : Type 0} → NodeConfig → ℕ → List ℕ → Common → Deeds TicketAsk S → Deeds Ask (Lifted S)
 lifted node now name common (Ends left) = Ends (record { common = common; left = left })
 lifted node now name common (Does ask goes_on) =
     one_of node now name common ask >>= (λ done. lifted node now name done.common (goes_on done.ok))
 
--- The actions for an event of a ticket at this moment, with the clients that wait for it and the number of further
--- clients that may wait for any ticket. Its prerequisites of a kind hold or not, and it may start its handler under
--- this job number, if it has one. At a deadline the prerequisites of an automatic grant count, and at a client's
--- request those of a manual one.
+-- The actions for an event of a ticket at this moment, with the clients that wait for the ticket, and the number of
+-- further clients that may wait for any ticket. The arguments also state whether the prerequisites of each kind hold,
+-- and the job number under which the ticket may start its handler, if it has one. At a deadline the prerequisites of
+-- an automatic grant count, and at a client's request those of a manual grant.
 abbrev pub befalls : TicketState → List Waiter → ℕ → (GrantKind → Bool) → Option ℕ → Event → ℕ
     → Deeds TicketAsk TicketLeft
 befalls ticket waiters spare ready job Due now =
@@ -140,7 +141,7 @@ acts_as node now state place event (Some ticket) =
     (is_ready node state.attributes place) (job_at node place state.common) event now)
     >>= (λ done. Ends (with_ticket state place done.common done.left))
 
--- the actions of the ticket at a place
+-- The actions of the ticket at a place.
 abbrev pub acts : NodeConfig → ℕ → State → ℕ → Event → Deeds Ask State
 acts node now state place event = acts_as node now state place event (slice_get state.tickets place)
 
@@ -148,20 +149,20 @@ acts node now state place event = acts_as node now state place event (slice_get 
 
 -- The action for a datagram.
 pub data Action : Type 0 where
-  -- it is dropped for this fault
+  -- The datagram is dropped for this fault.
   Drops : DropFault → Action
-  -- the member at a place sends a message about the ticket at a place
+  -- The member at a place sends a message about the ticket at a place.
   Hears : (from ticket : ℕ) → Head → TicketPart → Action
-  -- a client sends a request about the ticket at a place
+  -- A client sends a request about the ticket at a place.
   Asks : (ticket : ℕ) → Request → Action
-  -- a client sends a request about the attributes of the ticket at a place
+  -- A client sends a request about the attributes of the ticket at a place.
   Attends : (ticket : ℕ) → AttrRequest → Action
-  -- a client's request has these messages as its reply, in this order
+  -- A client's request is answered with these messages, in this order.
   Answers : List PlainMessage → Action
-  -- no action
+  -- There is no action.
   Rests : Action
 
--- messages are sent with their time, and sealed
+-- The action that sends these messages, with their time and sealed.
 abbrev pub answers : Option Ring → ℕ → List PlainMessage → Action
 answers ring now [] = Rests
 answers ring now (message ∷ messages) = Answers (map (stamped ring now) (message ∷ messages))
@@ -174,13 +175,13 @@ abbrev pub attends : Option ℕ → AttrRequest → Action → Action
 attends None request other = other
 attends (Some ticket) request other = Attends ticket request
 
--- a request about attributes goes to those of its ticket, at a site
+-- The action for a request about attributes, which goes to the attributes of its ticket, at a site.
 abbrev pub attended : NodeConfig → Option AttrRequest → Action → Action
 attended node None other = other
 attended node (Some request) other = attends (attended_place node request.ticket) request other
 
--- a request about a ticket of the configuration goes to the ticket or to its attributes, and every other request is
--- answered at once
+-- The action for a request. A request about a ticket of the configuration goes to the ticket or to its attributes,
+-- and every other request is answered at once.
 abbrev pub requested : NodeConfig → ℕ → List TicketState → Common → PlainMessage
     → Option (TicketPart × Request) → Action
 requested node now tickets common message None =
@@ -194,14 +195,14 @@ abbrev pub hears : Option ℕ → Option ℕ → Head → TicketPart → Action
 hears (Some from) (Some ticket) head part = Hears from ticket head part
 hears from ticket head part = Rests
 
--- a member's message goes to the ticket that it is about
+-- The action for a member's message, which goes to the ticket that it is about.
 abbrev pub said : NodeConfig → Head → Content → Action
 said node head (Ticket part) =
     hears (position (has_id head.from) node.config.members)
     (position (is_called part.ticket) node.config.tickets) head part
 said node head content = Rests
 
--- the action for an accepted message, by its kind
+-- The action for an accepted message, by its kind.
 abbrev pub routed : NodeConfig → ℕ → List TicketState → Common → Peer → PlainMessage → Direction → Action
 routed node now tickets common from message ToDaemon =
     requested node now tickets common message (request_in from message)
@@ -214,22 +215,22 @@ demanded node now tickets common from (Err fault) = Drops fault
 demanded node now tickets common from (Ok message) =
     routed node now tickets common from message (direction_of message.head.cmd)
 
--- the action for these bytes, by the gate's verdict
+-- The action for these bytes, by the gate's verdict.
 abbrev pub action : NodeConfig → ℕ → List TicketState → Common → Peer → List ℕ → Action
 action node now tickets common from bytes =
     demanded node now tickets common from (verdict node.config node.ring node.me now bytes)
 
--- the state after a client's request about the attributes of the ticket at a place
+-- The state after a client's request about the attributes of the ticket at a place.
 abbrev pub after_attending : State → ℕ → AttrRequest → State
 after_attending state ticket request =
     record state { attributes = after_wish state.attributes ticket request.wish }
 
--- a message goes back to the sender of the request
+-- A send of a message back to the sender of the request.
 abbrev pub sends_back : Peer → PlainMessage → Deeds Ask (Unit {0})
 sends_back from message = Does (Send from message) (λ ok. Ends tt)
 
--- The calls for an action. A dropped datagram changes one counter; a member's message is counted for the member, and
--- then goes to its ticket; a request about attributes is done, and answered.
+-- The calls for an action. A dropped datagram changes one counter. A member's message is counted for the member, and
+-- then goes to its ticket. A request about attributes is done and answered.
 abbrev pub met : NodeConfig → ℕ → State → Peer → Action → Deeds Ask State
 met node now state from (Drops fault) = Ends (dropped state fault)
 met node now state from (Hears member ticket head part) =
@@ -241,15 +242,15 @@ met node now state from (Attends ticket request) =
 met node now state from (Answers messages) = each (sends_back from) messages >> Ends state
 met node now state from Rests = Ends state
 
--- the tickets at these places are informed about the end of a job, one after the other
+-- The actions that inform the tickets at these places about the end of a job, one ticket after the other.
 abbrev pub each_over : NodeConfig → ℕ → ℕ → Service → List ℕ → State → Deeds Ask State
 each_over node now job service places = through (λ place state. acts node now state place (Over job service)) places
 
--- the places of all tickets, in the order of the configuration
+-- The places of all tickets, in the order of the configuration.
 abbrev pub all_places : State → List ℕ
 all_places state = range_with_len 0 (length state.tickets)
 
--- the actions for an arrival; a failed `next` counts as Quiet
+-- The actions for an arrival. A failed `next` counts as Quiet.
 abbrev pub arrived : NodeConfig → ℕ → State → Result Arrival Failed → List ℕ → Deeds Ask State
 arrived node now state (Ok (arrivals.Datagram from)) bytes =
     met node now state from (action node now state.tickets state.common from bytes)
@@ -263,35 +264,36 @@ turn_end answer = Went
 
 -- ---- the deadlines
 
--- the next deadline of each ticket
+-- The next deadline of a ticket.
 abbrev pub deadline_of : TicketState → Option ℕ
 deadline_of ticket = deadline ticket.known
 
--- the places of the tickets whose deadline has passed, by deadline and then place
+-- The places of the tickets whose deadline has passed, by deadline and then place.
 abbrev pub due_places : ℕ → List TicketState → List ℕ
 due_places now tickets = map (λ entry. entry.1) (due_list now (map deadline_of tickets))
 
--- the actions for the deadlines of these tickets, one after the other
+-- The actions for the deadlines of these tickets, one ticket after the other.
 abbrev pub each_due : NodeConfig → ℕ → List ℕ → State → Deeds Ask State
 each_due node now places = through (λ place state. acts node now state place Due) places
 
--- the actions for each ticket whose deadline has passed, in its state after the arrival, once each; none after Stop
+-- The actions for each ticket whose deadline has passed, once each, in its state after the arrival. There are none
+-- after Stop.
 abbrev pub dues : NodeConfig → ℕ → Turn → State → Deeds Ask State
 dues node now Went state = each_due node now (due_places now state.tickets) state
 dues node now Stopped state = Ends state
 
 -- ---- the turn
 
--- the clock reading that a turn uses: never before the last one, and below 2 ^ 62
+-- The clock reading that a turn uses. It is never before the last one, and below 2 ^ 62.
 abbrev pub used : ℕ → ℕ → ℕ
 used last reading = max last (min reading (2 ^ 62 - 1))
 
--- all actions of a turn at this moment: those for the arrival, and then those for the deadlines
+-- All actions of a turn at this moment: first for the arrival, and then for the deadlines.
 abbrev pub react : NodeConfig → State → ℕ → Result Arrival Failed → List ℕ → Deeds Ask State
 react node state now arrival bytes =
     arrived node now (record state { last_reading = now }) arrival bytes >>= dues node now (turn_end arrival)
 
--- one `next` with a wait of 100 ms, one `now`, and then exactly the actions for these
+-- The calls of a turn: one `next` with a wait of 100 ms, one `now`, and then exactly the actions for their answers.
 abbrev pub IsTurn : NodeConfig → State → Turn → List Entry → State → Type 0
 IsTurn node old turn (calls.Next wait answer bytes ∷ calls.Now reading ∷ entries) new =
     (wait ≡ 100) × (turn ≡ turn_end answer)

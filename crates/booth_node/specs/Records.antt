@@ -1,4 +1,4 @@
--- The records that a member may have written for a ticket, by what it did.
+-- The records that a member may have written for a ticket, according to its entries.
 use Rattle.std.specs.Prelude.{◌≡◌, ◌⊎◌, ℕ, Bool, true, false, List, [], ◌∷◌, slice_get, position, unwrap_or, Option, None, bytes_eq, if◌then◌else◌, is_ok}
 use Rattle.std.specs.Option.{option_map_or}
 use Rattle.booth_conf.specs.Lookups.{is_called}
@@ -8,27 +8,28 @@ use Rattle.booth_rec.specs.Record.{record_or_none}
 use Rattle.booth_host.specs.declared.entry.Entry.TheVariants as calls
 use Rattle.booth_node.specs.Session.{SessionEntry, Starts, Makes, IsCut, CutKeep}
 
--- x is in the list
+-- The value is in the list.
 abbrev pub Has : {A : Type 0} → List A → A → Type 0
 Has [] x = ⊥
 Has (y ∷ ys) x = (y ≡ x) ⊎ Has ys x
 
--- the record that a start read for the ticket at a place
+-- The record that a start read for the ticket at a place.
 abbrev pub record_at : List (Option Record) → ℕ → Record
 record_at records place = record_or_none (unwrap_or (slice_get records place) None)
 
--- after a write that was done its record is the only one; a write that failed adds its record
+-- The records that may have been written after a write. If the write was done, its record is the only one. A write
+-- that failed adds its record.
 abbrev pub may_after_keep : Bool → Record → List Record → List Record
 may_after_keep true rec may = rec ∷ []
 may_after_keep false rec may = rec ∷ may
 
--- after a start the record that it read for the ticket with this name is the only one, if its configuration has the
--- ticket
+-- The records that may have been written after a start. If its configuration has the ticket with this name, the
+-- record that the start read for it is the only one.
 abbrev pub may_after_start : List ℕ → List TicketConf → List (Option Record) → List Record → List Record
 may_after_start name tickets records may =
     option_map_or (λ place. record_at records place ∷ []) (position (is_called name) tickets) may
 
--- an interrupted write adds its record
+-- The records that may have been written after an entry. An interrupted write adds its record.
 abbrev pub may_after : List ℕ → List Record → SessionEntry → List Record
 may_after name may (Starts node reading records) = may_after_start name node.config.tickets records may
 may_after name may (Makes (calls.Keep ticket rec answer)) =
@@ -40,7 +41,8 @@ abbrev pub may_after_all : List ℕ → List Record → List SessionEntry → Li
 may_after_all name may [] = may
 may_after_all name may (entry ∷ entries) = may_after_all name (may_after name may entry) entries
 
--- with the record of the next entry, if that is a write for the ticket, whether done, failed or interrupted
+-- The records, with the record of the next entry if that entry is a write for the ticket, whether done, failed or
+-- interrupted.
 abbrev pub with_next : List ℕ → List Record → List SessionEntry → List Record
 with_next name may (Makes (calls.Keep ticket rec answer) ∷ entries) =
     if bytes_eq ticket name then rec ∷ may else may
@@ -49,7 +51,7 @@ with_next name may (IsCut (CutKeep ticket rec) ∷ entries) =
 with_next name may entries = may
 
 -- The records that a member, site or arbitrator, may have written for the ticket with a name, after some of its
--- entries and before others. At first it has the record with which it begins; if its next entry is a write for the
+-- entries and before others. At first it has the record with which it begins. If its next entry is a write for the
 -- ticket, the record of that write already counts. A session whose configuration lacks the ticket reads and writes no
 -- record for it.
 abbrev pub may_be_kept : List ℕ → Record → List SessionEntry → List SessionEntry → List Record

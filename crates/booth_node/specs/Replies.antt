@@ -1,4 +1,4 @@
--- The replies to clients, and their requests about a ticket.
+-- The replies to clients, and clients' requests about a ticket.
 use Rattle.std.specs.Prelude.{ℕ, ◌+◌, ◌++◌, true, false, Bool, List, [], ◌∷◌, map, Option, Some, None, codes, decimal, position, slice_get, if◌then◌else◌}
 use Rattle.std.specs.List.{flat_map, zip}
 use Rattle.booth_base.specs.declared.address.MemberId.{MemberId}
@@ -28,11 +28,11 @@ use Rattle.booth_node.specs.Lists.{cut_lines, part_text}
 
 -- TEXTS
 
--- a number after a blank
+-- A number after a blank.
 abbrev pub spaced : ℕ → List ℕ
 spaced n = codes " " ++ decimal n
 
--- the member's address and the end of its lease in seconds, or that there is no owner
+-- The member's address and the end of its lease in seconds. If there is no owner, the text states that.
 abbrev pub owner_at : Option Member → ℕ → List ℕ
 owner_at None until_secs = codes "none 0"
 owner_at (Some member) until_secs = printed member.address ++ spaced until_secs
@@ -41,45 +41,45 @@ abbrev pub owner_in : List Member → Option ℕ → ℕ → List ℕ
 owner_in members None until_secs = codes "none 0"
 owner_in members (Some place) until_secs = owner_at (slice_get members place) until_secs
 
--- the known owner of a ticket
+-- The known owner of a ticket, as text.
 abbrev pub owner_text : ConfigSays → Option Owner → List ℕ
 owner_text config None = codes "none 0"
 owner_text config (Some shown) =
     owner_in config.members (position (has_id shown.site) config.members) shown.until_secs
 
--- the line of a ticket: its name, its owner at this moment, and the end of the owner's lease in seconds
+-- The line of a ticket: its name, its owner at this moment, and the end of the owner's lease in seconds.
 abbrev pub list_line : ConfigSays → ℕ → TicketState → List ℕ
 list_line config now ticket =
     ticket.setup.ticket ++ codes " " ++ owner_text config (owner ticket.setup ticket.known now) ++ codes "\n"
 
--- a line for each ticket, in the order of the configuration
+-- The lines of all tickets, in the order of the configuration.
 abbrev pub list_lines : NodeConfig → ℕ → List TicketState → List (List ℕ)
 list_lines node now tickets = map (list_line node.config now) tickets
 
--- how many datagrams were dropped for each fault, in the gate's order
+-- The line with the number of datagrams that were dropped for each fault, in the gate's order.
 abbrev pub drops_line : List ℕ → List ℕ
 drops_line drops = codes "dropped" ++ flat_map spaced drops ++ codes "\n"
 
 abbrev pub role_of : Bool → List ℕ
 role_of site = if site then codes "site " else codes "arbitrator "
 
--- when the last datagram of a member was accepted, how many were accepted, and how many sends to it succeeded and
--- failed
+-- The line of a member: when its last datagram was accepted, how many were accepted, and how many sends to it
+-- succeeded and failed.
 abbrev pub peer_line : Member × Counters → List ℕ
 peer_line p =
     role_of p.0.site ++ printed p.0.address
     ++ flat_map spaced (p.1.last ∷ p.1.accepted ∷ p.1.sent ∷ p.1.errors ∷ []) ++ codes "\n"
 
--- the line of another member; the node's own has none
+-- The line of another member. The node's own member has no line.
 abbrev pub other_line : NodeConfig → Member × Counters → List ℕ
 other_line node p = if has_id node.me p.0 then [] else peer_line p
 
--- the drops, and a line for each other member, in the order of the configuration
+-- The text with the drops, and a line for each other member, in the order of the configuration.
 abbrev pub peers_text : NodeConfig → Common → List ℕ
 peers_text node common =
     drops_line common.drops ++ flat_map (other_line node) (zip node.config.members common.members)
 
--- the text of the reply to a command, empty if it has none
+-- The text of the reply to a command, empty if it has none.
 abbrev pub text_for : NodeConfig → Common → Cmd → List ℕ
 text_for node common Peer = peers_text node common
 text_for node common cmd = []
@@ -90,7 +90,7 @@ pub record Reply : Type 0 where
   pub result : ℕ
   pub content : Content
 
--- the ticket is unknown
+-- The reply for an unknown ticket.
 abbrev pub no_ticket : Content → Option Reply
 no_ticket (Ticket part) =
     Some (record {
@@ -107,17 +107,17 @@ abbrev pub ticket_in : List TicketState → Option ℕ → Option TicketState
 ticket_in tickets None = None
 ticket_in tickets (Some place) = slice_get tickets place
 
--- the ticket with this name, if the configuration has it
+-- The ticket with this name, if the configuration has it.
 abbrev pub ticket_named : NodeConfig → List TicketState → List ℕ → Option TicketState
 ticket_named node tickets name = ticket_in tickets (position (is_called name) node.config.tickets)
 
--- the state of the ticket that a request names; for an unknown ticket, only its name
+-- The reply with the state of the ticket that a request names. For an unknown ticket, it has only the ticket's name.
 abbrev pub told_of : Option TicketState → ℕ → TicketPart → Option Reply
 told_of (Some ticket) now asked =
     Some (record { result = SUCCESS; content = Ticket (told_ticket ticket.setup ticket.known now) })
 told_of None now asked = no_ticket (Ticket asked)
 
--- the reply to a request for one ticket
+-- The reply to a request for one ticket.
 abbrev pub told_for : NodeConfig → ℕ → List TicketState → Content → Option Reply
 told_for node now tickets (Ticket asked) = told_of (ticket_named node tickets asked.ticket) now asked
 told_for node now tickets Bare = None
@@ -126,7 +126,7 @@ told_for node now tickets (Text text) = None
 
 -- ---- attributes
 
--- the reply repeats the attribute, which the request names
+-- The reply for an unknown attribute, which repeats the attribute that the request names.
 abbrev pub no_attribute_of : AttrPart → Option (List ℕ) → Option Reply
 no_attribute_of part (Some name) = Some (record { result = IARG; content = Attr part })
 no_attribute_of part None = None
@@ -137,8 +137,8 @@ no_attribute Bare = None
 no_attribute (Ticket part) = None
 no_attribute (Text text) = None
 
--- the reply to a client's command with this content, if this text and this part about a ticket were made for it; none
--- for other commands, and none for a list, which is answered in parts
+-- The reply to a client's command with this content, if this text and this part about a ticket were made for it.
+-- Other commands have no reply here, and neither has a list, which is answered in parts.
 abbrev pub reply_with : List ℕ → Option Reply → Cmd → Content → Option Reply
 reply_with text told CTkt content = told
 reply_with text told Peer content = Some (record { result = SUCCESS; content = Text text })
@@ -166,19 +166,19 @@ reply_message me request cmd reply = record {
   content = reply.content;
 }
 
--- the message of a reply, if the command has an answer and there is a reply
+-- The message of a reply, if the command has an answer and there is a reply.
 abbrev pub answered : MemberId → ℕ → Option Cmd → Option Reply → List PlainMessage
 answered me request (Some cmd) (Some reply) = reply_message me request cmd reply ∷ []
 answered me request (Some cmd) None = []
 answered me request None reply = []
 
--- a part of a list with this text, as the reply with this number
+-- The message with this text of a part of a list, as the reply with this number.
 abbrev pub part_message : MemberId → ℕ → ℕ → ℕ → List ℕ → PlainMessage
 part_message me request number result text =
     let whole : PlainMessage = reply_message me request RLst (record { result = result; content = Text text }) in
     record whole { head = record whole.head { options = number } }
 
--- the parts of a list as messages, numbered from this one on: each but the last says that more follow
+-- The parts of a list as messages, numbered from this number on. Each part except the last states that more follow.
 abbrev pub part_messages : MemberId → ℕ → ℕ → List (List (List ℕ)) → List PlainMessage
 part_messages me request number [] = []
 part_messages me request number (part ∷ []) = part_message me request number SUCCESS (part_text part) ∷ []
@@ -189,8 +189,8 @@ abbrev pub is_list : Cmd → Bool
 is_list CLst = true
 is_list cmd = false
 
--- the immediate answer to a client's message, at this moment, in this order: a list in parts, anything else in at
--- most one message
+-- The immediate answer to a client's message, at this moment, as messages in this order: a list in parts, anything
+-- else in at most one message.
 abbrev pub replies_to : NodeConfig → ℕ → List TicketState → Common → PlainMessage → List PlainMessage
 replies_to node now tickets common message =
     if is_list message.head.cmd
@@ -211,6 +211,6 @@ request_of from head (Some wish) (Ticket part) =
     Some (part, record { wish = wish; from = from; number = head.request; options = head.options })
 request_of from head wish content = None
 
--- the request about a ticket in a client's message, if it has one
+-- The request about a ticket in a client's message, if it has one.
 abbrev pub request_in : Sender → PlainMessage → Option (TicketPart × Request)
 request_in from message = request_of from message.head (wish_of message.head.cmd) message.content

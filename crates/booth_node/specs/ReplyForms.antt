@@ -1,4 +1,4 @@
--- The properties of the code's replies.
+-- The properties of the replies that the code makes.
 use Rattle.std.specs.Prelude.{◌≡◌, true, false, Bool, List, [], ◌∷◌, length, nat_le, ℕ, Option, Some, None, if◌then◌else◌}
 use Rattle.booth_keys.specs.declared.ring.Ring.{Ring}
 use Rattle.booth_wire.specs.declared.command.Cmd.{Cmd}
@@ -12,7 +12,7 @@ use Rattle.booth_node.specs.declared.node_config.NodeConfig.{NodeConfig}
 use Rattle.booth_node.specs.Lists.{IsPart}
 use Rattle.booth_node.specs.Replies.{Reply, part_message}
 
--- a content of the form that its command has
+-- The content has the form that its command requires.
 pub record HasForm (cmd : Cmd) (content : Content) : Type 0 where
   pub kind : kind_in content ≡ kind_of cmd
   pub named : is_named cmd content ≡ true
@@ -21,19 +21,19 @@ pub record HasForm (cmd : Cmd) (content : Content) : Type 0 where
 abbrev pub reply_of : MadeReply → Reply
 reply_of reply = record { result = reply.result; content = content_of reply.body }
 
--- if there is a reply, this frame has it, with its time and sealed; the Boolean says whether there is one
+-- If there is a reply, this frame contains it, with its time and sealed. The Boolean shows whether there is one.
 abbrev pub IsWritten : Option Ring → ℕ → List PlainMessage → Bool → List ℕ → Type 0
 IsWritten ring now [] written frame = written ≡ false
 IsWritten ring now (reply ∷ []) written frame =
     (written ≡ true) × (frame ≡ sealed ring (stamped ring now reply)) × Fits (stamped ring now reply)
 IsWritten ring now (reply ∷ next ∷ replies) written frame = ⊥
 
--- the result of a part with this many of these lines
+-- The result of a part with this many of these lines.
 abbrev pub part_result : List (List ℕ) → ℕ → ℕ
 part_result lines count = if nat_le (length lines) count then SUCCESS else MORE
 
--- This frame has the first part of these lines as the reply with this number, with its time and sealed; the part has
--- this many lines.
+-- This frame contains the first part of these lines as the reply with this number, with its time and sealed. The part
+-- has this many lines.
 pub record IsPartWritten (node : NodeConfig) (now : ℕ) (lines : List (List ℕ)) (request number count : ℕ)
     (frame : List ℕ) : Type 0 where
   pub text : List ℕ
@@ -42,7 +42,7 @@ pub record IsPartWritten (node : NodeConfig) (now : ℕ) (lines : List (List ℕ
       ≡ sealed node.ring (stamped node.ring now (part_message node.me request number (part_result lines count) text))
   pub fits : Fits (stamped node.ring now (part_message node.me request number (part_result lines count) text))
 
--- one or none as a list
+-- An optional value as a list with one element or none.
 abbrev pub listed : {A : Type 0} → Option A → List A
 listed None = []
 listed (Some x) = x ∷ []

@@ -16,7 +16,7 @@ use Rattle.booth_node.specs.AttributeRequests.{attr_request_in}
 use Rattle.booth_node.specs.Replies.{replies_to}
 use Rattle.booth_node.specs.Reaction.{Action, Hears, Asks, Attends as AttendsTo, Rests, answers, attended, requested, routed}
 
--- the action that the code names, if this is the action for a request that is answered at once
+-- The action that the code names, if a request that is answered at once has this action.
 abbrev pub named : Action → Made → Action
 named answer (made.Hear from ticket head part) = Hears from ticket head part
 named answer (made.Ask ticket request) = Asks ticket request
@@ -24,33 +24,34 @@ named answer (made.Attend ticket request) = AttendsTo ticket request
 named answer made.Answer = answer
 named answer made.Rest = Rests
 
--- the code names this action, for any immediate answer
+-- The code names this action, for any immediate answer.
 abbrev pub Names : Made → Action → Type 0
 Names made_action action = (answer : Action) → named answer made_action ≡ action
 
--- the code names the action for a request that is not about a ticket itself
+-- The code names the action for a request that is not about a ticket itself.
 abbrev pub Attends : NodeConfig → PlainMessage → Made → Type 0
 Attends node message made_action =
     (answer : Action) → named answer made_action ≡ attended node (attr_request_in message) answer
 
--- the action if this message is answered at once
+-- The action for this message, if it is answered at once.
 abbrev pub at_once : NodeConfig → ℕ → List TicketState → Common → PlainMessage → Action
 at_once node now tickets common message = answers node.ring now (replies_to node now tickets common message)
 
--- the code names the action for a request with this content, in every state of the node
+-- The code names the action for a request with this content, in every state of the node.
 abbrev pub Requests : NodeConfig → PlainMessage → Option (TicketPart × Request) → Made → Type 0
 Requests node message found made_action =
     (now : ℕ) (tickets : List TicketState) (common : Common)
     → named (at_once node now tickets common message) made_action ≡ requested node now tickets common message found
 
--- the code names the action for a message of this peer, in every state of the node
+-- The code names the action for a message of this peer, in every state of the node.
 abbrev pub Routes : NodeConfig → Peer → PlainMessage → Made → Type 0
 Routes node from message made_action =
     (now : ℕ) (tickets : List TicketState) (common : Common)
     → named (at_once node now tickets common message) made_action
     ≡ routed node now tickets common from message (direction_of message.head.cmd)
 
--- the places in the code's action are those of the configuration: the place of the sender, and that of a ticket
+-- The places in the code's action are places of the configuration: the place of the sender, and the place of a
+-- ticket.
 abbrev pub IsPlaced : NodeConfig → MemberId → Made → Type 0
 IsPlaced node sender (made.Hear from ticket head part) =
     (position (has_id sender) node.config.members ≡ Some from) × (ticket < length node.config.tickets)

@@ -1,4 +1,5 @@
--- What a member does over time: its sessions, each a start and then calls of turns, cut off after any of them.
+-- The actions of a member over time: its sessions. Each session is a start and then calls of turns, and may be cut
+-- off after any call.
 use Rattle.std.specs.Prelude.{◌≡◌, ℕ, Bool, true, List, [], ◌∷◌, length, Option, Result, is_ok}
 use Rattle.booth_base.specs.declared.address.Peer.{Peer}
 use Rattle.booth_base.specs.Tree.{Deeds, Ends, Does}
@@ -25,9 +26,9 @@ pub data CutCall : Type 0 where
   CutKeep : (ticket : List ℕ) (tried : Record) → CutCall
   CutStart : (job : Job) → CutCall
 
--- What a member does: it starts, in the version of its node, with one clock reading and the record of each ticket in
--- file order, as it read them; it makes a call, with its answer; or it makes an interrupted call, which is the last
--- of its session.
+-- An action of a member. It starts, in its node's version, with one clock reading and the record of each ticket, as
+-- it read them, in file order. Or it makes a call, with its answer. Or it makes an interrupted call, which is the
+-- last of its session.
 pub data SessionEntry : Type 0 where
   Starts : (node : NodeConfig) (reading : ℕ) (records : List (Option Record)) → SessionEntry
   Makes : (call : Entry) → SessionEntry
@@ -35,21 +36,22 @@ pub data SessionEntry : Type 0 where
 
 -- ---- the state of the member afterwards
 
--- A member is down; or the actions of a turn remain, none of them between two turns; or it has the answer of a
--- `next`, and must read its clock.
+-- The state of a member. `Down`: it does not run. `Doing`: these actions of its turn remain, or none between two turns.
+-- `Hearing`: it has the answer of a `next`, and must read its clock.
 pub data Stand : Type 0 where
   Down : Stand
   Doing : (node : NodeConfig) (deeds : Deeds Ask State) → Stand
   Hearing : (node : NodeConfig) (old : State) (answer : Result Arrival Failed) (bytes : List ℕ) → Stand
 
--- whether a call succeeded; only sends, writes and starts can fail
+-- Whether a call succeeded. Only sends, writes and starts can fail.
 abbrev pub did : Entry → Bool
 did (calls.Send to bytes answer) = is_ok answer
 did (calls.Keep ticket rec answer) = is_ok answer
 did (calls.Start number ticket handler local expires answer) = is_ok answer
 did call = true
 
--- a `next` with a wait of 100 ms begins a turn, then the clock is read, and then each action of the turn is done
+-- The condition of a call. A `next` with a wait of 100 ms begins a turn, then the clock is read, and then each action
+-- of the turn is done.
 abbrev pub MayMake : Stand → Entry → Type 0
 MayMake (Doing node (Ends old)) (calls.Next wait answer bytes) = wait ≡ 100
 MayMake (Doing node (Does ask go)) call = IsDone node.ring ask (did call) call
@@ -63,7 +65,7 @@ after_call (Hearing node old answer bytes) (calls.Now reading) =
     Doing node (react node old (used old.last_reading reading) answer bytes)
 after_call stand call = stand
 
--- the next call may be interrupted
+-- The interrupted call is the next call.
 abbrev pub IsNextDeed : NodeConfig → Ask → CutCall → Type 0
 IsNextDeed node (Send peer message) (CutSend to bytes) = (to ≡ peer) × (bytes ≡ sealed node.ring message) × Fits message
 IsNextDeed node (Keep name tried) (CutKeep ticket rec) = (ticket ≡ name) × (rec ≡ tried)
@@ -76,19 +78,21 @@ MayBeCut (Doing node (Does ask go)) call = IsNextDeed node ask call
 MayBeCut (Hearing node old answer bytes) CutNow = Unit {0}
 MayBeCut stand call = ⊥
 
--- A session may end anywhere, and then the next may start; an interrupted call is its last.
+-- The condition of an entry. A session may end anywhere, and then the next session may start. An interrupted call is
+-- the last of its session.
 abbrev pub MayDo : Stand → SessionEntry → Type 0
 MayDo stand (Starts node reading records) = length records ≡ length node.config.tickets
 MayDo stand (Makes call) = MayMake stand call
 MayDo stand (IsCut call) = MayBeCut stand call
 
--- a start leaves the node in its opening state, between two turns
+-- The state after an entry. A start leaves the node in its opening state, between two turns.
 abbrev pub after_entry : Stand → SessionEntry → Stand
 after_entry stand (Starts node reading records) = Doing node (Ends (opened node records reading))
 after_entry stand (Makes call) = after_call stand call
 after_entry stand (IsCut call) = Down
 
--- from the member's current state, these are the rest of a session and then whole sessions, one after the other
+-- From the member's current state, these entries are the rest of a session and then whole sessions, one after the
+-- other.
 abbrev pub AreSessions : Stand → List SessionEntry → Type 0
 AreSessions stand [] = Unit {0}
 AreSessions stand (entry ∷ entries) = MayDo stand entry × AreSessions (after_entry stand entry) entries

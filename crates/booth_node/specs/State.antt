@@ -5,8 +5,8 @@ use Rattle.booth_node.specs.declared.state.Common.{Common}
 use Rattle.booth_ticket.specs.declared.waiters.Waiter.{Waiter}
 use Rattle.booth_ticket.specs.Ticket.{TicketState, TicketLeft}
 
--- the tickets in the order of the configuration, the clients that wait for each, the attributes of each, the
--- counters, and the last reading that was used, in milliseconds
+-- The state: the tickets in the order of the configuration, the clients that wait for each, the attributes of each,
+-- the counters, and the last reading that was used, in milliseconds.
 pub record State : Type 0 where
   pub tickets : List TicketState
   pub waiters : List (List Waiter)
@@ -14,7 +14,7 @@ pub record State : Type 0 where
   pub common : Common
   pub last_reading : ℕ
 
--- the state after a call of the ticket at a place, with that ticket replaced and the counters changed
+-- The state after a call of the ticket at a place, with that ticket replaced and the counters changed.
 abbrev pub with_ticket : State → ℕ → Common → TicketLeft → State
 with_ticket state place common left = record state {
   tickets = slice_set state.tickets place left.ticket;
@@ -22,7 +22,7 @@ with_ticket state place common left = record state {
   common = common;
 }
 
--- the state of these parts
+-- The state that consists of these parts.
 abbrev pub state_of_parts : List TicketState → List (List Waiter) → Attributes → Common → ℕ → State
 state_of_parts tickets waiters attributes common last_reading = record {
   tickets = tickets;

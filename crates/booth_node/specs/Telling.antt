@@ -1,4 +1,4 @@
--- How a list is sent, part by part.
+-- The sending of a list, part by part.
 use Rattle.std.specs.Prelude.{ℕ, List, Option, map}
 use Rattle.booth_base.specs.declared.address.Peer.{Peer}
 use Rattle.booth_host.specs.declared.entry.Entry.{Entry}
@@ -11,11 +11,12 @@ use Rattle.booth_node.specs.Reaction.{IsDone, sends_back}
 use Rattle.booth_node.specs.Replies.{part_message, part_messages}
 use Rattle.booth_node.specs.ReplyForms.{part_result}
 
--- the messages with these lines of a list, as they are sent at this moment
+-- The messages with these lines of a list, as they are sent at this moment.
 abbrev pub list_messages : NodeConfig → ℕ → ℕ → List (List ℕ) → List PlainMessage
 list_messages node now request lines = map (stamped node.ring now) (part_messages node.me request 0 (cut_lines 0 lines))
 
--- The host was made to send the first part of these lines, with this many of them, as the reply with this number.
+-- The host was called to send the first part of these lines, which contains this many of them, as the reply with this
+-- number.
 pub record SendsPart {H : Type 0} (past : H → Option (List Entry)) (faults : H → ℕ) (node : NodeConfig) (now : ℕ)
     (lines : List (List ℕ)) (to : Peer) (request number count : ℕ) (old new : H) : Type 0 where
   pub text : List ℕ

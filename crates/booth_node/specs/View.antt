@@ -1,4 +1,4 @@
--- What a caller sees of a node.
+-- The parts of a node that a caller sees.
 use Rattle.booth_node.specs.declared.node_config.NodeConfig.{NodeConfig}
 use Rattle.booth_node.specs.declared.node.Node.{Node}
 use Rattle.booth_node.specs.declared.tickets.TicketTable.{TicketTable}
@@ -9,7 +9,7 @@ abbrev pub state_with : TicketTable → ℕ → State
 state_with table last_reading =
     state_of_parts table.tickets.items table.waiters table.attrs table.common last_reading
 
--- only the buffer for messages has changed
+-- Only the buffer for messages has changed.
 pub record TellsAlone (old new : TicketTable) : Type 0 where
   pub node : new.node ≡ old.node
   pub tickets : new.tickets.items ≡ old.tickets.items

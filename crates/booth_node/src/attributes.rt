@@ -15,7 +15,7 @@ use booth_wire::{AttrPart, Body, Cmd, Head, Message, results};
 /// A request about the attributes of a ticket.
 #[derive(Drop)]
 pub(crate) enum AttrWish {
-    /// Give this name this value.
+    /// Set this name to this value.
     Set(Pair),
     /// Return the value of this name. If there is no such name, the reply repeats the client's value.
     Get(Pair),
@@ -35,7 +35,7 @@ pub(crate) struct AttrRequest {
     pub wish: AttrWish,
 }
 
-/// Returns whether the prerequisites hold that a grant of this kind needs, for the ticket at a place.
+/// Returns whether the prerequisites for a grant of this kind hold, for the ticket at a place.
 pub(crate) fn is_ready(node: &NodeConfig, attrs: &Attrs, place: u32, kind: GrantKind) -> bool
     requires { place < length attrs.now.lists }
     ensures { result ≡ is_ready node.now attrs.now place kind }
@@ -127,7 +127,7 @@ pub(crate) fn write_pairs(attrs: &Attrs, place: u32, wish: &AttrWish, text: &mut
     }
 }
 
-// Returns the reply with this result that repeats ticket, name and value.
+// Returns the reply with this result that repeats the ticket, the name and the value.
 fn repeated<'a>(result_code: u32, ticket: &Name, pair: &Pair) -> Reply<'a>
     ensures { reply_of result ≡ record { result = result_code; content = repeated ticket.now pair.now } }
 {
@@ -169,7 +169,7 @@ fn get_reply<'a>(ticket: &Name, pair: &Pair, found: Option<&AttrValue>) -> Reply
     }
 }
 
-/// Does a client's request about the attributes of the ticket at a place, for which this text was made.
+/// Performs a client's request about the attributes of the ticket at a place, for which this text was made.
 pub(crate) fn attend<'a>(
     attrs: &mut Attrs,
     place: u32,

@@ -24,7 +24,7 @@ pub(crate) fn set_deadline(wheel: &mut Wheel, slot: u32, deadline: Option<u64>)
     }
 }
 
-/// Sets the deadline of the ticket at this place again, if there is such a ticket.
+/// Updates the deadline of the ticket at this place, if there is such a ticket.
 pub(crate) fn look_again(table: &TicketTable, wheel: &mut Wheel, place: Option<usize>)
     requires there { IfSome place (λ place. place < length table.now.tickets.items) }
     requires slots { length wheel.old.deadlines ≡ length table.now.tickets.items }
@@ -37,7 +37,7 @@ pub(crate) fn look_again(table: &TicketTable, wheel: &mut Wheel, place: Option<u
     }
 }
 
-// The slots that are due, in order. They have no deadline any more.
+// Drains the slots that are due, in order. They no longer have a deadline.
 fn drain_counted<L: Ledger>(wheel: &mut Wheel, now: u64, due: &mut Vec<u32>, blank: Blank)
     requires name { blank.name ≡ L.name }
     requires parts { blank.parts ≡ L.parts }
@@ -55,7 +55,7 @@ fn drain_counted<L: Ledger>(wheel: &mut Wheel, now: u64, due: &mut Vec<u32>, bla
     wheel.drain(now, due, &mut steps);
 }
 
-/// Puts the slots that are due into `due`, by deadline and then slot. They have no deadline any more.
+/// Writes the slots that are due into `due`, by deadline and then slot. They no longer have a deadline.
 pub(crate) fn drain(wheel: &mut Wheel, now: u64, due: &mut Vec<u32>)
     requires later { wheel.old.last ≤ now }
     requires room { length wheel.old.deadlines ≤ vec_capacity due.old }

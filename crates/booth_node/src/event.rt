@@ -1,19 +1,19 @@
-//! What befalls a ticket in a turn.
+//! The events of a ticket in a turn.
 use booth_ticket::{Request, Service};
 use booth_wire::{Head, TicketPart};
 
-/// What befalls a ticket in a turn.
+/// An event of a ticket in a turn.
 #[derive(Drop)]
 pub(crate) enum Event {
-    /// Its deadline has passed.
+    /// The ticket's deadline has passed.
     Due,
-    /// The member at a place sent a message about it.
+    /// The member at a place sent a message about the ticket.
     Heard {
         from: u32,
         head: Head,
         part: TicketPart,
     },
-    /// A client sent a request about it.
+    /// A client sent a request about the ticket.
     Asked(Request),
     /// A run of a handler (job) has ended.
     Over {

@@ -28,7 +28,7 @@ use booth_rec::Record;
 use booth_ticket::{Hands, Ticket, To, Waiters};
 use booth_wire::{Body, Frame, Head, Message, TicketPart};
 
-/// A host, and what the actions of a ticket change at the node.
+/// A host, and the parts of the node that the actions of a ticket change.
 #[derive(Drop)]
 pub(crate) struct NodeHands<'a, H: Host> {
     pub host: &'a mut H,
@@ -170,8 +170,8 @@ impl<'a, H: Host> Hands for NodeHands<'a, H> {
     }
 }
 
-/// Handles an event of the ticket at the place `list`. Its waiting clients and its attributes are there, and its
-/// handler may be started under this job number, if it has one.
+/// Handles an event of the ticket at the place `list`, which is also the place of its waiting clients and its
+/// attributes. The ticket may start its handler under this job number, if it has one.
 fn befall<H: Host>(
     ticket: &mut Ticket,
     event: &Event,
@@ -218,7 +218,7 @@ fn befall<H: Host>(
     }
 }
 
-/// Handles an event of the ticket at a place among these, with hands that have its name.
+/// Handles an event of the ticket at a place among these, with hands that have the ticket's name.
 pub(crate) fn act_at<H: Host>(
     tickets: &mut Vec<Ticket>,
     place: u32,

@@ -1,4 +1,4 @@
-//! The runs of a node's handlers (jobs): how each is passed to the host, and which tickets are informed about its end.
+//! The runs of a node's handlers (jobs): how each is passed to the host, and which tickets are informed when it ends.
 ghost use Rattle.std.specs.Prelude.{◌≡◌, ◌≤◌, ◌<◌, ◌^◌, [], map, option_map, option_copied, length, position};
 ghost use Rattle.std.specs.List.{range_with_len};
 ghost use Rattle.booth_conf.specs.Lookups.{is_called};
@@ -83,7 +83,7 @@ pub(crate) fn job_of(node: &NodeConfig, name: &Name, number: u64, expires: u64) 
     }
 }
 
-/// Tells each ticket, in the order of the configuration, that a job has ended. Sets the next deadline of each.
+/// Informs each ticket, in the order of the configuration, that a job has ended. Sets the next deadline of each.
 pub(crate) fn end_each<H: Host>(
     table: &mut TicketTable,
     wheel: &mut Wheel,

@@ -1,14 +1,14 @@
-//! Laws of turns, each the contract of a function that does nothing.
+//! The laws of turns. Each is the contract of a function that does nothing.
 ghost use Rattle.booth_node.specs.Laws.{OpensWithItsTickets, KeepsItsTickets, NothingRests, DropsAlone, CountsEachFault, ClientsAreAnswered, OthersAreNotAnswered, NobodyIsForgotten};
 ghost use Rattle.booth_node.specs.Lists.{ListsHaveTheseParts};
 ghost use Rattle.booth_node.specs.Completeness.{RoundsAreAnswered, GrantsAskAll, MajoritiesGain};
 
-/// A node opens with the tickets of its configuration, each set up for it.
+/// A node opens with the tickets of its configuration, each set up for this node.
 pub fn opens_with_its_tickets()
     ensures { OpensWithItsTickets }
 {}
 
-/// They stay the same through every turn.
+/// The tickets of a node stay the same through every turn.
 pub fn keeps_its_tickets()
     ensures { KeepsItsTickets }
 {}
@@ -24,27 +24,30 @@ pub fn drops_alone()
     ensures { DropsAlone }
 {}
 
-/// A turn counts a fault exactly if its datagram has it, and no other fault.
+/// A turn counts a fault exactly if its datagram has that fault, and it counts no other fault.
 pub fn counts_each_fault()
     ensures { CountsEachFault }
 {}
 
-/// Each accepted request of a client has its one reply in the same turn, to its sender; a list has its parts.
+/// Each accepted request of a client gets its one reply in the same turn, sent to the client. A request for a list
+/// gets its parts.
 pub fn clients_are_answered()
     ensures { ClientsAreAnswered }
 {}
 
-/// The parts of a list are its lines, as many as fit into each, and this is the only division.
+/// The parts of a list are its lines, with as many in each part as fit. There is only one way to divide them like
+/// this.
 pub fn lists_have_these_parts()
     ensures { ListsHaveTheseParts }
 {}
 
-/// In a turn without a client's request only clients that wait receive a message.
+/// In a turn without a client's request, only clients that wait receive a message.
 pub fn others_are_not_answered()
     ensures { OthersAreNotAnswered }
 {}
 
-/// A client that waits still waits after the turn, or was sent in it the outcome of its grant of that ticket.
+/// After each turn, a client that waited still waits, or was sent the outcome of its grant of that ticket in the
+/// turn.
 pub fn nobody_is_forgotten()
     ensures { NobodyIsForgotten }
 {}
@@ -59,8 +62,8 @@ pub fn grants_ask_all()
     ensures { GrantsAskAll }
 {}
 
-/// A majority in time is granted the ticket until `expire` after its round was opened, if its write succeeds, and all
-/// clients that wait for the ticket are told.
+/// If a majority answers in time, the ticket is granted until `expire` after its round was opened, if its write
+/// succeeds. All clients that wait for the ticket are informed.
 pub fn majorities_gain()
     ensures { MajoritiesGain }
 {}

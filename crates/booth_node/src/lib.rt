@@ -1,4 +1,4 @@
-//! The node: one turn of the daemon, from an arrival to the last action that follows.
+//! The node: one turn of the daemon, from an arrival to the last action for it.
 #![tactic(auto)]
 
 mod attributes;

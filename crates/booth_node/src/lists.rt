@@ -11,7 +11,7 @@ use booth_base::{Name, TEXT_BYTES, TextBuf};
 use booth_conf::{Config, Member};
 use booth_ticket::{Owner, Ticket};
 
-// Appends the owner's address and the end of its lease, or that there is no owner.
+// Appends the owner's address and the end of its lease, or a text for no owner.
 fn put_owner_at(member: Option<&Member>, until_secs: u64, text: &mut TextBuf)
     requires { length text.old + 60 ≤ TEXT_BYTES }
     ensures bytes { text.new ≡ text.old ++ owner_at (option_copied member.entry) until_secs }
@@ -26,7 +26,7 @@ fn put_owner_at(member: Option<&Member>, until_secs: u64, text: &mut TextBuf)
     }
 }
 
-// Appends the owner at a place, or that there is no owner.
+// Appends the owner at a place, or a text for no owner.
 fn put_owner_in(members: &[Member], place: Option<usize>, until_secs: u64, text: &mut TextBuf)
     requires { length text.old + 60 ≤ TEXT_BYTES }
     ensures bytes { text.new ≡ text.old ++ owner_in members.now place until_secs }
@@ -75,7 +75,7 @@ fn put_ticket(config: &Config, ticket: &Ticket, now: u64, text: &mut TextBuf)
 }
 
 /// Writes the text of the first part of a list of these tickets, at this reading in ms, with as many whole lines as
-/// it holds. Returns the number of its lines.
+/// the text holds. Returns the number of its lines.
 pub(crate) fn write_part(
     node: &NodeConfig,
     tickets: &[Ticket],

@@ -22,15 +22,15 @@ use booth_rec::Record;
 use booth_ticket::Service;
 use std::alloc::{AllocError, Global};
 
-/// How long a turn waits for an arrival, in milliseconds.
+/// The time for which a turn waits for an arrival, in milliseconds.
 const WAIT_MS: u64 = 100;
 
-/// How a turn ended.
+/// The end of a turn.
 #[derive(Clone, Copy, PartialEq, Eq)]
 pub enum Turn {
     /// The next turn may follow.
     Went,
-    /// The host asked for the end.
+    /// The host requested the end.
     Stopped,
 }
 
@@ -52,14 +52,15 @@ pub struct Node {
 impl Node {
     ghost use Rattle.booth_node.specs.View.{node_config, state_of};
 
-    /// Opens a node of this configuration, with this ring if there is one, at the member with this id, with the
-    /// record of each ticket if one was written. Its rules are those of version 2, whichever version a record is of.
+    /// Opens a node with this configuration, with this ring if there is one, at the member with this id. It takes the
+    /// record of each ticket, if one was written. The node follows the rules of version 2, whichever version a record
+    /// has.
     ///
     /// `now` is the clock reading at its start, in milliseconds since 1970.
     ///
     /// # Errors
     ///
-    /// `AllocError` if memory is out.
+    /// Returns `AllocError` if the memory has run out.
     pub fn open(
         alloc: Global,
         config: Config,
@@ -94,7 +95,7 @@ impl Node {
         })
     }
 
-    /// Returns how many datagrams were dropped for each fault, in the gate's order.
+    /// Returns the number of datagrams that were dropped for each fault, in the gate's order.
     pub fn drops(&self) -> [u64; 8]
         ensures { result ≡ (state_of self.now).common.drops }
     {
@@ -119,7 +120,7 @@ impl Node {
         self.last_reading = self.last_reading.max(reading.min(READINGS_END - 1));
     }
 
-    // Does the action for the datagram of this peer, at this turn's moment.
+    // Performs the action for the datagram of this peer, at this turn's moment.
     fn receive<H: Host>(&mut self, from: Peer, host: &mut H)
         ensures led { Led H.past H.faults (IsDone (node_config self.old).ring) (met (node_config self.old)
             (state_of self.old).last_reading (state_of self.old) from (action (node_config self.old) (state_of
@@ -134,7 +135,7 @@ impl Node {
         look_again(&self.table, &mut self.wheel, place);
     }
 
-    // Tells the tickets that a job has ended, at this turn's moment.
+    // Informs the tickets that a job has ended, at this turn's moment.
     fn end_jobs<H: Host>(&mut self, job: u64, service: Service, host: &mut H)
         ensures led { Led H.past H.faults (IsDone (node_config self.old).ring) (each_over (node_config
             self.old) (state_of self.old).last_reading job service (all_places (state_of self.old)) (state_of
@@ -152,7 +153,7 @@ impl Node {
         );
     }
 
-    // Does the action for an arrival, at this turn's moment.
+    // Performs the action for an arrival, at this turn's moment.
     fn arrive<H: Host>(&mut self, arrival: &Result<Arrival, Failed>, host: &mut H)
         ensures led { Led H.past H.faults (IsDone (node_config self.old).ring) (arrived (node_config
             self.old) (state_of self.old).last_reading (state_of self.old) arrival.now self.old.datagram)

@@ -1,4 +1,4 @@
-//! The tickets that a node starts with, and their timer.
+//! The tickets at the start of a node, and their timer.
 ghost use Rattle.std.specs.Prelude.{◌≡◌, ◌<◌, ◌≤◌, ◌^◌, IfOk, IsSome, IsTrue, Some, length, map, position, slice_get, option_copied, vec_capacity};
 ghost use Rattle.std.specs.List.{All};
 ghost use Rattle.booth_conf.specs.Config.{has_id};
@@ -35,7 +35,7 @@ fn is_site_at(members: &[Member], place: usize) -> bool
     members.get(place).is_some_and(|member| member.site)
 }
 
-// Returns how many sites come before this member, at the ticket at a place; an arbitrator has no rank.
+// Returns the number of sites that come before this member, for the ticket at a place. An arbitrator has no rank.
 fn rank_at(node: &NodeConfig, ticket: usize) -> u32
     requires { ticket < length node.now.config.tickets }
     ensures rank { result ≡ rank_at node.now ticket }

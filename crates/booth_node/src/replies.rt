@@ -77,7 +77,7 @@ fn no_attribute<'a>(body: &Body<'_>) -> Option<Reply<'a>>
     }
 }
 
-// Returns the state of the ticket that a request names.
+// Returns the reply with the state of the ticket that a request names.
 fn told_of<'a>(ticket: Option<&Ticket>, now: u64, asked: &TicketPart) -> Option<Reply<'a>>
     ensures form { IfSome result (λ r. HasForm RTkt (content_of r.body)) }
     ensures reply { option_map reply_of result ≡ told_of (option_copied ticket.entry) now asked.now }
@@ -91,7 +91,7 @@ fn told_of<'a>(ticket: Option<&Ticket>, now: u64, asked: &TicketPart) -> Option<
     }
 }
 
-/// Returns the reply to a request for one ticket; none if the message names no ticket.
+/// Returns the reply to a request for one ticket, or `None` if the message names no ticket.
 pub(crate) fn told_for<'a>(
     node: &NodeConfig,
     now: u64,
@@ -108,7 +108,7 @@ pub(crate) fn told_for<'a>(
     told_of(place.and_then(|place| tickets.get(place)), now, asked)
 }
 
-/// Returns the reply to this message, which may contain the text, or the part about a ticket.
+/// Returns the reply to this message, which may contain this text or this part about a ticket.
 fn body_for<'a>(
     cmd: Cmd,
     body: &Body<'_>,
@@ -181,14 +181,14 @@ pub(crate) fn is_list(cmd: Cmd) -> bool
     }
 }
 
-/// The place of a part in a list: the reply with this number to the request with this number.
+/// The place of a part in a list: the number of this reply, and the number of the request that it answers.
 #[derive(Clone, Copy)]
 pub(crate) struct Part {
     pub request: u32,
     pub number: u32,
 }
 
-/// Returns the message of a part of a list with this text; others follow, or it is the last.
+/// Returns the message of a part of a list with this text. The part may be the last one, or others follow.
 pub(crate) fn part_message<'a>(
     me: MemberId,
     part: Part,
@@ -215,7 +215,7 @@ pub(crate) fn part_message<'a>(
     message
 }
 
-/// Returns the answer to a message, if this text and this part about a ticket were made for it.
+/// Returns the answer to a message, if this text and this part about a ticket were made for the answer.
 pub(crate) fn answer<'a>(
     me: MemberId,
     message: &Message<'_>,

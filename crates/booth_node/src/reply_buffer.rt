@@ -39,7 +39,8 @@ impl ReplyBuffer {
         })
     }
 
-    /// Writes the one reply to a message that was accepted at this reading in ms into the frame, if it has one.
+    /// Writes the one reply to a message into the frame, if the message has a reply. The message was accepted at this
+    /// reading in ms.
     pub fn answer(
         &mut self,
         node: &NodeConfig,
@@ -64,8 +65,8 @@ impl ReplyBuffer {
         }
     }
 
-    /// Writes the first part of a list of these tickets into the frame, as the reply with this number to a request,
-    /// at this reading in ms. Returns the number of its lines.
+    /// Writes the first part of a list of these tickets into the frame, as the reply with this number to a request.
+    /// The reading is in ms. Returns the number of the part's lines.
     pub fn part(&mut self, node: &NodeConfig, tickets: &[Ticket], part: Part, now: u64) -> usize
         ensures { IsPartWritten node.now now (list_lines node.now now tickets.now) part.request part.number result
             self.new.frame }
@@ -76,7 +77,8 @@ impl ReplyBuffer {
         count
     }
 
-    /// Does a client's request about the attributes of the ticket at a place, and writes the answer into the frame.
+    /// Performs a client's request about the attributes of the ticket at a place, and writes the answer into the
+    /// frame.
     pub fn attend(
         &mut self,
         node: &NodeConfig,

@@ -58,7 +58,8 @@ fn said(node: &NodeConfig, message: &Message<'_>) -> Action
     }
 }
 
-// Routes a request about attributes to those of its ticket, at a site. Every other request is answered at once.
+// Routes a request about attributes to the attributes of its ticket, at a site. Every other request is answered at
+// once.
 fn attended(node: &NodeConfig, message: &Message<'_>) -> Action
     ensures names { Attends node.now (plain_of message.now) result }
     ensures placed { IsPlaced node.now message.now.head.from result }

@@ -1,4 +1,4 @@
-//! What a node counts, and the number of its next job.
+//! The counters of a node, and the number of its next job.
 ghost use Rattle.std.specs.Prelude.{◌≡◌, ◌<◌};
 ghost use Rattle.booth_node.specs.Jobs.{count_start};
 ghost use Rattle.booth_node.specs.Counting.{place_of, count_drop, no_counts, counters_at, with_counters, counted, tried, count_send, nothing_counted};
@@ -13,20 +13,20 @@ pub(crate) const READINGS_END: u64 = 1 << 62;
 /// The counters of a member. A counter that reaches its greatest value stays there.
 #[derive(Clone, Copy, PartialEq, Eq)]
 pub struct Counters {
-    /// How many of its datagrams were accepted.
+    /// The number of its datagrams that were accepted.
     pub accepted: u64,
-    /// How many sends to it the network took.
+    /// The number of sends to it that the network accepted.
     pub sent: u64,
-    /// How many sends to it failed.
+    /// The number of sends to it that failed.
     pub errors: u64,
-    /// When the last of its datagrams was accepted, in seconds since 1970, or 0.
+    /// The time at which the last of its datagrams was accepted, in seconds since 1970, or 0.
     pub last: u64,
 }
 
 /// The counters that belong to no ticket.
 #[derive(Clone, Copy)]
 pub struct Common {
-    /// How many datagrams were dropped for each fault, in the gate's order.
+    /// The number of datagrams that were dropped for each fault, in the gate's order.
     pub drops: [u64; 8],
     /// The counters of the members, in the order of the configuration. After the last member they are 0.
     pub members: [Counters; MEMBERS],
@@ -52,7 +52,7 @@ fn place_of(fault: DropFault) -> usize
 }
 
 impl Counters {
-    // Nothing was counted.
+    // The counters of a member for which nothing was counted.
     pub(crate) const NONE: Counters = Counters {
         accepted: 0,
         sent: 0,
@@ -68,7 +68,7 @@ impl Counters {
         self.last = now / 1000;
     }
 
-    // Counts one more message that was sent or could not be.
+    // Counts one more message that was sent or failed to be sent.
     fn tried(&mut self, ok: bool)
         ensures { self.new ≡ tried self.old ok }
     {
@@ -81,7 +81,7 @@ impl Counters {
 }
 
 impl Common {
-    /// Returns counters before any event.
+    /// Returns the counters before any event.
     pub(crate) fn nothing_counted() -> Common
         ensures { result ≡ nothing_counted }
     {

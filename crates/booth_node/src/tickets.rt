@@ -1,4 +1,4 @@
-//! The tickets of a node, and what their actions change at the node.
+//! The tickets of a node, and the parts of the node that their actions change.
 ghost use Rattle.std.specs.Prelude.{◌≡◌, ◌≢◌, ◌≤◌, ◌<◌, ◌^◌, ◌==◌, [], false, Some, drop, length, position, replicate, slice_get, IfOk, IsSome, IsSomeAnd, IsTrue, MatchOption};
 ghost use Rattle.std.specs.List.{All};
 ghost use Rattle.booth_attr.specs.Attributes.{no_attributes};
@@ -176,7 +176,7 @@ impl TicketTable {
         self.act(ticket, &Event::Asked(request), now, host);
     }
 
-    // Does a client's request about the attributes of the ticket at a place, and answers it.
+    // Performs a client's request about the attributes of the ticket at a place, and answers it.
     fn attend<H: Host>(
         &mut self,
         from: Peer,
@@ -196,7 +196,7 @@ impl TicketTable {
         let _ = host.send(&from, self.buffer.frame.bytes());
     }
 
-    // Sends the part of a list that begins with the ticket at the place `first`, and returns how many lines it has.
+    // Sends the part of a list that begins with the ticket at the place `first`. Returns the number of its lines.
     fn send_part<H: Host>(
         &mut self,
         to: Peer,
@@ -263,7 +263,8 @@ impl TicketTable {
         }
     }
 
-    // Does the action for an accepted message. Returns the place of the ticket whose event it is, if it is one.
+    // Performs the action for an accepted message. Returns the place of the ticket if the message is an event of a
+    // ticket.
     fn follow<H: Host>(
         &mut self,
         from: Peer,
@@ -307,7 +308,7 @@ impl TicketTable {
         }
     }
 
-    /// Does the action for a datagram. Returns the place of the ticket whose event it is, if it is one.
+    /// Performs the action for a datagram. Returns the place of the ticket if the datagram is an event of a ticket.
     pub fn receive<H: Host>(
         &mut self,
         from: Peer,
@@ -344,7 +345,7 @@ impl TicketTable {
         self.act(place, &Event::Due, now, host);
     }
 
-    /// Tells the ticket at a place that a job has ended.
+    /// Informs the ticket at a place that a job has ended.
     pub fn end_job<H: Host>(
         &mut self,
         place: usize,

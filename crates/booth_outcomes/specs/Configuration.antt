@@ -1,4 +1,4 @@
--- The configuration, read from its file, and how a run ends without one.
+-- The configuration, read from its file, and how a run ends if it cannot be read.
 use Rattle.std.specs.Prelude.{◌≡◌, ◌⊎◌, ℕ, List, [], ◌∷◌, Result, Ok, Err, Bool, true, false, T}
 use Rattle.booth_conf.specs.Config.{ConfigSays}
 use Rattle.booth_conf.specs.Says.{Says, IsFault}

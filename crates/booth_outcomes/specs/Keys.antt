@@ -1,4 +1,4 @@
--- The ring, with the keys in the key files that are set, and how a run ends without one.
+-- The ring of the keys in the key files that are set, and how a run ends if no ring can be made.
 use Rattle.std.specs.Prelude.{◌≡◌, ◌⊎◌, ◌++◌, ℕ, List, [], ◌∷◌, Option, Some, None, Result, Ok, Err, Bool, true, false, T, IsSomeAnd}
 use Rattle.booth_conf.specs.Config.{ConfigSays}
 use Rattle.booth_keys.specs.Key.{key_read}
@@ -17,7 +17,7 @@ pub record IsKeyFile (text : List ℕ) : Type 0 where
   pub key : List ℕ
   pub reads : key_read text ≡ Ok key
 
--- the configuration names this key file: as that of the first key, or as that of the old one
+-- the configuration names this key file, as the file of the first key or of the old key
 abbrev pub NamesKeyFile : ConfigSays → List ℕ → Type 0
 NamesKeyFile config file = (config.authfile ≡ Some file) ⊎ (config.authfile_old ≡ Some file)
 
@@ -97,7 +97,7 @@ pub record IsOldKeyless (config : ConfigSays) (outcome : Outcome) (said : List �
   pub whole : entries ≡ ReadFile file (Ok text) ∷ rest
   pub here : IsFileKeyless old outcome said rest
 
--- a key could not be read from one of the files; that of the first key comes first
+-- a key could not be read from one of the files; the file of the first key is read first
 pub data IsKeyless (config : ConfigSays) (outcome : Outcome) (said : List ℕ) (entries : List Entry) : Type 0 where
   FirstKeyless : IsFirstKeyless config outcome said entries → IsKeyless config outcome said entries
   OldKeyless : IsOldKeyless config outcome said entries → IsKeyless config outcome said entries

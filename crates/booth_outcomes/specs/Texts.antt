@@ -29,7 +29,7 @@ use Rattle.booth_outcomes.specs.declared.outcome.Outcome.TheVariants.{Done, Repo
 abbrev pub spoken : Program → List ℕ → List ℕ
 spoken program text = name_of program ++ codes ": " ++ text ++ codes "\n"
 
--- one print of the program's line with this text, with any answer of the host, or none if the text is empty
+-- the program prints one line with this text, whatever the host answers, or nothing if the text is empty
 abbrev pub IsText : Program → List ℕ → List Entry → Type 0
 IsText program [] entries = entries ≡ []
 IsText program (b ∷ text) entries = (answer : Result (Unit {0}) Failed)
@@ -107,7 +107,7 @@ unprinted_text = codes "cannot print"
 abbrev pub file_text : List ℕ → List ℕ → List ℕ
 file_text path what = path ++ codes ": " ++ what
 
--- the text for a fault of one of its lines
+-- the text for a fault of a line of a file
 abbrev pub at_line : List ℕ → ℕ → List ℕ → List ℕ
 at_line path line what = file_text path (codes "line " ++ decimal line ++ codes ": " ++ what)
 

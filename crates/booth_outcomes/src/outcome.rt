@@ -63,7 +63,7 @@ pub enum Outcome {
     TurnsSpent,
     /// The output could not be printed.
     PrintFault,
-    /// Memory was out; at a daemon, before the first turn.
+    /// The memory ran out; at a daemon, before the first turn.
     OutOfMemory,
 }
 
@@ -98,7 +98,7 @@ pub struct Ended {
 }
 
 impl Ended {
-    /// Returns how a run ends if memory is out.
+    /// Returns how a run ends if the memory has run out.
     pub fn out_of_memory() -> Ended
         ensures outcome { result.outcome ≡ Outcome.OutOfMemory }
         ensures said { result.said ≡ out_of_memory_text }

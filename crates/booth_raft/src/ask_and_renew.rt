@@ -1,4 +1,4 @@
-//! The rules ask and renew, and how each goes on after the write that it requested.
+//! The rules ask and renew, and how each continues after the write that it requested.
 ghost use Rattle.std.specs.Prelude.{◌≡◌, ◌<◌, ◌^◌, max, IsTrue};
 ghost use Rattle.booth_raft.specs.AskAndRenew.{acquisition_failed, answers_itself, are_terms_spent, ask, bound_itself, with_own_promise, finish_ask, fail_ask, finish_renewal, fail_renewal, asked_all, finish, needs_term, new_round, begin_round, own_answer, promised_itself, renew, renew_by_term, renew_in_term, runs_out};
 ghost use Rattle.booth_raft.specs.Sound.{IsSound};
@@ -120,7 +120,8 @@ fn new_round(setup: &Setup, view: &View, number: u32, now: u64) -> Round
     }
 }
 
-// Returns the message to all members. A leader with an open round stays leader, and any other member is a candidate.
+// Sets the role and the next deadline of a member that asks all members. A leader stays leader, and any other member
+// is a candidate.
 fn asked_all(setup: &Setup, view: &mut View, now: u64)
     requires sound { IsSound setup.now }
     requires early { now < 2 ^ 62 }
@@ -153,7 +154,7 @@ fn begin_round(setup: &Setup, view: &mut View, number: u32, now: u64) -> Deed
     Deed::saying(asked, Told::Nothing)
 }
 
-// Goes on after a failed write of a new term.
+// Continues after a failed write of a new term.
 fn fail_ask(setup: &Setup, view: &mut View, now: u64) -> Deed
     requires sound { IsSound setup.now }
     requires early { now < 2 ^ 62 }
@@ -169,7 +170,7 @@ fn fail_ask(setup: &Setup, view: &mut View, now: u64) -> Deed
     Deed::telling(Told::AskFailed)
 }
 
-// Goes on after the write of a new term.
+// Continues after the write of a new term.
 fn finish_ask(setup: &Setup, view: &mut View, tried: Record, now: u64, ok: bool) -> Deed
     requires sound { IsSound setup.now }
     requires second { IsTrue setup.now.second }
@@ -186,7 +187,7 @@ fn finish_ask(setup: &Setup, view: &mut View, tried: Record, now: u64, ok: bool)
     begin_round(setup, view, 0, now)
 }
 
-// Goes on after a failed write of a renewal's own promise.
+// Continues after a failed write of a renewal's own promise.
 fn fail_renewal(setup: &Setup, view: &mut View, now: u64) -> Deed
     requires sound { IsSound setup.now }
     requires early { now < 2 ^ 62 }
@@ -198,7 +199,7 @@ fn fail_renewal(setup: &Setup, view: &mut View, now: u64) -> Deed
     Deed::quiet()
 }
 
-// Goes on after the write of a renewal's own promise.
+// Continues after the write of a renewal's own promise.
 fn finish_renewal(
     setup: &Setup,
     view: &mut View,
@@ -221,7 +222,7 @@ fn finish_renewal(
     begin_round(setup, view, number, now)
 }
 
-// Goes on with the rule that waits, after its write.
+// Continues with the rule that waits, after its write.
 pub(crate) fn finish(setup: &Setup, view: &mut View, now: u64, ok: bool) -> Deed
     requires sound { IsSound setup.now }
     requires second { IsTrue setup.now.second }

@@ -1,4 +1,4 @@
-//! The rules at a deadline: first a hello, and then the rule for the role that the member has.
+//! The rules at a deadline: first a hello, and then the rule for the member's role.
 ghost use Rattle.std.specs.Prelude.{◌≡◌, ◌<◌, ◌^◌, IsTrue};
 ghost use Rattle.std.specs.Option.{ForSome};
 ghost use Rattle.booth_raft.specs.Deadlines.{candidate_due, due_now, follower_due, greeted, hello, is_tried, leader_due, leader_works, repeats, resends_or_renews, waits_or_acquires};
@@ -72,7 +72,8 @@ fn resends_or_renews(setup: &Setup, view: &mut View, now: u64) -> Deed
     Deed::saying(asks_again(setup, view, &round, now), Told::Nothing)
 }
 
-// Releases the lease, since a handler that still runs has failed.
+// Releases the lease if a handler still runs, because the handler has failed. Otherwise sends an open round again, or
+// requests a renewal.
 fn leader_works(setup: &Setup, view: &mut View, now: u64) -> Deed
     requires sound { IsSound setup.now }
     requires second { IsTrue setup.now.second }

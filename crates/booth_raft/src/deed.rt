@@ -1,8 +1,8 @@
-//! The action of a rule, and what a core is told about handlers and clients.
+//! The action of a rule, and the events of handlers and clients that a core notes.
 use booth_rec::Record;
 use booth_wire::Say;
 
-/// What follows a rule that the lease rules do not decide.
+/// The request of a rule to its caller, for what the lease rules do not decide.
 #[derive(Clone, Copy, PartialEq, Eq)]
 pub enum Want {
     Nothing,
@@ -16,7 +16,7 @@ pub enum Want {
 #[derive(Clone, Copy, PartialEq, Eq)]
 pub enum Told {
     Nothing,
-    /// The member gained a lease; `sure` if its record was written.
+    /// The member gained a lease. `sure` is true if its record was written.
     Gained { sure: bool },
     /// The round of this member ended without a majority.
     RoundFailed,

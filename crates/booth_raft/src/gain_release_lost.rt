@@ -27,7 +27,7 @@ pub fn own_end(view: &View) -> u64
     lease_end(view.kept.lease)
 }
 
-// Returns when a leader tries again: a timeout later, but not after the end of its lease.
+// Returns the time at which a leader tries again: a timeout later, but not after the end of its lease.
 pub(crate) fn retry_at(setup: &Setup, view: &View, now: u64) -> u64
     requires sound { IsSound setup.now }
     requires early { now < 2 ^ 62 }
@@ -36,7 +36,7 @@ pub(crate) fn retry_at(setup: &Setup, view: &View, now: u64) -> u64
     (now + setup.times.timeout).min(own_end(view))
 }
 
-// Returns when a site tries again after an acquisition that failed.
+// Returns the time at which a site tries again after an acquisition that failed.
 pub(crate) fn due_by_rank(setup: &Setup, view: &View, now: u64) -> Option<u64>
     requires sound { IsSound setup.now }
     requires early { now < 2 ^ 62 }
@@ -90,7 +90,7 @@ pub(crate) fn gain(setup: &Setup, view: &mut View, round: Round, now: u64) -> De
     keeping(view, Rule::Gain, tried, now)
 }
 
-// Goes on after the write of a gained lease.
+// Continues after the write of a gained lease.
 pub(crate) fn finish_gain(setup: &Setup, view: &mut View, now: u64, ok: bool) -> Deed
     ensures view { view.new ≡ (finish_gain setup.now view.old now ok).view }
     ensures deed { result ≡ (finish_gain setup.now view.old now ok).deed }
@@ -159,7 +159,7 @@ fn released(setup: &Setup, view: &mut View, tried: Record, reason: u32, now: u64
     }
 }
 
-// Returns when a leader tries its release again.
+// Returns the time at which a leader tries its release again.
 fn retry_release_at(setup: &Setup, view: &View, now: u64) -> u64
     requires sound { IsSound setup.now }
     requires early { now < 2 ^ 62 }
@@ -182,7 +182,7 @@ fn unreleased(setup: &Setup, view: &mut View, reason: u32, now: u64)
     }
 }
 
-// Goes on after the write of a release.
+// Continues after the write of a release.
 pub(crate) fn finish_release(
     setup: &Setup,
     view: &mut View,
@@ -216,7 +216,7 @@ pub(crate) fn round_ends(setup: &Setup, view: &mut View, now: u64) -> Deed
     keeping(view, Rule::EndRound, free, now)
 }
 
-// Goes on after the write at the end of a round.
+// Continues after the write at the end of a round.
 pub(crate) fn finish_round_end(
     setup: &Setup,
     view: &mut View,

@@ -1,4 +1,4 @@
-//! The lease rules of one automatic ticket: no clock, no bytes, no clients.
+//! The lease rules of one automatic ticket. They use no clock, no bytes and no clients.
 #![tactic(auto)]
 
 mod ask_and_renew;

@@ -17,8 +17,8 @@ use std::marker::Model;
 /// The lease rules of one automatic ticket at one member.
 ///
 /// Every `now` is a reading of the member's clock in milliseconds since 1970, below 2^62. The caller does the parts
-/// of a deed (an action) in the order keep, say, told. A keep is a write of a record to disk: after a deed with a
-/// keep the next call is `kept`, at the same reading. No call allocates memory.
+/// of a deed (an action) in the order keep, say, told. A keep is a write of a record to disk. After a deed with a
+/// keep, the next call is `kept`, at the same reading. No call allocates memory.
 #[derive(Drop)]
 pub struct Core {
     setup: Setup,
@@ -64,7 +64,7 @@ impl Core {
         }
     }
 
-    /// Returns what the member knows about the ticket.
+    /// Returns the member's view of the ticket.
     pub fn view(&self) -> &View
         ensures value { result.now ≡ self.now.view }
         ensures facts { ViewFacts self.now.setup self.now.view }
@@ -72,7 +72,7 @@ impl Core {
         &self.view
     }
 
-    /// Returns the setup with which it started.
+    /// Returns the setup with which the core started.
     pub fn setup(&self) -> &Setup
         ensures value { result.now ≡ self.now.setup }
         ensures sound { IsSound result.now }
@@ -84,7 +84,7 @@ impl Core {
     ///
     /// # Errors
     ///
-    /// `TermSpent` if no term is left; the core is then unchanged.
+    /// Returns `TermSpent` if no term is left. The core is then unchanged.
     pub fn ask(&mut self, now: u64, reason: u32) -> Result<Deed, TermSpent>
         requires early { now < 2 ^ 62 }
         requires idle { self.old.view.waiting ≡ None }
@@ -101,7 +101,7 @@ impl Core {
         Ok(ask(&self.setup, &mut self.view, reason, now))
     }
 
-    /// Handles a message from the member at the place `from`, which is another than this one.
+    /// Handles a message from the member at the place `from`, which is not this member.
     pub fn hear(&mut self, now: u64, from: u32, head: &Head, part: &TicketPart) -> Deed
         requires early { now < 2 ^ 62 }
         requires idle { self.old.view.waiting ≡ None }
@@ -114,7 +114,7 @@ impl Core {
         hear(&self.setup, &mut self.view, from, head, part, now)
     }
 
-    /// Goes on after the write that waits: `ok` if the record was written.
+    /// Continues after the write that waits. `ok` is true if the record was written.
     pub fn kept(&mut self, now: u64, ok: bool) -> Deed
         requires early { now < 2 ^ 62 }
         requires waiting { IsWaiting self.old.view now }

@@ -43,7 +43,7 @@ fn part_of(setup: &Setup, leader: MemberId, term: u32, valid_for: u32) -> Ticket
     }
 }
 
-/// Returns the owner now: the one that the member knows of, until its lease ends, else `NO_ONE`.
+/// Returns the owner now: the owner that the member knows of, until its lease ends. Otherwise returns `NO_ONE`.
 pub fn owner_now(shown: Option<Shown>, now: u64) -> MemberId
     ensures { result ≡ owner_now shown now }
 {
@@ -53,7 +53,7 @@ pub fn owner_now(shown: Option<Shown>, now: u64) -> MemberId
     }
 }
 
-/// Returns the end of the lease that the member knows of in ms, and 0 if it knows of none.
+/// Returns the end in ms of the lease that the member knows of, or 0 if it knows of none.
 pub fn shown_end(shown: Option<Shown>) -> u64
     ensures { result ≡ shown_end shown }
 {
@@ -68,7 +68,7 @@ fn state_part(setup: &Setup, view: &View, now: u64) -> TicketPart
     part_of(setup, owner_now(view.shown, now), view.term, left)
 }
 
-// Asks all members for their state.
+// Returns a message that asks all members for their state.
 pub(crate) fn asks_state(setup: &Setup, view: &View, now: u64) -> Say
     ensures { result ≡ asks_state setup.now view.now now }
 {
@@ -78,7 +78,7 @@ pub(crate) fn asks_state(setup: &Setup, view: &View, now: u64) -> Say
     )
 }
 
-// Answers a member that asked for the state.
+// Returns the answer to a member that asked for the state.
 pub(crate) fn tells_state(setup: &Setup, view: &View, asked: &Head, now: u64) -> Say
     ensures { result ≡ tells_state setup.now view.now asked.now now }
 {
@@ -86,7 +86,7 @@ pub(crate) fn tells_state(setup: &Setup, view: &View, asked: &Head, now: u64) ->
     Say::Reply(answer, state_part(setup, view, now))
 }
 
-// Announces a lease to all members.
+// Returns a message that announces a lease to all members.
 pub(crate) fn tells_gain(setup: &Setup, view: &View, now: u64) -> Say
     ensures { result ≡ tells_gain setup.now view.now now }
 {
@@ -96,7 +96,7 @@ pub(crate) fn tells_gain(setup: &Setup, view: &View, now: u64) -> Say
     )
 }
 
-// Announces to all members that the lease of a term was released.
+// Returns a message that announces to all members that the lease of a term was released.
 pub(crate) fn revokes(setup: &Setup, term: u32, reason: u32) -> Say
     ensures { result ≡ revokes setup.now term reason }
 {

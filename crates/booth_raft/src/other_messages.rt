@@ -1,4 +1,4 @@
-//! The rule for other messages, and which rule handles each command.
+//! The rule for other messages, and the rule that handles each command.
 ghost use Rattle.std.specs.Prelude.{◌≡◌, ◌<◌, ◌^◌, ◌==◌, not, IsTrue};
 ghost use Rattle.std.specs.Option.{ForSome};
 ghost use Rattle.booth_raft.specs.Messages.{answer_cmd};
@@ -30,7 +30,7 @@ fn is_owner(shown: Option<Shown>, member: MemberId) -> bool
     shown.is_some_and(|s| s.owner == member)
 }
 
-// Has a site that follows acquire the ticket when its turn comes, since the owner's handler failed.
+// Makes a site that follows acquire the ticket when its turn comes, because the owner's handler failed.
 fn handed_on(setup: &Setup, view: &mut View, now: u64)
     requires sound { IsSound setup.now }
     requires early { now < 2 ^ 62 }
@@ -42,7 +42,7 @@ fn handed_on(setup: &Setup, view: &mut View, now: u64)
     }
 }
 
-// Leaves the ticket to no site, since it was released by command.
+// Makes no site acquire the ticket, because it was released by command.
 fn left_alone(view: &mut View)
     ensures { view.new ≡ left_alone view.old }
 {
@@ -52,7 +52,7 @@ fn left_alone(view: &mut View)
     }
 }
 
-// Does what follows a release by the ticket's owner.
+// Handles a release by the ticket's owner, by its reason.
 fn given_back(setup: &Setup, view: &mut View, reason: u32, now: u64)
     requires sound { IsSound setup.now }
     requires early { now < 2 ^ 62 }
@@ -78,7 +78,7 @@ fn revoked(setup: &Setup, view: &mut View, head: &Head, term: u32, now: u64)
     }
 }
 
-// Returns whether a number is that of a round of this kind.
+// Returns whether a number is the number of a round of this kind.
 fn is_number_of(kind: RoundKind, number: u32) -> bool
     ensures election { kind ≡ RoundKind.Election → result ≡ (number == 0) }
     ensures renewal { kind ≡ RoundKind.Renewal → result ≡ not (number == 0) }
@@ -89,7 +89,7 @@ fn is_number_of(kind: RoundKind, number: u32) -> bool
     }
 }
 
-// Handles an election: its number is 0. The sender's place makes no difference.
+// Handles an election, which has number 0. The sender's place makes no difference.
 fn hear_election(setup: &Setup, view: &mut View, head: &Head, part: &TicketPart, now: u64) -> Deed
     requires sound { IsSound setup.now }
     requires second { IsTrue setup.now.second }
@@ -105,7 +105,7 @@ fn hear_election(setup: &Setup, view: &mut View, head: &Head, part: &TicketPart,
     }
 }
 
-// Handles a renewal: its number is above 0.
+// Handles a renewal, which has a number above 0.
 fn hear_renewal(setup: &Setup, view: &mut View, head: &Head, part: &TicketPart, now: u64) -> Deed
     requires sound { IsSound setup.now }
     requires second { IsTrue setup.now.second }
@@ -182,7 +182,7 @@ pub(crate) fn hear(
             revoked(setup, view, head, part.term, now);
             Deed::quiet()
         }
-        // (what clients ask and are answered)
+        // (commands of clients, and their answers)
         Cmd::CLst
         | Cmd::CTkt
         | Cmd::Peer

@@ -27,7 +27,7 @@ pub(crate) fn may_answer(view: &View, site: MemberId, term: u32, now: u64) -> bo
         && (term > view.term || (term == view.term && view.bound.is_none_or(|bound| bound == site)))
 }
 
-// Returns why a round is refused.
+// Returns the reason why a round is refused.
 fn why_refused(view: &View, site: MemberId, term: u32, now: u64) -> u32
     ensures { result ≡ why_refused view.now site term now }
 {
@@ -87,7 +87,7 @@ fn with_site(view: &mut View, site: MemberId, kind: RoundKind, part: &TicketPart
     }
 }
 
-// Returns the next deadline of a site that has answered: when it looks for the failover.
+// Returns the next deadline of a site that has answered, at which it checks for the failover.
 fn due_after_answer(setup: &Setup, view: &View, kind: RoundKind, part: &TicketPart, now: u64) -> u64
     requires sound { IsSound setup.now }
     requires early { now < 2 ^ 62 }
@@ -169,7 +169,7 @@ pub(crate) fn hear_round(
     keeping(view, answer, tried, now)
 }
 
-// Goes on after the write of a promise: the member answers the round only if the promise was written.
+// Continues after the write of a promise: the member answers the round only if the promise was written.
 pub(crate) fn finish_answer(
     view: &mut View,
     tried: Record,

@@ -56,7 +56,7 @@ pub(crate) fn started(setup: &Setup, kept: Record, now: u64) -> View
     }
 }
 
-// Raises the greatest term seen to that of a member's message.
+// Raises the greatest term seen to the term of a member's message.
 pub(crate) fn with_seen(view: &mut View, term: u32)
     ensures { view.new ≡ with_seen view.old term }
 {
@@ -81,7 +81,7 @@ pub(crate) fn awaits_failover(setup: &Setup, view: &View) -> bool
     view.role == Role::Follower && setup.site && view.repeat == 0
 }
 
-// Makes an owner known until a moment; the ticket is managed from then on.
+// Makes an owner known until a time. The ticket is managed from then on.
 pub(crate) fn with_shown(view: &mut View, owner: MemberId, until: u64)
     ensures { view.new ≡ with_shown view.old owner until }
 {
@@ -108,7 +108,7 @@ fn with_failover(setup: &Setup, view: &mut View)
     }
 }
 
-// Takes over what a message of state says.
+// Learns the state in a message.
 pub(crate) fn learned(setup: &Setup, view: &mut View, part: &TicketPart, now: u64)
     requires sound { IsSound setup.now }
     requires early { now < 2 ^ 62 }

@@ -1,4 +1,4 @@
-//! What a member knows about one automatic ticket. Moments are in milliseconds of its own clock.
+//! The view of one automatic ticket at one member. Times are in milliseconds of its own clock.
 use crate::deed::Told;
 use booth_base::{MEMBERS, MemberId};
 use booth_rec::{Promise, Record};
@@ -12,22 +12,22 @@ pub const LAST_NUMBER: u32 = 4_294_967_295;
 /// The role of a member for the ticket.
 #[derive(Clone, Copy, PartialEq, Eq)]
 pub enum Role {
-    /// It holds no lease and has no open round.
+    /// The member holds no lease and has no open round.
     Follower,
     /// A handler runs, and an election may follow it.
     Working,
-    /// Its round for a new term is open.
+    /// The member's round for a new term is open.
     Candidate,
-    /// It has a lease.
+    /// The member has a lease.
     Leader,
 }
 
-/// Why a round is opened.
+/// The purpose for which a round is opened.
 #[derive(Clone, Copy, PartialEq, Eq)]
 pub enum RoundKind {
-    /// A round for votes in a new term; its number is 0.
+    /// A round for votes in a new term. Its number is 0.
     Election,
-    /// A round that prolongs a lease within its term; its number is above 0.
+    /// A round that prolongs a lease within its term. Its number is above 0.
     Renewal,
 }
 
@@ -36,15 +36,15 @@ pub enum RoundKind {
 pub struct Round {
     pub term: u32,
     pub number: u32,
-    /// The clock reading at which it was opened: the lease runs from here.
+    /// The clock reading at which the round was opened. The lease runs from this reading.
     pub opened: u64,
-    /// The members that answered: true at the place of each.
+    /// The members that answered: the list is true at the place of each.
     pub answers: [bool; MEMBERS],
-    /// Whether it gave a lease.
+    /// Whether the round gave a lease.
     pub won: bool,
 }
 
-/// An owner of the ticket that this member has heard of, or is itself.
+/// An owner of the ticket that this member has heard of, or the member itself.
 #[derive(Clone, Copy, PartialEq, Eq)]
 pub struct Shown {
     pub owner: MemberId,
@@ -66,7 +66,7 @@ pub enum Rule {
     },
     /// The end of a candidate's round that had no majority.
     EndRound,
-    /// The answer to a round, which is sent if the promise to its member was written. Clients get this result in
+    /// The answer to a round. It is sent if the promise to the round's member was written. Clients get this result in
     /// either case.
     Answer {
         kind: RoundKind,
@@ -75,7 +75,7 @@ pub enum Rule {
         request: u32,
         told: Told,
     },
-    /// Renewal of the lease: a round with this number is opened if the own promise was written.
+    /// Renewal of the lease. A round with this number is opened if the own promise was written.
     Renew {
         number: u32,
     },
@@ -102,20 +102,21 @@ pub struct View {
     pub promise: Option<Promise>,
     /// The member answers no round at readings below this.
     pub abstain: u64,
-    /// The record that was written last; before the first, that of version 1 with term 0 and no lease.
+    /// The record that was written last. Before the first write, it is a record of version 1 with term 0 and no
+    /// lease.
     pub kept: Record,
     /// Whether the last write succeeded.
     pub sure: bool,
-    /// The latest end of a lease that may have been written, 0 for none.
+    /// The latest end of a lease that may have been written, or 0 for none.
     pub force: u64,
     pub role: Role,
     pub round: Option<Round>,
     pub shown: Option<Shown>,
     /// Whether a site acquires the ticket if its lease is lost.
     pub managed: bool,
-    /// Whether the member has yet to ask the others for their state.
+    /// Whether the member must still ask the others for their state.
     pub hello: bool,
-    /// How often the member will still repeat its release message, with the reason and the term of it.
+    /// The number of times that the member will still repeat its release message, with the release's reason and term.
     pub repeat: u32,
     pub repeat_reason: u32,
     pub repeat_term: u32,
@@ -123,7 +124,7 @@ pub struct View {
     pub job: Option<u64>,
     /// The reason for the acquisition under way.
     pub reason: u32,
-    /// When the rule for the member's role runs next.
+    /// The time at which the rule for the member's role runs next.
     pub due: Option<u64>,
     pub waiting: Option<Waiting>,
 }

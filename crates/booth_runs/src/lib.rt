@@ -1,5 +1,5 @@
-//! Whole runs of Booth's programs over a host in memory, which lines make: what it has, what comes to it, what fails.
-//! And what the replay of a journal tallies.
+//! Whole runs of Booth's programs over a host in memory. Lines describe this host: what it has, what arrives, what
+//! fails. And what the replay of a journal tallies.
 //!
 //! The lines before a `run` make its host, and the run's answer is each call of that host, and how the run ended.
 #![tactic(auto)]

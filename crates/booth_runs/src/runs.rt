@@ -38,7 +38,8 @@ fn run(alloc: Global, program: &str, words: &[String], host: &mut Hindered) -> O
     }
 }
 
-// Appends the calls of a run, or how many turns it made and records it keeps if the host does not say its calls.
+// Appends the calls of a run. If the host does not record its calls, appends how many turns the run made and how many
+// records the host has.
 fn put_calls(answer: &mut Answer, host: &Hindered) {
     let past = host.host.past();
     if past.is_none() {

@@ -40,7 +40,7 @@ fn put_tally(answer: &mut Answer, journal: &Journal) {
     }
 }
 
-// Replays a journal. Its text says calls, since each line of it is read.
+// Replays a journal if each line of its text can be read: then the text spells calls.
 fn put_replayed(words: &mut Words<'_>, answer: &mut Answer, whose: &Whose<'_>, text: &[u8]) {
     match read_lines(words.alloc(), text) {
         Ok(()) => {

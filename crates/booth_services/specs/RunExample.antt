@@ -15,7 +15,7 @@ use Rattle.booth_cli.specs.declared.asking.DaemonWords.{DaemonWords}
 use Rattle.booth_examples.specs.VersionExamples.{leased, promised}
 use Rattle.booth_examples.specs.WorldExamples.{alone, at, client, config_with, grant_it, says, site_one, world_with}
 
--- ---- what is asked for
+-- ---- the arguments and the request
 
 abbrev pub run_words : List (List ℕ)
 run_words = codes "daemon" ∷ codes "-s" ∷ codes "192.0.2.1" ∷ codes "-n" ∷ codes "1" ∷ []
@@ -46,7 +46,7 @@ opening_calls =
 abbrev pub told_success : PlainMessage
 told_success = says site_one.id 7000 RGnt 1 0 SUCCESS site_one.id 1 6
 
--- the writes and messages of its turn
+-- The calls for the writes and messages of its turn.
 abbrev pub deed_calls : List Entry
 deed_calls =
     calls.Keep (codes "web") (promised 1 site_one 13014 6014) (Ok tt)

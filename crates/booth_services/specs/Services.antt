@@ -24,7 +24,7 @@ use Rattle.booth_following.specs.Turns.{AreTurns, IsToldIn, Turn, first_seat, se
 
 -- ---- followers
 
--- a turn of a follower, and the true time of its reading
+-- A turn of a follower, with the true time of its reading.
 pub record TimedTurn : Type 0 where
   pub time : ℕ
   pub turn : Turn
@@ -32,8 +32,9 @@ pub record TimedTurn : Type 0 where
 abbrev pub turns_of : List TimedTurn → List Turn
 turns_of turns = map (λ t. t.turn) turns
 
--- A follower, the end until which an earlier one left the service running, its turns, and how long the environment
--- takes at most, in ms: between two readings while its service runs, and for a kill.
+-- A follower: its following, the end until which an earlier follower left the service running, and its turns. `gap`
+-- is the most time in ms that the environment takes between two readings while the service runs, and `quick` the most
+-- time that it takes for a kill.
 pub record Follower : Type 0 where
   pub following : Following
   pub left : Option ℕ
@@ -51,8 +52,8 @@ pub record WasSentBy (w : World) (m time : ℕ) (message : PlainMessage) : Type 
   pub sent : IsSend entry.what bytes
   pub same : decoded bytes ≡ Ok message
 
--- if a turn accepts an answer about the ticket, or a part of a list, as its site's by its keys, to the requests that
--- were sent at this reading, that site has sent it
+-- If a turn accepts a message as an answer about the ticket, or as a part of a list, the follower's site has sent the
+-- message. The turn accepts it by its keys, as an answer to the requests that were sent at this reading.
 abbrev pub HearsItsSite : World → ℕ → Following → Option ℕ → TimedTurn → Type 0
 HearsItsSite w m f None t = Unit {0}
 HearsItsSite w m f (Some asked) t =
@@ -66,11 +67,12 @@ abbrev pub time_after : ℕ → List TimedTurn → ℕ
 time_after time [] = time
 time_after time (t ∷ turns) = time_after t.time turns
 
--- the reading at which the follower asked about the ticket last, after these turns
+-- The reading at which the follower last asked about the ticket, after these turns.
 abbrev pub asked_after : Following → Option ℕ → List TimedTurn → Option ℕ
 asked_after f left before = (seat_from (first_seat f left) (turns_of before)).asked
 
--- A turn of a follower at a member, after others: its clock is that member's, and its answers are that member's.
+-- A turn of a follower at a member, after others. Its clock is the member's clock, and its answers come from the
+-- member.
 pub record IsTurnAt (w : World) (m : ℕ) (f : Following) (left : Option ℕ) (before : List TimedTurn) (t : TimedTurn)
     : Type 0 where
   pub in_order : time_after 0 before ≤ t.time
@@ -78,7 +80,7 @@ pub record IsTurnAt (w : World) (m : ℕ) (f : Following) (left : Option ℕ) (b
   pub reads : t.turn.reading ≡ clock_at w m t.time
   pub hears : HearsItsSite w m f (asked_after f left before) t
 
--- A turn of a follower at a member that received an end, no later than at this time.
+-- A turn of a follower at a member received this end, no later than at this time.
 pub record HasHeard (w : World) (m : ℕ) (f : Following) (left : Option ℕ) (until time : ℕ) : Type 0 where
   pub before : List TimedTurn
   pub t : TimedTurn
@@ -87,7 +89,7 @@ pub record HasHeard (w : World) (m : ℕ) (f : Following) (left : Option ℕ) (u
   pub shown : t.turn.heard ≡ news.List (Here until)
   pub no_later : t.time ≤ time
 
--- two followings of one ticket at one site
+-- Two followings are about the same ticket at the same site.
 pub record AreAlike (f g : Following) : Type 0 where
   pub line : f.line ≡ g.line
   pub ticket : f.ticket ≡ g.ticket
@@ -106,8 +108,9 @@ abbrev pub IsLeftAt : World → ℕ → Following → Option ℕ → List TimedT
 IsLeftAt w m f (Some until) turns = WasHeard w m f until turns
 IsLeftAt w m f None turns = Unit {0}
 
--- A follower of the ticket at a member of the world, whose turns are those of a following. The end that an earlier
--- follower left is one that it received. The environment is prompt, and the margins have room for that.
+-- A follower of the ticket at a member of the world, whose turns are the turns of a following. The end that an
+-- earlier follower left is an end that it received. The environment is prompt, and the margins have room for its
+-- delays.
 pub record IsFollowerAt (w : World) (ticket : TicketConf) (m : ℕ) (x : Follower) : Type 0 where
   pub below : m < members_of w
   pub line : x.following.line ≡ line_start ticket.name (address_at w m)
@@ -125,7 +128,7 @@ pub record IsFollowerAt (w : World) (ticket : TicketConf) (m : ℕ) (x : Followe
 -- ---- the service of a follower
 
 -- The service may run at a true time. After some turn it had been started or taken over, and no stop or kill is known
--- to be done; and no more than the gap has passed since that turn's reading.
+-- to be done. No more time than the gap has passed since that turn's reading.
 pub record MayServe (w : World) (m : ℕ) (x : Follower) (time : ℕ) : Type 0 where
   pub before : List TimedTurn
   pub last : TimedTurn
@@ -140,7 +143,8 @@ pub record MayServe (w : World) (m : ℕ) (x : Follower) (time : ℕ) : Type 0 w
 
 -- ---- the laws
 
--- Before this time the member held the ticket by a record that it may have written, which is in force at this time.
+-- Before this time the member held the ticket by a record that it may have written, and the record is in force at
+-- this time.
 pub record HeldUntil (w : World) (ticket : TicketConf) (m time : ℕ) : Type 0 where
   pub moment : Moment w
   pub no_later : moment.time ≤ time
@@ -154,7 +158,7 @@ ServesUnderALease =
     → (m : ℕ) (x : Follower) → IsFollowerAt w ticket m x
     → (time : ℕ) → MayServe w m x time → HeldUntil w ticket m time
 
--- The member held the ticket by a record, and released its lease after that, no later than at this time; without the
+-- The member held the ticket by a record, and then released its lease, no later than at this time. Without the
 -- release the lease would be in force at this time.
 pub record GaveBack (w : World) (ticket : TicketConf) (m time : ℕ) : Type 0 where
   pub moment : Moment w
@@ -167,8 +171,8 @@ pub record GaveBack (w : World) (ticket : TicketConf) (m time : ℕ) : Type 0 wh
   pub in_force : IsInForce kept (clock_at w m time)
   pub given_back : ReleasedIn w ticket m kept moment.before between
 
--- If services at two sites may run at the same time, one of the sites released a lease before, whose end is still to
--- come.
+-- If services at two sites may run at the same time, one of the sites released a lease before, and the end of that
+-- lease is still to come.
 abbrev pub ServicesAreApart : Type 0
 ServicesAreApart =
     (w : World) → IsWorld w → (ticket : TicketConf) → IsAutomatic w ticket

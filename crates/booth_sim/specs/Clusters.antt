@@ -1,4 +1,4 @@
--- A cluster in memory: its state is what the entries of a simulation leave.
+-- A cluster in memory. Its state is the state that the entries of a simulation leave.
 use Rattle.std.specs.Prelude.{◌≡◌, ◌++◌, ◌+◌, ◌*◌, ◌<◌, ◌≤◌, ◌^◌, ℕ, Bool, List, [], ◌∷◌, length, Ok}
 use Rattle.std.specs.List.{All}
 use Rattle.booth_conf.specs.Config.{ConfigSays}
@@ -24,36 +24,36 @@ use Rattle.booth_sim.specs.Turning.{Grows, HasRoom}
 
 -- ---- events
 
--- an event, in the form of the code
+-- An event, in the form of the code.
 abbrev pub says : HappeningOf → Happening
 says (happenings.Turn place arrival bytes) = Turns place arrival bytes
 says (happenings.Restart place) = Restarts place
 
--- if these frames are stored as sent, this is the event with this number
+-- This is the event with this number, if these frames are stored as sent.
 pub record IsWhatHappens (config : ConfigSays) (frames : List SentFrame) (event : ℕ) (draw : Draw)
     (said : HappeningOf) : Type 0 where
   pub is : (before : List WorldEntry) → frames ≡ kept_frames config before →
       says said ≡ happening config before event draw
 
--- the event is at a member, and is not the end
+-- The event is at a member, and is not the end.
 abbrev pub CanHappen : ConfigSays → Happening → Type 0
 CanHappen config (Turns place arrival bytes) = (place < length config.members) × (turn_end (Ok arrival) ≡ Went)
 CanHappen config (Restarts place) = place < length config.members
 
 -- ---- a cluster
 
--- the daemons of the members from this place on have started for the first time
+-- The daemons of the members from this place on have started for the first time.
 abbrev pub AreStarted : ConfigSays → ℕ → List Daemon → Type 0
 AreStarted config place [] = Unit {0}
 AreStarted config place (daemon ∷ daemons) =
     HasStarted config place (all_kept config.tickets place []) 0 daemon × AreStarted config (place + 1) daemons
 
--- the daemons of the first members, this many
+-- The daemons of the first members, this many, have started for the first time.
 pub record HaveStarted (config : ConfigSays) (number : ℕ) (daemons : List Daemon) : Type 0 where
   pub all : length daemons ≡ number
   pub each : AreStarted config 0 daemons
 
--- nothing was counted
+-- Nothing was counted.
 pub record IsNothing (summary : Summary) : Type 0 where
   pub delivered : summary.delivered ≡ 0
   pub restarts : summary.restarts ≡ 0
@@ -62,7 +62,7 @@ pub record IsNothing (summary : Summary) : Type 0 where
   pub greatest : summary.greatest_term ≡ 0
   pub most : summary.most_holders ≡ 0
 
--- a cluster with room for its next event
+-- The cluster has room for its next event.
 pub record IsReady (cluster : Cluster) : Type 0 where
   pub sound : IsSound cluster.config
   pub all : length cluster.daemons.items ≡ length cluster.config.members
@@ -70,21 +70,21 @@ pub record IsReady (cluster : Cluster) : Type 0 where
   pub early : cluster.time < TIMES_END
   pub room : HasRoom cluster.summary
 
--- the state that the entries leave, except the time and the holders
+-- The state that the entries leave, except the time and the holders.
 pub record Holds (config : ConfigSays) (before : List WorldEntry) (daemons : List Daemon) (frames : List SentFrame)
     (summary : Summary) : Type 0 where
   pub each : AreDaemons config before 0 daemons
   pub sent : frames ≡ kept_frames config before
   pub counted : IsCounted config before summary
 
--- the entries of an event at a true time, and the state that they leave
+-- The entries of an event at a true time, and the state that they leave.
 pub record Leaves (config : ConfigSays) (before : List WorldEntry) (time : ℕ) (fails : Bool) (what : Happening)
     (daemons : List Daemon) (frames : List SentFrame) (summary : Summary) : Type 0 where
   pub last : List WorldEntry
   pub is : IsHappening config before time fails what last
   pub holds : Holds config (before ++ last) daemons frames summary
 
--- the event happened in a cluster, at its time
+-- The event happened in a cluster, at its time.
 pub record Happened (fails : Bool) (what : Happening) (old new : Cluster) : Type 0 where
   pub same : new.config ≡ old.config
   pub at : new.time ≡ old.time
@@ -93,14 +93,14 @@ pub record Happened (fails : Bool) (what : Happening) (old new : Cluster) : Type
   pub leaves : (before : List WorldEntry) → Holds old.config before old.daemons.items old.frames old.summary
       → Leaves old.config before old.time fails what new.daemons.items new.frames new.summary
 
--- this many events count no more than this
+-- The counts after this many events are not greater than this number.
 pub record IsFew (events : ℕ) (summary : Summary) : Type 0 where
   pub delivered : summary.delivered ≤ events
   pub restarts : summary.restarts ≤ events
   pub gains : summary.gains ≤ events * 2 ^ 32
   pub releases : summary.releases ≤ events * 2 ^ 32
 
--- a cluster after this many events of a simulation
+-- A cluster after this many events of a simulation.
 pub record Stands (config : ConfigSays) (events number event : ℕ) (cluster : Cluster) : Type 0 where
   pub before : List WorldEntry
   pub simulation : IsSimulation config number event before

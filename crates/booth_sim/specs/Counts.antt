@@ -21,18 +21,18 @@ use Rattle.booth_sim.specs.Kept.{kept_by}
 abbrev pub one_if : Bool → ℕ
 one_if counts = if counts then 1 else 0
 
--- how many of these entries meet a condition, each together with those before it
+-- The number of these entries that meet a condition, each together with the entries before it.
 abbrev pub count_after : (List WorldEntry → WorldEntry → Bool) → List WorldEntry → List WorldEntry → ℕ
 count_after is before [] = 0
 count_after is before (entry ∷ entries) =
     one_if (is before entry) + count_after is (before ++ entry ∷ []) entries
 
--- a frame of a member arrives
+-- A frame of a member arrives.
 abbrev pub is_delivery : ConfigSays → SessionEntry → Bool
 is_delivery config (Makes (calls.Next wait (Ok (arrivals.Datagram from)) bytes)) = is_some (place_of config from)
 is_delivery config what = false
 
--- a member starts that was up before
+-- A member starts that was up before.
 abbrev pub is_some_entry : List SessionEntry → Bool
 is_some_entry [] = false
 is_some_entry (entry ∷ entries) = true
@@ -41,25 +41,25 @@ abbrev pub is_restart : List WorldEntry → ℕ → SessionEntry → Bool
 is_restart before place (Starts node reading records) = is_some_entry (entries_of place before)
 is_restart before place what = false
 
--- a record gives a lease, and the one before had none, or one that ends earlier
+-- A record gives a lease, and the record before had none, or one that ends earlier.
 abbrev pub gains : Option Lease → Option Lease → Bool
 gains old None = false
 gains None (Some new) = true
 gains (Some old) (Some new) = nat_lt old.until new.until
 
--- a record has no lease, and the one before had one
+-- A record has no lease, and the record before had one.
 abbrev pub releases : Option Lease → Option Lease → Bool
 releases old (Some new) = false
 releases old None = is_some old
 
--- how a write that succeeded changed the lease of its ticket, which is one of the configuration
+-- A write that succeeded changed the lease of its ticket in this way. The ticket is one of the configuration.
 abbrev pub is_change : (Option Lease → Option Lease → Bool) → ConfigSays → List WorldEntry → ℕ → SessionEntry → Bool
 is_change changes config before place (Makes (calls.Keep name rec (Ok done))) =
     is_some (position (is_called name) config.tickets)
     && changes (record_or_none (kept_by place name before)).lease rec.lease
 is_change changes config before place what = false
 
--- the term that a write wrote
+-- The term that a write wrote.
 abbrev pub term_in : SessionEntry → ℕ
 term_in (Makes (calls.Keep name rec (Ok done))) = rec.term
 term_in what = 0
@@ -74,31 +74,32 @@ abbrev pub is_in_force : Option Lease → ℕ → Bool
 is_in_force None reading = false
 is_in_force (Some lease) reading = nat_lt reading lease.until
 
--- a site whose written record of the ticket is in force at what its clock reads at the last entry
+-- The member is a site whose written record of the ticket is in force at the time that its clock reads at the last
+-- entry.
 abbrev pub is_holder : ConfigSays → List WorldEntry → TicketConf → ℕ → Bool
 is_holder config before ticket place =
     is_site_at config.members place
     && is_in_force (record_or_none (kept_by place ticket.name before)).lease (reading_at place (last_time 0 before))
 
--- how many sites hold an automatic ticket
+-- The number of sites that hold an automatic ticket.
 abbrev pub holders : ConfigSays → List WorldEntry → TicketConf → ℕ
 holders config before ticket =
     if ticket.manual then 0
     else count_by (is_holder config before ticket) (range_with_len 0 (length config.members))
 
--- the greatest number of holders of a ticket
+-- The greatest number of holders of a ticket.
 abbrev pub most_of : ConfigSays → List WorldEntry → List TicketConf → ℕ
 most_of config before [] = 0
 most_of config before (ticket ∷ tickets) =
     max (holders config before ticket) (most_of config before tickets)
 
--- a start, or the arrival in a turn: with it an event begins
+-- The entry begins an event: it is a start, or the arrival in a turn.
 abbrev pub begins : SessionEntry → Bool
 begins (Starts node reading records) = true
 begins (Makes (calls.Next wait answer bytes)) = true
 begins what = false
 
--- the greatest number of holders between two events, and after the last one
+-- The greatest number of holders between two events, and after the last one.
 abbrev pub most_between : ConfigSays → List WorldEntry → List WorldEntry → ℕ
 most_between config before [] = most_of config before config.tickets
 most_between config before (entry ∷ entries) =

@@ -6,11 +6,11 @@ use Rattle.booth_sim.specs.declared.drawing.Draw.{Draw}
 use Rattle.booth_sim.specs.declared.drawing.Kind.{Kind}
 use Rattle.booth_sim.specs.declared.drawing.Kind.TheVariants.{Frame, Quiet, Grant, Revoke, Restart}
 
--- the generator with a seed, on stream 54
+-- The generator with a seed, on stream 54.
 abbrev pub generator_of : ℕ → Lcg
 generator_of number = started 64 multiplier_64 number (increment_of 64 54)
 
--- three words in their order, and the generator after them
+-- Three words in their order, and the generator after them.
 abbrev pub drawn : Lcg → Draw × Lcg
 drawn generator =
     let first : ℕ × Lcg = pcg32 generator in
@@ -18,27 +18,27 @@ drawn generator =
     let third : ℕ × Lcg = pcg32 second.1 in
     (record { first = first.0; second = second.0; third = third.0 }, third.1)
 
--- the generator before an event; events count from 0
+-- The generator before an event. Events count from 0.
 abbrev pub generator_before : ℕ → ℕ → Lcg
 generator_before number zero = generator_of number
 generator_before number (suc event) = (drawn (generator_before number event)).1
 
--- the draws of an event
+-- The draws of an event.
 abbrev pub draw_of : ℕ → ℕ → Draw
 draw_of number event = (drawn (generator_before number event)).0
 
 -- ---- the meaning of the words
 
--- by how many milliseconds true time rises
+-- The number of milliseconds by which true time rises.
 abbrev pub rise_of : Draw → ℕ
 rise_of draw = draw.first % 2000
 
--- whether each write in this event's turn fails
+-- Whether each write in this event's turn fails.
 abbrev pub keeps_fail : Draw → Bool
 keeps_fail draw = draw.third % 64 == 0
 
--- of 2,000 draws, 1,200 deliver a frame, 790 deliver nothing, 8 are the request for a grant and one that for a
--- revocation, and one is a restart
+-- The kind of an event. Out of 2,000 draws, 1,200 deliver a frame and 790 deliver nothing. In 8 a client requests a
+-- grant, in one a client requests a revocation, and one is a restart.
 abbrev pub kind_in : ℕ → Kind
 kind_in k =
     if nat_lt k 1200 then Frame else
@@ -49,10 +49,10 @@ kind_in k =
 abbrev pub kind_of : Draw → Kind
 kind_of draw = kind_in (draw.second % 2000)
 
--- the member at which the event is, among this many
+-- The member at which the event is, among this many.
 abbrev pub member_of : Draw → ℕ → ℕ
 member_of draw members = draw.third % members
 
--- the ticket in a client's request, among this many
+-- The ticket in a client's request, among this many.
 abbrev pub ticket_of : Draw → ℕ → ℕ
 ticket_of draw tickets = draw.first % tickets

@@ -10,30 +10,30 @@ use Rattle.booth_node.specs.World.{WorldEntry}
 use Rattle.booth_sim.specs.declared.frames.SentFrame.{SentFrame}
 use Rattle.booth_sim.specs.declared.frames.TheConstants.{KEPT_FRAMES, NEWEST_FRAMES}
 
--- the place of the member that listens there; no member listens at another port
+-- The place of the member that listens at this peer's address and port. No member listens at another port.
 abbrev pub place_of : ConfigSays → Peer → Option ℕ
 place_of config peer =
     if peer.port == config.port then position (is_at peer.address) config.members else None
 
--- the frame that a member sent by this call, if it goes to a member
+-- The frame that a member sent by this call, if the frame goes to a member.
 abbrev pub frame_in : ConfigSays → ℕ → SessionEntry → Option SentFrame
 frame_in config from (Makes (calls.Send to bytes answer)) =
     option_map (λ place. record { from = from; to = place; bytes = bytes }) (place_of config to)
 frame_in config from what = None
 
--- the frames between members, the oldest first; a reply to a client is not among them
+-- The frames between members, the oldest first. They do not include replies to clients.
 abbrev pub frames_in : ConfigSays → List WorldEntry → List SentFrame
 frames_in config entries = filter_map (λ entry. frame_in config entry.member entry.what) entries
 
--- the last elements of a list, at most this many
+-- The last elements of a list, at most this many.
 abbrev pub last_of : {X : Type 0} → ℕ → List X → List X
 last_of most xs = drop (length xs - most) xs
 
--- the frames that are stored as sent
+-- The frames that are stored as sent.
 abbrev pub kept_frames : ConfigSays → List WorldEntry → List SentFrame
 kept_frames config entries = last_of KEPT_FRAMES (frames_in config entries)
 
--- the frame that a word chooses among the newest ones, counted back from the newest
+-- The frame that a word chooses among the newest ones, counted back from the newest.
 abbrev pub chosen : ℕ → List SentFrame → Option SentFrame
 chosen word frames =
     slice_get frames (length frames - 1 - word % min (length frames) NEWEST_FRAMES)

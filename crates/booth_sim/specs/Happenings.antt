@@ -22,22 +22,22 @@ use Rattle.booth_sim.specs.Frames.{chosen, kept_frames}
 
 -- ---- clocks
 
--- how many milliseconds a member's clock gains in 1,000 seconds of true time, plus 1,000,000: of three members one
--- clock is exact, one as fast as allowed, and one as slow as allowed
+-- The number of milliseconds that a member's clock advances in 1,000 seconds of true time. Of three members, one has
+-- an exact clock, one the fastest allowed, and one the slowest allowed.
 abbrev pub rate_at : ℕ → ℕ
 rate_at place = if place % 3 == 0 then 1000000 else if place % 3 == 1 then 1001000 else 999000
 
--- what the clock of the member at a place reads at a true time
+-- The reading of the clock of the member at a place, at a true time.
 abbrev pub reading_at : ℕ → ℕ → ℕ
 reading_at place time = time * rate_at place / 1000000
 
 -- ---- clients
 
--- all clients are at 0.0.0.0, port 0
+-- The address of all clients: 0.0.0.0, port 0.
 abbrev pub client : Peer
 client = record { address = V4 (0 ∷ 0 ∷ 0 ∷ 0 ∷ []); port = 0 }
 
--- a client's request about a ticket, without options; its number is the event's
+-- A client's request about a ticket, without options. Its number is the event's number.
 abbrev pub request : Cmd → List ℕ → ℕ → PlainMessage
 request cmd ticket event = record {
   head = record {
@@ -59,22 +59,22 @@ ticket_name config place = option_map_or (λ ticket. ticket.name) (slice_get con
 
 -- ---- events
 
--- a member makes a turn, with this arrival and these bytes; or it is stopped and starts again
+-- An event: a member makes a turn, with this arrival and these bytes, or it is stopped and starts again.
 pub data Happening : Type 0 where
   Turns : (place : ℕ) (arrival : Arrival) (bytes : List ℕ) → Happening
   Restarts : (place : ℕ) → Happening
 
--- the address at which the member at a place listens
+-- The address at which the member at a place listens.
 abbrev pub peer_in : ConfigSays → ℕ → Peer
 peer_in config place = unwrap_or (peer_at config (slice_get config.members place)) client
 
--- a frame arrives at its receiver, from its sender; without a frame the member at a place receives nothing
+-- The arrival of a frame at its receiver, from its sender. Without a frame the member at a place receives nothing.
 abbrev pub arrives : ConfigSays → ℕ → Option SentFrame → Happening
 arrives config place None = Turns place arrivals.Quiet []
 arrives config place (Some frame) =
     Turns frame.to (arrivals.Datagram (peer_in config frame.from)) frame.bytes
 
--- a client sends the member at a place a request about a ticket
+-- A client sends the member at a place a request about a ticket.
 abbrev pub asks : ConfigSays → ℕ → Draw → Cmd → ℕ → Happening
 asks config place draw cmd event =
     Turns place (arrivals.Datagram client)
@@ -88,7 +88,7 @@ happens config before event draw place kinds.Grant = asks config place draw CGnt
 happens config before event draw place kinds.Revoke = asks config place draw CRvk event
 happens config before event draw place kinds.Restart = Restarts place
 
--- the event with this number
+-- The event with this number.
 abbrev pub happening : ConfigSays → List WorldEntry → ℕ → Draw → Happening
 happening config before event draw =
     happens config before event draw (member_of draw (length config.members)) (kind_of draw)

@@ -1,4 +1,4 @@
--- The records that members have on disk, by what they did.
+-- The records that members have on disk, according to their entries.
 use Rattle.std.specs.Prelude.{ℕ, List, [], ◌∷◌, map, Option, Some, None, Ok, bytes_eq, if◌then◌else◌}
 use Rattle.booth_conf.specs.declared.tickets.TicketConf.{TicketConf}
 use Rattle.booth_rec.specs.declared.record.Record.{Record}
@@ -6,18 +6,18 @@ use Rattle.booth_host.specs.declared.entry.Entry.TheVariants as calls
 use Rattle.booth_node.specs.Session.{SessionEntry, Makes}
 use Rattle.booth_node.specs.World.{WorldEntry, entries_of}
 
--- the record of a ticket after these entries of its member, if it was this one before: that of the last write that
--- succeeded. A failed write leaves the old record.
+-- The record of a ticket after these entries of its member: the record of the last write that succeeded, or else the
+-- record before. A failed write leaves the old record.
 abbrev pub kept_after : List ℕ → Option Record → List SessionEntry → Option Record
 kept_after name kept [] = kept
 kept_after name kept (Makes (calls.Keep ticket rec (Ok done)) ∷ entries) =
     kept_after name (if bytes_eq ticket name then Some rec else kept) entries
 kept_after name kept (entry ∷ entries) = kept_after name kept entries
 
--- the record of a ticket at the member at a place; at first none
+-- The record of a ticket at the member at a place. At first there is none.
 abbrev pub kept_by : ℕ → List ℕ → List WorldEntry → Option Record
 kept_by place name before = kept_after name None (entries_of place before)
 
--- those of all tickets
+-- The records of all tickets at the member at a place.
 abbrev pub all_kept : List TicketConf → ℕ → List WorldEntry → List (Option Record)
 all_kept tickets place before = map (λ ticket. kept_by place ticket.name before) tickets

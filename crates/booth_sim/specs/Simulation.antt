@@ -1,4 +1,4 @@
--- A simulation: the entries that follow from a configuration and a generator's words, and their world.
+-- A simulation: the entries that follow from a configuration and a generator's words, and the world that they form.
 use Rattle.std.specs.Prelude.{◌≡◌, ℕ, zero, suc, ◌+◌, ◌++◌, true, false, Bool, List, [], ◌∷◌, length, map, None, Ok, is_err}
 use Rattle.std.specs.List.{range_with_len}
 use Rattle.booth_base.specs.Tree.{Ends}
@@ -19,11 +19,11 @@ use Rattle.booth_sim.specs.Kept.{all_kept}
 
 -- ---- the world of entries
 
--- the readings of the clock of the member at a place, one for each true time of the span
+-- The readings of the clock of the member at a place, one for each true time of the span.
 abbrev pub clock_of : ℕ → ℕ → List ℕ
 clock_of span place = map (reading_at place) (range_with_len 0 span)
 
--- with clocks up to the last entry
+-- The world of these entries, with clocks up to the last entry.
 abbrev pub world_of : ConfigSays → List WorldEntry → World
 world_of config entries = record {
   members = config.members;
@@ -34,7 +34,7 @@ world_of config entries = record {
   entries = entries;
 }
 
--- the member at a place, without keys, by the rules of version 2
+-- The node of the member at a place, without keys, by the rules of version 2.
 abbrev pub node_in : ConfigSays → ℕ → NodeConfig
 node_in config place = record { config = config; ring = None; me = id_at (world_of config []) place; second = true }
 
@@ -43,18 +43,18 @@ entry_at place time what = record { member = place; time = time; what = what }
 
 -- ---- starts
 
--- the member at a place starts at a true time, with the records that it wrote before
+-- The member at a place starts at a true time, with the records that it wrote before.
 abbrev pub start_at : ConfigSays → List WorldEntry → ℕ → ℕ → WorldEntry
 start_at config before place time =
     entry_at place time (Starts (node_in config place) (reading_at place time) (all_kept config.tickets place before))
 
--- all members start at true time 0, one after the other, and have written nothing
+-- All members start at true time 0, one after the other, and have written nothing.
 abbrev pub starts : ConfigSays → List WorldEntry
 starts config = map (λ place. start_at config [] place 0) (range_with_len 0 (length config.members))
 
 -- ---- events
 
--- each write has the given result, and sends and starts of handlers do not fail
+-- Each write has the given result. Sends and starts of handlers do not fail.
 abbrev pub IsAnswered : Bool → Entry → Type 0
 IsAnswered fails (calls.Keep ticket rec answer) = is_err answer ≡ fails
 IsAnswered fails (calls.Send to bytes answer) = is_err answer ≡ false
@@ -65,15 +65,15 @@ abbrev pub AreAnswered : Bool → List Entry → Type 0
 AreAnswered fails [] = Unit {0}
 AreAnswered fails (call ∷ calls) = IsAnswered fails call × AreAnswered fails calls
 
--- the calls of a turn: the arrival, the reading, and the actions
+-- The calls of a turn: the arrival, the reading, and the actions.
 abbrev pub turn_calls : Arrival → List ℕ → ℕ → List Entry → List Entry
 turn_calls arrival bytes reading deeds = calls.Next 100 (Ok arrival) bytes ∷ calls.Now reading ∷ deeds
 
--- the entries of a member that makes these calls at a true time
+-- The entries of a member that makes these calls at a true time.
 abbrev pub made_at : ℕ → ℕ → List Entry → List WorldEntry
 made_at place time calls = map (λ call. entry_at place time (Makes call)) calls
 
--- these are the entries of a turn of the member at a place, from its current state
+-- These are the entries of a turn of the member at a place, from its current state.
 pub record IsTurnAt (config : ConfigSays) (before : List WorldEntry) (place time : ℕ) (fails : Bool)
     (arrival : Arrival) (bytes : List ℕ) (entries : List WorldEntry) : Type 0 where
   pub old : State
@@ -84,19 +84,19 @@ pub record IsTurnAt (config : ConfigSays) (before : List WorldEntry) (place time
   pub answered : AreAnswered fails deeds
   pub whole : entries ≡ made_at place time (turn_calls arrival bytes (reading_at place time) deeds)
 
--- these are the entries of an event at a true time
+-- These are the entries of an event at a true time.
 abbrev pub IsHappening : ConfigSays → List WorldEntry → ℕ → Bool → Happening → List WorldEntry → Type 0
 IsHappening config before time fails (Turns place arrival bytes) entries =
     IsTurnAt config before place time fails arrival bytes entries
 IsHappening config before time fails (Restarts place) entries = entries ≡ start_at config before place time ∷ []
 
--- these are the entries of the event with this number and these draws
+-- These are the entries of the event with this number and these draws.
 abbrev pub IsEvent : ConfigSays → List WorldEntry → ℕ → Draw → List WorldEntry → Type 0
 IsEvent config before event draw entries =
     IsHappening config before (last_time 0 before + rise_of draw) (keeps_fail draw)
     (happening config before event draw) entries
 
--- the entries of this many events of a seed: each event follows those before it
+-- The entries of this many events of a seed. Each event follows the events before it.
 abbrev pub IsSimulation : ConfigSays → ℕ → ℕ → List WorldEntry → Type 0
 IsSimulation config number zero entries = entries ≡ starts config
 IsSimulation config number (suc event) entries =

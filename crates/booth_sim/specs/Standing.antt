@@ -1,4 +1,4 @@
--- The state that parts of the code carry along: it is what the entries before leave.
+-- The state that parts of the code carry along: the state that the earlier entries leave.
 use Rattle.std.specs.Prelude.{◌≡◌, ◌≤◌, ℕ, ◌+◌, List, [], ◌∷◌, length, Option, Ok}
 use Rattle.booth_base.specs.Tree.{Ends}
 use Rattle.booth_conf.specs.Config.{ConfigSays}
@@ -23,18 +23,18 @@ use Rattle.booth_sim.specs.Simulation.{AreAnswered, node_in, turn_calls}
 
 -- ---- a turn
 
--- a turn had this input, and these are its actions
+-- A turn had this input, and these are its actions.
 pub record TookTurn (node : NodeConfig) (old new : State) (coming : Coming) (deeds : List Entry) : Type 0 where
   pub turn : IsTurn node old (turn_end (Ok coming.arrival))
       (turn_calls coming.arrival coming.bytes.now coming.reading deeds) new
   pub answered : AreAnswered coming.keeps_fail deeds
 
--- a `next` returned this input
+-- A `next` returned this input.
 pub record Brought (coming : Coming) (call : Entry) : Type 0 where
   pub wait : ℕ
   pub is : call ≡ calls.Next wait (Ok coming.arrival) coming.bytes.now
 
--- a host recorded these calls of a turn that had this input
+-- A host recorded these calls of a turn that had this input.
 pub record MetIn (coming : Coming) (told deeds : List Entry) : Type 0 where
   pub wait : ℕ
   pub whole : told ≡ calls.Next wait (Ok coming.arrival) coming.bytes.now ∷ calls.Now coming.reading ∷ deeds
@@ -42,7 +42,7 @@ pub record MetIn (coming : Coming) (told deeds : List Entry) : Type 0 where
 
 -- ---- between two entries
 
--- what was counted, except the holders
+-- The counts, except the holders.
 pub record IsCounted (config : ConfigSays) (before : List WorldEntry) (summary : Summary) : Type 0 where
   pub delivered : summary.delivered ≡ delivered_in config before
   pub restarts : summary.restarts ≡ restarts_in before
@@ -50,7 +50,7 @@ pub record IsCounted (config : ConfigSays) (before : List WorldEntry) (summary :
   pub releases : summary.releases ≡ changes_in releases config before
   pub greatest : summary.greatest_term ≡ greatest_term before
 
--- a count of gains or releases rises by at most one
+-- A count of gains or releases rises by at most one.
 pub record RisesByOne (old new : Summary) : Type 0 where
   pub gains : new.gains ≤ old.gains + 1
   pub releases : new.releases ≤ old.releases + 1
@@ -60,7 +60,7 @@ pub record RisesByOne (old new : Summary) : Type 0 where
   pub delivered : new.delivered ≡ old.delivered
   pub restarts : new.restarts ≡ old.restarts
 
--- the change by an action of the member at a place
+-- The change by an action of the member at a place.
 pub record IsSeen (config : ConfigSays) (before : List WorldEntry) (place : ℕ) (kept : List (Option Record))
     (frames : List SentFrame) (summary : Summary) : Type 0 where
   pub records : kept ≡ all_kept config.tickets place before
@@ -69,24 +69,24 @@ pub record IsSeen (config : ConfigSays) (before : List WorldEntry) (place : ℕ)
 
 -- ---- between two events
 
--- the daemon of the member at a place has started with these records
+-- The daemon of the member at a place has started with these records.
 pub record HasStarted (config : ConfigSays) (place : ℕ) (kept : List (Option Record)) (reading : ℕ)
     (daemon : Daemon) : Type 0 where
   pub node : node_config daemon.node ≡ node_in config place
   pub state : state_of daemon.node ≡ opened (node_in config place) kept reading
   pub records : daemon.kept.items ≡ kept
 
--- a daemon has a record, or none, for each ticket
+-- A daemon has a record, or none, for each ticket.
 abbrev pub KeepsAll : ConfigSays → Daemon → Type 0
 KeepsAll config daemon = length daemon.kept.items ≡ length config.tickets
 
--- a member's daemon is in the state that the entries left, and has the member's records
+-- A member's daemon is in the state that the entries left, and has the member's records.
 pub record IsDaemon (config : ConfigSays) (before : List WorldEntry) (place : ℕ) (daemon : Daemon) : Type 0 where
   pub node : node_config daemon.node ≡ node_in config place
   pub stands : stand_after place before ≡ Doing (node_in config place) (Ends (state_of daemon.node))
   pub records : daemon.kept.items ≡ all_kept config.tickets place before
 
--- the daemons of the members from this place on
+-- These are the daemons of the members from this place on.
 abbrev pub AreDaemons : ConfigSays → List WorldEntry → ℕ → List Daemon → Type 0
 AreDaemons config before place [] = Unit {0}
 AreDaemons config before place (daemon ∷ daemons) =

@@ -14,14 +14,14 @@ use Rattle.booth_sim.specs.Counts.{is_delivery}
 use Rattle.booth_sim.specs.Simulation.{made_at, turn_calls}
 use Rattle.booth_sim.specs.Standing.{IsSeen, TookTurn}
 
--- one more event makes no count too great for a word of 64 bits
+-- One more event makes no count too great for a word of 64 bits.
 pub record HasRoom (summary : Summary) : Type 0 where
   pub delivered : summary.delivered + 1 < 2 ^ 64
   pub restarts : summary.restarts + 1 < 2 ^ 64
   pub gains : summary.gains + 2 ^ 32 < 2 ^ 64
   pub releases : summary.releases + 2 ^ 32 < 2 ^ 64
 
--- each count rose by this much, and the other numbers are unchanged
+-- Each count rose by this much, and the other numbers are unchanged.
 pub record Grows (delivered restarts changes : ℕ) (old new : Summary) : Type 0 where
   pub arrived : new.delivered ≤ old.delivered + delivered
   pub started : new.restarts ≤ old.restarts + restarts
@@ -31,12 +31,12 @@ pub record Grows (delivered restarts changes : ℕ) (old new : Summary) : Type 0
   pub number : new.number ≡ old.number
   pub most : new.most_holders ≡ old.most_holders
 
--- none of these calls delivers a frame of a member
+-- None of these calls delivers a frame of a member.
 abbrev pub NoneArrives : ConfigSays → List Entry → Type 0
 NoneArrives config [] = Unit {0}
 NoneArrives config (call ∷ calls) = (is_delivery config (Makes call) ≡ false) × NoneArrives config calls
 
--- these calls of the member at a place change its records, the frames and the counts
+-- These calls of the member at a place change its records, the frames and the counts.
 pub record Sees (config : ConfigSays) (place : ℕ) (calls : List Entry) (old new : List (Option Record))
     (sent kept : List SentFrame) (counted now : Summary) : Type 0 where
   pub sees : (before : List WorldEntry) (time : ℕ) → NoneArrives config calls
@@ -45,7 +45,7 @@ pub record Sees (config : ConfigSays) (place : ℕ) (calls : List Entry) (old ne
   pub all : length new ≡ length old
   pub grows : Grows 0 0 (length calls) counted now
 
--- the daemon of the member at a place made a turn
+-- The daemon of the member at a place made a turn.
 pub record MadeTurn (config : ConfigSays) (place : ℕ) (coming : Coming) (old new : Daemon)
     (sent kept : List SentFrame) (counted now : Summary) : Type 0 where
   pub deeds : List Entry

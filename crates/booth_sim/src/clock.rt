@@ -9,7 +9,7 @@ const TRUE_RATE: u64 = 1_000_000;
 /// The limit for the true times of a simulation.
 pub const TIMES_END: u64 = 1 << 40;
 
-// Returns how far a clock goes in 1,000 seconds, in milliseconds.
+// Returns the number of milliseconds that a clock advances in 1,000 seconds of true time.
 fn rate_at(place: usize) -> u64
     ensures exact { result ≡ rate_at place }
     ensures few { result ≤ 1001000 }
@@ -21,7 +21,7 @@ fn rate_at(place: usize) -> u64
     }
 }
 
-/// Returns what the clock of the member at a place reads at a true time.
+/// Returns the reading of the clock of the member at a place, at a true time.
 pub fn reading_at(place: usize, time: u64) -> u64
     requires { time < TIMES_END }
     ensures { result ≡ reading_at place time }

@@ -81,7 +81,7 @@ impl Cluster {
         )
     }
 
-    // Has the member at a place make a turn.
+    // Makes the member at a place take a turn.
     fn make_turn(&mut self, place: usize, coming: &Coming<'_>) -> Result<(), AllocError>
         requires ready { IsReady self.old }
         requires place { place < length self.old.config.members }
@@ -141,7 +141,7 @@ impl Cluster {
         }
     }
 
-    // Counts the most sites that hold a ticket now.
+    // Counts the greatest number of sites that hold a ticket now.
     fn count_holders(&mut self)
         requires { IsReady self.old }
         ensures { (before : List WorldEntry) → AreDaemons self.old.config before 0 self.old.daemons.items

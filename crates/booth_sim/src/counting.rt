@@ -18,7 +18,7 @@ use booth_host::Entry;
 use booth_rec::{Lease, Record};
 use std::alloc::AllocError;
 
-// Returns whether a record gives a lease, and the one before had none, or one that ends earlier.
+// Returns whether a record gives a lease, and the record before had none, or one that ends earlier.
 fn gains(old: Option<Lease>, new: Option<Lease>) -> bool
     ensures { result ≡ gains old new }
 {
@@ -29,7 +29,7 @@ fn gains(old: Option<Lease>, new: Option<Lease>) -> bool
     }
 }
 
-// Returns whether a record has no lease, and the one before had one.
+// Returns whether a record has no lease, and the record before had one.
 fn releases(old: Option<Lease>, new: Option<Lease>) -> bool
     ensures { result ≡ releases old new }
 {

@@ -16,7 +16,7 @@ use booth_node::Node;
 use booth_rec::Record;
 use std::alloc::{AllocError, Global};
 
-/// The most calls that a host records: those of one turn.
+/// The greatest number of calls that a host records: the calls of one turn.
 const ROOM: u32 = u32::MAX;
 
 /// A member: its node, its host, and its record of each ticket.
@@ -36,7 +36,7 @@ pub(crate) struct Coming<'a> {
     pub keeps_fail: bool,
 }
 
-// Returns a host without input, which records as many calls as there is memory for.
+// Returns a host without input, which records as many calls as memory allows.
 fn new_host(alloc: Global) -> Result<MemoryHost, AllocError> {
     let script = Script {
         first: 0,
@@ -78,7 +78,7 @@ fn start_node(
     Node::open(alloc, config.copy(alloc)?, None, me, kept, reading)
 }
 
-// Returns no record for each ticket.
+// Returns a list with no record for each ticket.
 fn no_records(alloc: Global, tickets: usize) -> Result<Vec<Option<Record>>, AllocError>
     ensures { IfOk result (λ kept. kept.items ≡ replicate tickets None) }
 {
@@ -90,7 +90,7 @@ fn no_records(alloc: Global, tickets: usize) -> Result<Vec<Option<Record>>, Allo
 }
 
 // Returns whether a call of a turn has the right answer: no send and no start of a handler fails, and either each
-// write fails or none.
+// write fails or none does.
 fn is_answered(call: &Entry, keeps_fail: bool) -> bool
     ensures { IsTrue result ↔ IsAnswered keeps_fail call.now }
 {

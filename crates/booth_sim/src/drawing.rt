@@ -53,7 +53,7 @@ impl Draw {
         }
     }
 
-    /// Returns by how many milliseconds true time rises.
+    /// Returns the number of milliseconds by which true time rises.
     pub(crate) fn rise(&self) -> u64
         ensures exact { result ≡ rise_of self.now }
         ensures few { result < 2000 }

@@ -9,10 +9,10 @@ use booth_conf::{Config, Member};
 use std::alloc::{AllocError, Global};
 use std::marker::Model;
 
-/// How many frames are stored as sent.
+/// The number of frames that are stored as sent.
 pub(crate) const KEPT_FRAMES: usize = 64;
 
-/// Among how many of the newest frames one is chosen.
+/// The number of the newest frames among which one is chosen.
 pub(crate) const NEWEST_FRAMES: usize = 16;
 
 /// A frame that a member sent to another.
@@ -52,7 +52,7 @@ fn place_at(members: &[Member], address: Address) -> Option<usize>
     members.iter().position(|member| address == member.address)
 }
 
-/// Returns the place of the member that listens there, if there is one.
+/// Returns the place of the member that listens at this peer's address and port, if there is one.
 pub fn place_of(config: &Config, peer: &Peer) -> Option<usize>
     ensures exact { result ≡ place_of config.now peer.now }
     ensures within { IfSome result (λ place. place < length config.now.members) }
@@ -75,7 +75,7 @@ impl SentFrames {
         }
     }
 
-    /// Stores a frame, and drops the oldest one if there are too many.
+    /// Stores a frame. Drops the oldest frame if there are too many.
     pub(crate) fn push(&mut self, from: usize, to: usize, bytes: &[u8]) -> Result<(), AllocError>
         ensures ok { OnOk result (self.new ≡ last_of KEPT_FRAMES
             (self.old ++ record { from = from; to = to; bytes = bytes.now } ∷ [])) }

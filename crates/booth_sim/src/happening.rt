@@ -30,7 +30,7 @@ pub enum Happening {
     Restart(usize),
 }
 
-// Returns a turn without an arrival at a member.
+// Returns a turn of a member without an arrival.
 fn quiet(alloc: Global, place: usize) -> Result<Happening, AllocError>
     ensures { IfOk result (λ happening. says happening ≡ Turns place Arrival.Quiet []) }
 {
@@ -54,8 +54,8 @@ fn peer_in(config: &Config, place: usize) -> Peer
     }
 }
 
-// Returns the arrival of a frame at its receiver; without a frame, a turn without an arrival at the member at a
-// place.
+// Returns the arrival of a frame at its receiver. Without a frame, returns a turn without an arrival of the member at
+// a place.
 fn arrives(
     alloc: Global,
     config: &Config,
@@ -75,7 +75,7 @@ fn arrives(
     })
 }
 
-// Returns the request of a client, at one place, for the ticket at another.
+// Returns a client's request, at one place, for the ticket at another.
 fn asks(
     alloc: Global,
     config: &Config,
@@ -98,7 +98,7 @@ fn asks(
     })
 }
 
-/// Returns the event with this number, if these frames were sent; requests are written into a frame.
+/// Returns the event with this number, if these frames were sent. Requests are written into a frame.
 pub fn what_happens(
     alloc: Global,
     config: &Config,

@@ -1,4 +1,4 @@
-//! How many sites hold a ticket.
+//! The number of sites that hold a ticket.
 ghost use Rattle.std.specs.Prelude.{◌≡◌, ◌<◌, ◌≤◌, ℕ, List, length, count_by, slice_get, Some};
 ghost use Rattle.std.specs.List.{All, range_with_len};
 ghost use Rattle.booth_conf.specs.declared.tickets.TicketConf.{TicketConf};
@@ -34,7 +34,7 @@ fn is_holder(config: &Config, daemon: &Daemon, place: usize, ticket: usize, time
     config.members()[place].site && is_in_force(&daemon.kept[ticket], reading_at(place, time))
 }
 
-// Returns how many sites hold the ticket at a place at a true time.
+// Returns the number of sites that hold the ticket at a place at a true time.
 fn holders(config: &Config, daemons: &[Daemon], ticket: usize, time: u64) -> u64
     requires all { length daemons.now ≡ length config.now.members }
     requires records { All (KeepsAll config.now) daemons.now }
@@ -54,7 +54,7 @@ fn holders(config: &Config, daemons: &[Daemon], ticket: usize, time: u64) -> u64
     holders
 }
 
-/// Returns the most sites that hold one automatic ticket at a true time.
+/// Returns the greatest number of sites that hold the same automatic ticket at a true time.
 pub(crate) fn most_holders(config: &Config, daemons: &[Daemon], time: u64) -> u64
     requires all { length daemons.now ≡ length config.now.members }
     requires records { All (KeepsAll config.now) daemons.now }

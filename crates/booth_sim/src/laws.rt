@@ -1,4 +1,4 @@
-//! What holds for every simulation, each law the contract of a function that does nothing.
+//! The laws of every simulation. Each is the contract of a function that does nothing.
 ghost use Rattle.booth_sim.specs.Laws.{AtMostOneHolds, OneSimulation, SimulationsAreWorlds};
 
 use booth_base::laws::crc_is_the_remainder;
@@ -18,12 +18,12 @@ pub fn simulations_are_worlds()
     keeps_its_tickets();
 }
 
-/// A configuration, a seed and a number of events give one simulation.
+/// Two simulations of the same configuration, seed and number of events are equal.
 pub fn one_simulation()
     ensures { OneSimulation }
 {}
 
-/// After no event two sites hold an automatic ticket.
+/// Two sites never hold an automatic ticket at the same time after an event.
 pub fn at_most_one_holds()
     ensures { AtMostOneHolds }
 {

@@ -1,4 +1,4 @@
-//! Generated schedules of a whole cluster, and the counts of what happened to its tickets.
+//! Generated schedules of a whole cluster, and counts of the events of its tickets.
 #![tactic(auto)]
 
 mod clock;

@@ -11,7 +11,7 @@ use crate::laws::{at_most_one_holds, simulations_are_worlds};
 use booth_conf::Config;
 use std::alloc::{AllocError, Global};
 
-/// Returns a summary without a count.
+/// Returns a summary in which nothing is counted.
 pub fn nothing_counted(events: u64, number: u64) -> Summary
     ensures nothing { IsNothing result }
     ensures events { result.events ≡ events }
@@ -29,7 +29,7 @@ pub fn nothing_counted(events: u64, number: u64) -> Summary
     }
 }
 
-/// Runs the members of a configuration through this many events, drawn from a seed, and counts what happens to its
+/// Runs the members of a configuration through this many events, drawn from a seed, and counts the events of its
 /// tickets.
 pub fn simulate(
     alloc: Global,

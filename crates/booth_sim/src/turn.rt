@@ -53,7 +53,7 @@ fn count_all(
     Ok(())
 }
 
-/// Has the member at a place make a turn, and counts what it does.
+/// Makes the member at a place take a turn, and counts its actions.
 pub(crate) fn turn(
     alloc: Global,
     config: &Config,

@@ -1,4 +1,4 @@
-//! Tests of simulations, in a crate of their own: theirs is proved without them.
+//! Tests of simulations. They are a crate of their own, so that `booth_sim` is proved without them.
 #![tactic(auto)]
 
 #[cfg(test)]

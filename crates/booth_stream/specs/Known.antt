@@ -6,7 +6,7 @@ use Rattle.booth_stream.specs.Slot.{IsAtRest, PlainSlot, link_in}
 use Rattle.booth_stream.specs.declared.table.Known.{Known}
 use Rattle.booth_stream.specs.declared.table.Known.TheVariants as knowns
 
--- Unless nothing is known, no whole frame waits and no link is broken.
+-- If anything is known of the places, no whole frame waits and no link is broken.
 abbrev pub KnowsRest : Known → List PlainSlot → Type 0
 KnowsRest known slots = (known ≡ knowns.Nothing → ⊥) → All IsAtRest slots
 

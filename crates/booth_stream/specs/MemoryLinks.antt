@@ -25,7 +25,7 @@ IsPolled None answer bytes = (answer ≡ Ok Quiet) × (bytes ≡ [])
 IsPolled (Some step) answer bytes = (answer ≡ step.event)
     × (bytes ≡ take (min (length step.bytes) PIECE_BYTES) step.bytes)
 
--- how many of the bytes a write takes, or none if it fails; before the first step it takes all
+-- the number of bytes that a write takes, or `None` if the write fails; before the first step it takes all bytes
 abbrev pub takes_of : Option LinkStep → ℕ → Option ℕ
 takes_of None most = Some most
 takes_of (Some step) most = if step.takes == 0 then None else Some (min step.takes most)

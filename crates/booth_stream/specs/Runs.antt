@@ -81,8 +81,8 @@ given_of n (Given m bytes ∷ earlier) = if m == n then given_of n earlier ++ by
 given_of n (Pruned ∷ earlier) = given_of n earlier
 given_of n (Left m ∷ earlier) = given_of n earlier
 
--- For an open link, the frames that were returned, followed by the frames of the bytes that it still holds, are those
--- of the cut of all bytes polled from it.
+-- Take the frames that were returned from an open link, and then the frames in the bytes that the link still holds.
+-- Together they are the frames of the cut of all bytes that were polled from the link.
 abbrev pub GivenIsPrefix : Type 0
 GivenIsPrefix =
     (run : List Happening) (places : List (Option OpenLink)) (place : ℕ) (link : OpenLink) → IsRun run places

@@ -17,13 +17,13 @@ pub fn one_answer()
     ensures { OneAnswer }
 {}
 
-/// The frames that a cutter returned for a list of pieces are those of the cut of the joined pieces.
+/// The frames that a cutter returned for a list of pieces are the frames in the cut of the joined pieces.
 pub fn cuts_do_not_matter()
     ensures { CutsDoNotMatter }
 {}
 
-/// For an open link, the frames that were returned, followed by those of the bytes that it still holds, are those of
-/// the cut of the bytes polled from it.
+/// Take the frames that were returned from an open link, and then the frames in the bytes that the link still holds.
+/// Together they are the frames of the cut of all bytes that were polled from the link.
 pub fn given_is_prefix()
     ensures { GivenIsPrefix }
 {}

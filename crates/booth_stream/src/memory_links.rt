@@ -33,7 +33,7 @@ pub struct MemoryLinks {
     faults: u64,
 }
 
-// Appends this call, unless memory is out.
+// Appends this call, unless the memory has run out.
 pub(crate) fn push<T: Drop>(list: &mut Vec<T>, last: T) -> Result<(), AllocError>
     ensures ok { OnOk result (list.new.items ≡ list.old.items ++ last ∷ []) }
     ensures err { OnErr result (list.new.items ≡ list.old.items) }

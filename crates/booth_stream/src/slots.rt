@@ -16,7 +16,7 @@ use std::alloc::{AllocError, Global};
 /// How many links are served at a time.
 pub const LINKS: usize = 16;
 
-/// Puts the next whole frame of the first link that has one into `into`, and returns the peer.
+/// Moves a frame to `into` and returns its peer: the next whole frame of the first link that has one.
 pub(crate) fn give_first(slots: &mut [Slot], into: &mut Datagram) -> Option<Peer>
     ensures { GivesOne slots.old result into.new slots.new }
 {

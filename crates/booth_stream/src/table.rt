@@ -58,8 +58,8 @@ impl Table {
         }
     }
 
-    // Puts the next whole frame of a link into `into`, and returns the link's peer. At most the link whose bytes
-    // arrived last has one.
+    // Moves the next whole frame of a link to `into`, and returns the link's peer. Only the link whose bytes arrived
+    // last can have one.
     fn give(&mut self, into: &mut Datagram) -> Option<Peer>
         ensures { GivesOne self.old.slots.items result into.new self.new.slots.items }
     {
@@ -90,8 +90,8 @@ impl Table {
         }
     }
 
-    /// Puts the next whole frame of a link into `into`, and returns the link's peer. If no link has one, closes each
-    /// broken link, and all places are at rest.
+    /// Moves the next whole frame of a link to `into`, and returns the link's peer. If no link has a whole frame,
+    /// closes each broken link, and all places are at rest.
     pub(crate) fn give_or_rest<L: Links>(
         &mut self,
         into: &mut Datagram,
@@ -137,7 +137,7 @@ impl Table {
         None
     }
 
-    // Handles an event. All earlier bytes must have been taken.
+    // Handles an event. No slot may still hold bytes of an earlier event.
     fn take<L: Links>(&mut self, event: LinkEvent, piece: &Piece, links: &mut L)
         requires { All IsAtRest self.old.slots.items }
         ensures places { places_of self.new ≡ (after_event event piece.now (places_of self.old)).places }

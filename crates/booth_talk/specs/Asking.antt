@@ -32,7 +32,7 @@ cmd_of (orders.GetAttribute ticket name) = AGet
 cmd_of (orders.DeleteAttribute ticket name) = ADel
 cmd_of (orders.ListAttributes ticket) = ALst
 
--- the order is for the list of tickets, which comes in parts
+-- The order is for the list of tickets, which comes in parts.
 abbrev pub is_list : Order → Bool
 is_list orders.List = true
 is_list order = false
@@ -45,28 +45,29 @@ order_options (orders.Grant ticket options) = options
 order_options (orders.Revoke ticket options) = options
 order_options order = no_options
 
--- the client waits for the outcome
+-- The client waits for the outcome.
 abbrev pub is_waiting : Options → Bool
 is_waiting o = o.wait || o.commit
 
 abbrev pub bit : Bool → ℕ → ℕ
 bit set value = if set then value else 0
 
--- the bits of a request: a client that commits waits too
+-- The bits of a request. A client that sets `commit` waits too.
 abbrev pub options_of : Options → ℕ
 options_of o = bit o.immediate IMMEDIATE + bit (is_waiting o) WAIT + bit o.commit COMMIT
 
 -- ---- the request
 
--- the number of a request that is sent at this reading
+-- The number of a request that is sent at this reading.
 abbrev pub number_of : ℕ → ℕ
 number_of start = start % 2 ^ 32
 
--- the part with the ticket's name and nothing else
+-- The part with the ticket's name and nothing else.
 abbrev pub asked_part : List ℕ → TicketPart
 asked_part ticket = record { ticket = ticket; leader = NO_ONE; term = 0; valid_for = 0 }
 
--- the part with the ticket's name, and the attribute's if there is one; only a request to set has a value
+-- The part with the ticket's name, and the attribute's name if there is one. Only a request to set an attribute has a
+-- value.
 abbrev pub asked_attribute : List ℕ → Option (List ℕ) → List ℕ → AttrPart
 asked_attribute ticket name value = record { ticket = ticket; name = name; value = value }
 
@@ -82,7 +83,7 @@ asked_content (orders.GetAttribute ticket name) = Attr (asked_attribute ticket (
 asked_content (orders.DeleteAttribute ticket name) = Attr (asked_attribute ticket (Some name) [])
 asked_content (orders.ListAttributes ticket) = Attr (asked_attribute ticket None [])
 
--- the message of a request, except time and MAC
+-- The message of a request, except time and MAC.
 abbrev pub request : Order → ℕ → PlainMessage
 request order start = record {
   head = record {
@@ -99,7 +100,7 @@ request order start = record {
   content = asked_content order;
 }
 
--- the bytes that are sent at this reading
+-- The bytes that are sent at this reading.
 abbrev pub request_bytes : Asking → ℕ → List ℕ
 request_bytes asking start = sealed asking.ring (stamped asking.ring start (request asking.order start))
 
@@ -108,6 +109,6 @@ request_bytes asking start = sealed asking.ring (stamped asking.ring start (requ
 abbrev pub peer_at : ConfigSays → Member → Place
 peer_at config member = record { address = member.address; port = config.port }
 
--- the address at which the member with this id listens
+-- The address at which the member with this id listens.
 abbrev pub find_peer : ConfigSays → MemberId → Option Place
 find_peer config id = option_map (peer_at config) (find (has_id id) config.members)

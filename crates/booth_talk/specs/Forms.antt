@@ -1,4 +1,4 @@
--- The forms of a daemon's texts: their lines, and how each is printed.
+-- The forms of a daemon's texts: their lines, and how each line is printed.
 use Rattle.std.specs.Prelude.{◌≡◌, ◌<◌, ◌+◌, ◌++◌, ◌==◌, ℕ, zero, suc, true, List, [], ◌∷◌, codes, length, get_or, if◌then◌else◌}
 use Rattle.std.specs.List.{slice_split}
 use Rattle.std.specs.Str.Parse.{digits_value}
@@ -17,7 +17,7 @@ pub record IsTicketLine (line : List ℕ) : Type 0 where
   pub owner : IsOwner (first (rest line))
   pub until : IsNumber (rest (rest line))
 
--- the end of a lease, if there is one
+-- The text with the end of a lease, if there is one.
 abbrev pub expiry : ℕ → List ℕ
 expiry seconds = if seconds == 0 then [] else codes ", expires: " ++ date_text seconds
 
@@ -28,12 +28,12 @@ shown_ticket line =
 
 -- ---- numbers with one blank between them
 
--- one number more than this many
+-- The text is one number more than this many, with one blank between them.
 abbrev pub AreNumbers : ℕ → List ℕ → Type 0
 AreNumbers zero text = IsNumber text
 AreNumbers (suc more) text = IsNumber (first text) × AreNumbers more (rest text)
 
--- each number after its label
+-- The text with each number after its label.
 unfoldable pub labelled : List (List ℕ) → List ℕ → List ℕ
 labelled [] text = []
 labelled (label ∷ labels) text = label ++ first text ++ labelled labels (rest text)
@@ -59,7 +59,7 @@ pub record IsMemberLine (line : List ℕ) : Type 0 where
   pub address : IsPrinted (first (rest line))
   pub numbers : AreNumbers 3 (rest (rest line))
 
--- when the last datagram arrived, if one did
+-- The text with the time at which the last datagram arrived, if one did.
 abbrev pub last_text : ℕ → List ℕ
 last_text seconds = if seconds == 0 then codes "never" else date_text seconds
 
@@ -74,7 +74,7 @@ shown_member line =
 
 -- ---- texts
 
--- the kind of line at a place
+-- The kind of line at a place.
 abbrev pub kind_at : Form → ℕ → LineKind
 kind_at forms.List place = Ticket
 kind_at forms.Peers zero = Drops
@@ -90,20 +90,20 @@ shown_line Ticket line = shown_ticket line
 shown_line Drops line = shown_drops line
 shown_line Member line = shown_member line
 
--- the lines between line feeds
+-- The lines between line feeds.
 abbrev pub lines_of : List ℕ → List (List ℕ)
 lines_of text = slice_split (λ b. b == 0x0A) text
 
--- each line has the form that its place in the text requires
+-- Each line has the form that its place in the text requires.
 abbrev pub AreLines : Form → List (List ℕ) → Type 0
 AreLines form lines = (place : ℕ) → place < length lines → IsLine (kind_at form place) (get_or lines place [])
 
--- lines as they are printed, the first of which is at this place
+-- The lines as they are printed. The first of them is at this place.
 unfoldable pub shown_from : Form → ℕ → List (List ℕ) → List ℕ
 shown_from form place [] = []
 shown_from form place (line ∷ lines) = shown_line (kind_at form place) line ++ shown_from form (place + 1) lines
 
--- A text with this form: some lines, each with a line feed at its end.
+-- A text has this form: some lines, each with a line feed at its end.
 pub record IsOf (form : Form) (text : List ℕ) : Type 0 where
   pub body : List ℕ
   pub ended : text ≡ body ++ codes "\n"

@@ -17,28 +17,30 @@ use Rattle.booth_talk.specs.declared.wait.TheConstants.{MOST_PAIRS, PATIENCE}
 
 -- ---- sequences of pairs
 
--- the pair has no refusal, and its reading is not late
+-- The pair has no refusal, and its reading is not late.
 pub record IsPatient (asking : Asking) (start : ℕ) (p : Pair) : Type 0 where
   pub none : refusal_at asking start p ≡ None
   pub early : p.reading ≤ start + PATIENCE
 
--- these pairs do not have a whole list
+-- These pairs do not contain a whole list.
 abbrev pub IsUnwhole : Asking → ℕ → List Pair → Type 0
 IsUnwhole asking start pairs = (texts : List (List ℕ)) → IsWhole (first_part asking start pairs) texts → ⊥
 
--- After these pairs the client still waits for the list. Since a whole list stays whole, no prefix of them has one.
+-- After these pairs the client still waits for the list. A whole list stays whole, so no prefix of the pairs contains
+-- one.
 pub record IsAwaited (asking : Asking) (start : ℕ) (pairs : List Pair) : Type 0 where
   pub patient : All (IsPatient asking start) pairs
   pub unwhole : IsUnwhole asking start pairs
 
--- this many pairs, after which the client still waits for the list
+-- These are this many pairs, after which the client still waits for the list.
 pub record IsListRow (asking : Asking) (start count : ℕ) (entries : List Entry) : Type 0 where
   pub pairs : List Pair
   pub number : length pairs ≡ count
   pub whole : entries ≡ all_calls pairs
   pub awaited : IsAwaited asking start pairs
 
--- fewer pairs than the limit, after which the client still waits for the list, and then a last one, for which Q holds
+-- There are fewer pairs than the limit, and after them the client still waits for the list. Then a last pair follows,
+-- for which Q holds.
 pub record EndsAwaited (asking : Asking) (start : ℕ) (Q : List Pair → Pair → Type 0) (entries : List Entry)
     : Type 0 where
   pub early : List Pair
@@ -48,17 +50,17 @@ pub record EndsAwaited (asking : Asking) (start : ℕ) (Q : List Pair → Pair �
   pub whole : entries ≡ all_calls early ++ calls_of last
   pub holds : Q early last
 
--- ---- how a wait for a list ends
+-- ---- the end of a wait for a list
 
--- the last pair completes the list; its reading may be late
+-- The last pair completes the list. Its reading may be late.
 abbrev pub Completes : Asking → ℕ → List ℕ → List Pair → Pair → Type 0
 Completes asking start text early last = BringList asking start (early ++ last ∷ []) text
 
--- the last pair is a refusal
+-- The last pair is a refusal.
 abbrev pub IsRefused : Asking → ℕ → ℕ → List Pair → Pair → Type 0
 IsRefused asking start result early last = refusal_at asking start last ≡ Some result
 
--- the last pair is no refusal and completes no list, and its reading is late
+-- The last pair is no refusal and completes no list, and its reading is late.
 pub record IsLateList (asking : Asking) (start : ℕ) (early : List Pair) (last : Pair) : Type 0 where
   pub none : refusal_at asking start last ≡ None
   pub unwhole : IsUnwhole asking start (early ++ last ∷ [])
@@ -72,7 +74,7 @@ IsListWait asking start (Refused result) text entries = EndsAwaited asking start
 IsListWait asking start Over text entries =
     EndsAwaited asking start (IsLateList asking start) entries ⊎ IsListRow asking start MOST_PAIRS entries
 
--- the request for a list to a peer, and the wait for it
+-- The request for a list to a peer, and the wait for it.
 abbrev pub IsListTalk : Asking → Peer → ℕ → Result Listed Failed → List ℕ → List Entry → Type 0
 IsListTalk asking to start (Ok listed) text entries = (rest : List Entry)
     × (entries ≡ Send to (request_bytes asking start) (Ok tt) ∷ rest) × IsListWait asking start listed text rest
@@ -81,7 +83,7 @@ IsListTalk asking to start (Err failed) text entries =
 
 -- ---- in the code
 
--- a pair, for a client that waits for a list and has these parts
+-- A pair has this meaning for a client that waits for a list and has these parts.
 abbrev pub IsListHeard : Asking → ℕ → Pair → List (Option Part) → ListHeard → Type 0
 IsListHeard asking start p kept heard.Whole = is_whole kept ≡ true
 IsListHeard asking start p kept (heard.Refusal result) = refusal_at asking start p ≡ Some result

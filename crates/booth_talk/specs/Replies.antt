@@ -1,4 +1,4 @@
--- Which datagrams are authentic replies to a request.
+-- The datagrams that are authentic replies to a request.
 use Rattle.std.specs.Prelude.{◌≡◌, ◌==◌, ◌&&◌, ℕ, Bool, true, false, List, [], Option, Some, None, option_map, Result, Ok, Err, if◌then◌else◌}
 use Rattle.std.specs.Option.{option_map_or}
 use Rattle.booth_base.specs.declared.address.MemberId.{MemberId}
@@ -14,22 +14,22 @@ use Rattle.booth_talk.specs.declared.order.Order.{Order}
 use Rattle.booth_talk.specs.declared.reply.Reply.{Reply}
 use Rattle.booth_talk.specs.Asking.{cmd_of, number_of}
 
--- the command answers the command of the order
+-- The command answers the command of the order.
 abbrev pub answers : Order → Cmd → Bool
 answers order cmd = option_map_or (λ answer. code_of answer == code_of cmd) (answer_of (cmd_of order)) false
 
--- the command answers, the number is the number of the request, and the sender is a member
+-- The command answers, the number is the number of the request, and the sender is a member.
 abbrev pub is_answer : Asking → ℕ → PlainMessage → Bool
 is_answer asking start m =
     answers asking.order m.head.cmd
     && ((m.head.request == number_of start) && is_member asking.config m.head.from)
 
--- the member in the reply
+-- The member in the reply.
 abbrev pub leader_in : Content → MemberId
 leader_in (Ticket part) = part.leader
 leader_in content = NO_ONE
 
--- the text in the reply
+-- The text in the reply.
 abbrev pub text_in : Content → List ℕ
 text_in (Text text) = text
 text_in content = []
@@ -42,18 +42,18 @@ message_read asking start bytes (Ok m) =
     if is_signed asking.ring m.head bytes then (if is_answer asking start m then Some m else None) else None
 message_read asking start bytes (Err fault) = None
 
--- the authentic message that these bytes spell, in answer to the request that was sent at this reading
+-- The authentic message that these bytes spell, in answer to the request that was sent at this reading.
 unfoldable pub message_in : Asking → ℕ → List ℕ → Option PlainMessage
 message_in asking start bytes = message_read asking start bytes (decoded bytes)
 
--- the reply that these bytes spell, in answer to the request that was sent at this reading
+-- The reply that these bytes spell, in answer to the request that was sent at this reading.
 unfoldable pub reply_in : Asking → ℕ → List ℕ → Option Reply
 reply_in asking start bytes = option_map reply_of (message_in asking start bytes)
 
 -- ---- five conditions
 
--- The bytes spell a message, it has the right MAC if there is a key, its command answers the request's command, its
--- number is the request's number, and its sender is a member.
+-- The bytes meet five conditions. They spell a message, and it has the right MAC if there is a key. Its command
+-- answers the request's command, its number is the request's number, and its sender is a member.
 pub record IsAuthentic (asking : Asking) (start : ℕ) (bytes : List ℕ) (m : PlainMessage) : Type 0 where
   pub read : decoded bytes ≡ Ok m
   pub signed : is_signed asking.ring m.head bytes ≡ true

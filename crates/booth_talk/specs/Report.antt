@@ -13,13 +13,13 @@ use Rattle.booth_talk.specs.Replies.{text_in}
 use Rattle.booth_talk.specs.Forms.{IsOf, lines_of, shown_from}
 use Rattle.booth_talk.specs.Standing.{standing_text}
 
--- a text with this form is printed line by line, and any other text unchanged
+-- A text with this form is printed line by line, and any other text is printed unchanged.
 abbrev pub IsShown : Form → List ℕ → List ℕ → Type 0
 IsShown form text shown =
     ((of : IsOf form text) × (shown ≡ shown_from form 0 (lines_of of.body)))
     ⊎ ((IsOf form text → ⊥) × (shown ≡ text))
 
--- a reply's ticket, and its attribute's value
+-- The ticket in a reply, and the value of the attribute in a reply.
 abbrev pub ticket_in : Content → List ℕ
 ticket_in (Ticket part) = part.ticket
 ticket_in content = []
@@ -28,7 +28,7 @@ abbrev pub value_in : Content → List ℕ
 value_in (Attr part) = part.value
 value_in content = []
 
--- the request was begun, or it was done
+-- The output for a grant that was begun, or that was done.
 abbrev pub grant_text : ℕ → List ℕ → List ℕ
 grant_text result ticket =
     if result == ASYN then codes "grant of " ++ ticket ++ codes " requested\n"
@@ -39,22 +39,22 @@ revoke_text result ticket =
     if result == ASYN then codes "revoke of " ++ ticket ++ codes " requested\n"
     else codes "ticket " ++ ticket ++ codes " revoked\n"
 
--- a good reply has no output
+-- A good reply has no output.
 abbrev pub is_silent : Order → Bool
 is_silent (orders.SetAttribute ticket name value) = true
 is_silent (orders.DeleteAttribute ticket name) = true
 is_silent order = false
 
--- the client asks whether the daemon runs
+-- The client asks whether the daemon runs.
 abbrev pub is_status : Order → Bool
 is_status orders.Status = true
 is_status order = false
 
--- the output for a list with this text
+-- The output for a list with this text.
 abbrev pub IsListReport : List ℕ → List ℕ → Type 0
 IsListReport text report = IsShown forms.List text report
 
--- a daemon that answers runs
+-- The output for a daemon that answers, and so runs.
 abbrev pub running_text : List ℕ
 running_text = codes "booth daemon is running\n"
 
@@ -72,13 +72,13 @@ Reports config (orders.GetAttribute ticket name) m report = report ≡ value_in 
 Reports config (orders.DeleteAttribute ticket name) m report = report ≡ []
 Reports config (orders.ListAttributes ticket) m report = report ≡ text_in m.content
 
--- the output for a reply to the request
+-- The output for a reply to the request.
 abbrev pub IsReport : Asking → PlainMessage → List ℕ → Type 0
 IsReport asking m report = Reports asking.config asking.order m report
 
--- ---- of bytes
+-- ---- the output for bytes
 
--- the output for the reply that these bytes spell
+-- The output for the reply that these bytes spell.
 pub record IsReportOf (asking : Asking) (bytes report : List ℕ) : Type 0 where
   pub reply : PlainMessage
   pub read : decoded bytes ≡ Ok reply

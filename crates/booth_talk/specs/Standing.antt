@@ -14,26 +14,26 @@ use Rattle.booth_talk.specs.declared.standing.TheConstants.{ENDLESS}
 
 -- ---- the state in the reply
 
--- the address of a member, and a word for a member that the configuration does not have
+-- The address of a member. For a member that the configuration does not have, it is a word.
 abbrev pub member_text : Option Member → List ℕ
 member_text (Some member) = printed member.address
 member_text None = codes "unknown"
 
--- the holder, if the reply names one
+-- The holder, if the reply names one.
 abbrev pub holder_in : ConfigSays → MemberId → Option (List ℕ)
 holder_in config id = if id.0 == NO_ONE.0 then None else Some (member_text (find (has_id id) config.members))
 
--- the term of the lease, which only its holder reports
+-- The term of the lease, which only its holder reports.
 abbrev pub term_in : ℕ → Option ℕ
 term_in term = if term == 0 then None else Some term
 
--- the seconds that are left of the lease, if it has an end
+-- The seconds that are left of the lease, if it has an end.
 abbrev pub seconds_in : ℕ → Option ℕ
 seconds_in seconds = if seconds == 0 || seconds == ENDLESS then None else Some seconds
 
 -- ---- as a line of text
 
--- a number after its label, if there is a number
+-- A number after its label, if there is a number.
 abbrev pub labelled_number : List ℕ → Option ℕ → List ℕ
 labelled_number label (Some number) = label ++ decimal number
 labelled_number label None = []
@@ -46,7 +46,7 @@ line_text config part =
 
 -- ---- as an object
 
--- a byte of a string: a quotation mark and a reverse solidus get another reverse solidus in front
+-- A byte of a string. A quotation mark and a reverse solidus get another reverse solidus in front.
 abbrev pub escaped_byte : ℕ → List ℕ
 escaped_byte b = if b == 0x22 || b == 0x5C then 0x5C ∷ b ∷ [] else b ∷ []
 
@@ -67,13 +67,13 @@ object_text config part =
     ++ codes ",\"term\":" ++ number_or_null (term_in part.term)
     ++ codes ",\"seconds_left\":" ++ number_or_null (seconds_in part.valid_for) ++ codes "}\n"
 
--- ---- of a reply
+-- ---- the output for a reply
 
 abbrev pub ticket_text : Style → ConfigSays → TicketPart → List ℕ
 ticket_text Line config part = line_text config part
 ticket_text Json config part = object_text config part
 
--- the output for a reply in this style; a reply without a ticket has no text
+-- The output for a reply in this style. A reply without a ticket has no text.
 abbrev pub standing_text : Style → ConfigSays → Content → List ℕ
 standing_text style config (Ticket part) = ticket_text style config part
 standing_text style config content = []

@@ -20,7 +20,7 @@ use Rattle.booth_talk.specs.Replies.{message_in, reply_in}
 
 -- ---- pairs
 
--- one arrival, with the datagram's bytes after it, and one reading
+-- One arrival, with the datagram's bytes after it, and one reading.
 pub record Pair : Type 0 where
   pub answer : Result Arrival Failed
   pub bytes : List ℕ
@@ -33,14 +33,14 @@ unfoldable pub all_calls : List Pair → List Entry
 all_calls [] = []
 all_calls (p ∷ ps) = calls_of p ++ all_calls ps
 
--- this many pairs, for each of which P holds
+-- There are this many pairs, and P holds for each of them.
 pub record IsRow (P : Pair → Type 0) (count : ℕ) (entries : List Entry) : Type 0 where
   pub pairs : List Pair
   pub number : length pairs ≡ count
   pub whole : entries ≡ all_calls pairs
   pub each : All P pairs
 
--- fewer pairs than the limit, for each of which P holds, and then a last one, for which Q holds
+-- There are fewer pairs than the limit, for each of which P holds, and then a last pair, for which Q holds.
 pub record EndsBy (P Q : Pair → Type 0) (limit : ℕ) (entries : List Entry) : Type 0 where
   pub count : ℕ
   pub below : count < limit
@@ -52,12 +52,12 @@ pub record EndsBy (P Q : Pair → Type 0) (limit : ℕ) (entries : List Entry) :
 
 -- ---- the content of a pair
 
--- the reply in a datagram's bytes; nothing else has one
+-- The reply in a datagram's bytes. Any other arrival has none.
 abbrev pub brought : Asking → ℕ → Result Arrival Failed → List ℕ → Option Reply
 brought asking start (Ok (Datagram peer)) bytes = reply_in asking start bytes
 brought asking start answer bytes = None
 
--- the authentic message that a datagram's bytes spell
+-- The authentic message that a datagram's bytes spell.
 abbrev pub message_brought : Asking → ℕ → Result Arrival Failed → List ℕ → Option PlainMessage
 message_brought asking start (Ok (Datagram peer)) bytes = message_in asking start bytes
 message_brought asking start answer bytes = None
@@ -68,17 +68,17 @@ message_at asking start p = message_brought asking start p.answer p.bytes
 abbrev pub reply_at : Asking → ℕ → Pair → Option Reply
 reply_at asking start p = brought asking start p.answer p.bytes
 
--- the pair has no reply, and its reading is not late
+-- The pair has no reply, and its reading is not late.
 pub record IsSilent (asking : Asking) (start : ℕ) (p : Pair) : Type 0 where
   pub none : reply_at asking start p ≡ None
   pub early : p.reading ≤ start + PATIENCE
 
--- the pair has no reply, and its reading is late
+-- The pair has no reply, and its reading is late.
 pub record IsLate (asking : Asking) (start : ℕ) (p : Pair) : Type 0 where
   pub none : reply_at asking start p ≡ None
   pub late : start + PATIENCE < p.reading
 
--- the pair has this reply, with this reading and these bytes; the reading may be late
+-- The pair has this reply, with this reading and these bytes. The reading may be late.
 pub record Brings (asking : Asking) (start : ℕ) (reply : Reply) (reading : ℕ) (bytes : List ℕ)
     (p : Pair) : Type 0 where
   pub is : reply_at asking start p ≡ Some reply
@@ -95,11 +95,11 @@ IsFirstWait asking start Over bytes entries =
 
 -- ---- outcomes of requests that were begun
 
--- the reply says that the request was begun, and that the outcome will follow
+-- The reply states that the request was begun, and that the outcome will follow.
 abbrev pub is_begun : Reply → Bool
 is_begun reply = reply.result == ASYN
 
--- the reply, if it has an outcome
+-- The reply, if it has an outcome.
 abbrev pub settled : Option Reply → Option Reply
 settled None = None
 settled (Some reply) = if is_begun reply then None else Some reply
@@ -107,18 +107,18 @@ settled (Some reply) = if is_begun reply then None else Some reply
 abbrev pub outcome_at : Asking → ℕ → Pair → Option Reply
 outcome_at asking start p = settled (reply_at asking start p)
 
--- the pair has no outcome
+-- The pair has no outcome.
 pub record IsUnsettled (asking : Asking) (start : ℕ) (p : Pair) : Type 0 where
   pub none : outcome_at asking start p ≡ None
 
--- the pair has this outcome, with this reading and these bytes
+-- The pair has this outcome, with this reading and these bytes.
 pub record BringsOutcome (asking : Asking) (start : ℕ) (reply : Reply) (reading : ℕ) (bytes : List ℕ)
     (p : Pair) : Type 0 where
   pub is : outcome_at asking start p ≡ Some reply
   pub at : p.reading ≡ reading
   pub with : p.bytes ≡ bytes
 
--- the wait for the outcome, without a limit of time
+-- The wait for the outcome, without a limit of time.
 abbrev pub IsFinalWait : Asking → ℕ → Waited → List ℕ → List Entry → Type 0
 IsFinalWait asking start (Came reply reading) bytes entries =
     EndsBy (IsUnsettled asking start) (BringsOutcome asking start reply reading bytes) MOST_PAIRS entries
@@ -126,7 +126,7 @@ IsFinalWait asking start Over bytes entries = IsRow (IsUnsettled asking start) M
 
 -- ---- in the code
 
--- a pair, for a client that waits for the first reply
+-- A pair has this meaning for a client that waits for the first reply.
 abbrev pub IsHeard : Asking → ℕ → Pair → Heard → Type 0
 IsHeard asking start p (heard.Answer reply) = reply_at asking start p ≡ Some reply
 IsHeard asking start p heard.Late = IsLate asking start p

@@ -1,4 +1,4 @@
-//! Moments as dates and times in UTC.
+//! Points in time as dates and times in UTC.
 ghost use Rattle.std.specs.Prelude.{◌≡◌, ◌≤◌, ◌<◌, ◌+◌, ◌*◌, ◌++◌, ◌∷◌, [], pos, codes, decimal, length, unsigned_abs};
 ghost use Rattle.jiff.specs.Words.{civil_nanos};
 ghost use Rattle.booth_talk.specs.Civil.{pair, moment_text, date_text};
@@ -12,7 +12,7 @@ use jiff::tz::Offset;
 /// The greatest number of seconds that is written as a date.
 const LAST: u64 = 250_000_000_000;
 
-// Returns date and time in UTC, this many seconds after the start of 1970.
+// Returns the date and time in UTC, this many seconds after the start of 1970.
 fn moment(seconds: u64) -> DateTime
     requires { seconds ≤ LAST }
     ensures { civil_nanos result ≡ pos (seconds * 1000000000) }
@@ -33,7 +33,7 @@ fn put_pair(text: &mut ArrayString<32>, number: u8)
     text.push((b'0' + number % 10) as char);
 }
 
-// Returns the year as a number from 0 on.
+// Returns the year as an unsigned number.
 fn year_of(at: &DateTime) -> u16
     ensures year { result ≡ unsigned_abs at.now.date.year }
     ensures fits { result < 10000 }
@@ -61,8 +61,8 @@ fn put_moment(text: &mut ArrayString<32>, at: &DateTime)
     put_pair(text, plain.time.second);
 }
 
-/// Returns the text of a moment this many seconds after the start of 1970: `YYYY-MM-DD HH:MM:SS` in UTC, and above
-/// 250,000,000,000 an `@` and the number.
+/// Returns the text of the time this many seconds after the start of 1970: `YYYY-MM-DD HH:MM:SS` in UTC. Above
+/// 250,000,000,000 seconds it is an `@` and the number.
 pub fn date_text(seconds: u64) -> ArrayString<32>
     ensures { result.bytes ≡ date_text seconds }
 {

@@ -20,7 +20,7 @@ pub(crate) fn first(line: &[u8]) -> &[u8]
     &line[..first_len(line)]
 }
 
-/// Returns the bytes after the first blank, and none if there is no blank.
+/// Returns the bytes after the first blank, or no bytes if there is no blank.
 pub(crate) fn rest(line: &[u8]) -> &[u8]
     ensures { result.now ≡ rest line.now }
 {
@@ -54,7 +54,7 @@ pub(crate) fn is_printed(text: &[u8]) -> bool
     }
 }
 
-/// Returns whether this names an owner, or none.
+/// Returns whether this names an owner, or is `none`.
 pub(crate) fn is_owner(text: &[u8]) -> bool
     ensures { MatchBool result (IsOwner text.now) (IsOwner text.now → ⊥) }
 {

@@ -1,4 +1,4 @@
-//! What holds for every reply, and for every list.
+//! Laws of every reply, and of every list.
 ghost use Rattle.booth_talk.specs.Parts.{ListsAreOne};
 ghost use Rattle.booth_talk.specs.Replies.{RepliesAreAuthentic};
 
@@ -7,7 +7,7 @@ pub fn replies_are_authentic()
     ensures { RepliesAreAuthentic }
 {}
 
-/// A whole list has one text, and stays whole with it.
+/// A whole list has one text, and stays whole with this text.
 pub fn lists_are_one()
     ensures { ListsAreOne }
 {}

@@ -1,4 +1,4 @@
-//! A client over any host: its requests, the datagrams that answer them, how long it waits, and its output.
+//! A client over any host: its requests, the datagrams that answer them, the limit of its waits, and its output.
 #![tactic(auto)]
 
 mod date;

@@ -1,4 +1,4 @@
-//! The lines of a daemon's texts: the kind of each, and how it is printed.
+//! The lines of a daemon's texts: the kind of each line, and how it is printed.
 ghost use Rattle.std.specs.Prelude.{◌≡◌, ◌++◌, [], codes, map, IfOk, OnOk, MatchBool, MatchOption};
 ghost use Rattle.std.specs.Str.Parse.{digits_value};
 ghost use Rattle.booth_talk.specs.Civil.{date_text};
@@ -20,7 +20,7 @@ pub(crate) enum Form {
     Peers,
 }
 
-/// A line of such a text.
+/// The kind of a line in a text of several lines.
 #[derive(Clone, Copy)]
 pub(crate) enum LineKind {
     Ticket,
@@ -97,7 +97,7 @@ fn is_line(kind: LineKind, line: &[u8]) -> bool
     }
 }
 
-// ---- how a line is printed
+// ---- the printing of a line
 
 fn put(shown: &mut Vec<u8>, piece: &[u8]) -> Result<(), AllocError>
     ensures { OnOk result (shown.new.items ≡ shown.old.items ++ piece.now) }
@@ -116,7 +116,7 @@ fn put_expiry(shown: &mut Vec<u8>, seconds: u64) -> Result<(), AllocError>
     put(shown, date_text(seconds).as_bytes())
 }
 
-// Appends when the last datagram arrived, if one did.
+// Appends the time at which the last datagram arrived, if one did.
 fn put_last(shown: &mut Vec<u8>, seconds: u64) -> Result<(), AllocError>
     ensures { OnOk result (shown.new.items ≡ shown.old.items ++ last_text seconds) }
 {
@@ -140,7 +140,7 @@ fn put_labelled(shown: &mut Vec<u8>, labels: &[&str], text: &[u8]) -> Result<(),
     Ok(())
 }
 
-// Returns the number in a field that is one.
+// Returns the number in a field that contains one.
 fn number_in(text: &[u8]) -> u64
     requires { IsNumber text.now }
     ensures { result ≡ digits_value 10 text.now }
@@ -171,7 +171,7 @@ fn put_drops(shown: &mut Vec<u8>, line: &[u8]) -> Result<(), AllocError>
     put(shown, b"\n")
 }
 
-// Appends the role of a member, its address, and when its last datagram arrived.
+// Appends the role of a member, its address, and the time at which its last datagram arrived.
 fn put_member_head(shown: &mut Vec<u8>, line: &[u8], seconds: u64) -> Result<(), AllocError>
     ensures { OnOk result (shown.new.items ≡ shown.old.items ++ (first line.now ++ codes " "
         ++ first (rest line.now) ++ codes ", last: " ++ last_text seconds)) }
@@ -204,7 +204,7 @@ fn put_line(shown: &mut Vec<u8>, kind: LineKind, line: &[u8]) -> Result<(), Allo
     }
 }
 
-/// Returns the lines of a text as they are printed, if each has the kind for its place; else nothing.
+/// Returns the lines of a text as they are printed, if each has the kind for its place. Otherwise returns `None`.
 pub(crate) fn shown_lines(
     alloc: Global,
     form: Form,

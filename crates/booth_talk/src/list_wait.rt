@@ -13,14 +13,14 @@ use crate::wait::{MOST_PAIRS, is_late};
 use booth_host::{Arrival, Datagram, Failed, Host};
 use booth_wire::Message;
 
-/// How the wait for a list ended.
+/// The end of a wait for a list.
 #[derive(Clone, Copy)]
 pub enum Listed {
     /// All its parts arrived.
     Whole,
     /// An answer refused it with this result.
     Refused(u32),
-    /// It did not arrive whole.
+    /// The list did not arrive whole.
     Over,
 }
 

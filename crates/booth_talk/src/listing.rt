@@ -44,7 +44,7 @@ impl ListRoom {
     }
 
     /// Returns the output for the list whose parts have arrived: their texts, joined by number, line by line, with
-    /// dates. A text that is no list is printed unchanged.
+    /// dates. A text that is not a list is printed unchanged.
     pub fn report(&self, alloc: Global) -> Result<ByteText, AllocError>
         ensures { IfOk result (λ report. IsListReport (text_of self.now.parts) report) }
     {
@@ -52,7 +52,8 @@ impl ListRoom {
         list_report(alloc, &text)
     }
 
-    /// Returns whether the list whose parts have arrived names the member at this address as the owner of the ticket.
+    /// Returns true if, according to the parts of the list that have arrived, the member at this address owns the
+    /// ticket.
     pub fn shows_owner(
         &self,
         alloc: Global,
@@ -67,12 +68,12 @@ impl ListRoom {
     }
 }
 
-/// Requests the list from this peer, at this reading, and waits until all its parts have arrived. They are then in
-/// the room.
+/// Requests the list from this peer, at this reading, and waits until all its parts have arrived. The parts are then
+/// in the room.
 ///
 /// # Errors
 ///
-/// `Failed` only if the request could not be sent.
+/// Returns `Failed` only if the request could not be sent.
 pub fn talk_list<H: Host>(
     asking: &Asking,
     to: &Peer,

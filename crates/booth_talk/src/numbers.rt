@@ -7,7 +7,7 @@ ghost use Rattle.booth_talk.specs.Forms.{AreNumbers};
 use crate::fields::{first, rest};
 use itoa::Buffer;
 
-/// Returns the number with this text, if it is the text of one.
+/// Returns the number with this text, if it is the text of a number.
 pub(crate) fn number(text: &[u8]) -> Option<u64>
     ensures { MatchOption result (IsNumber text.now → ⊥)
         (λ n. IsNumber text.now × (n ≡ digits_value 10 text.now)) }
@@ -32,7 +32,7 @@ pub(crate) fn is_number(text: &[u8]) -> bool
     number(text).is_some()
 }
 
-/// Returns whether this is one number more than `more`, with a blank after each but the last.
+/// Returns whether this is one number more than `more`, with a blank after each except the last.
 pub(crate) fn are_numbers(more: usize, text: &[u8]) -> bool
     ensures { MatchBool result (AreNumbers more text.now) (AreNumbers more text.now → ⊥) }
 {

@@ -15,7 +15,7 @@ pub struct Options {
     pub immediate: bool,
     /// Whether the client waits for the outcome.
     pub wait: bool,
-    /// Whether a grant counts only once its record is written. The client then waits for it.
+    /// Whether a grant counts only after its record is written. The client then waits for the write.
     pub commit: bool,
 }
 
@@ -46,7 +46,7 @@ pub enum Order {
     Show(Name, Style),
     /// The members, and the counters of the messages from and to them.
     Peers,
-    /// Any answer at all, which shows that the daemon runs.
+    /// Any answer, which shows that the daemon runs.
     Status,
     /// A grant of the ticket to the site.
     Grant(Name, Options),
@@ -80,7 +80,7 @@ pub struct Asking {
     pub ring: Option<Ring>,
 }
 
-// Returns this value if it is set, and else 0.
+// Returns this value if it is set, and otherwise 0.
 fn bit(set: bool, value: u32) -> u32
     ensures bit { result ≡ bit set value }
     ensures most { result ≤ value }

@@ -13,7 +13,7 @@ fn is_owner_line(ticket: &[u8], owner: &[u8], line: &[u8]) -> bool
     first(line) == ticket && first(rest(line)) == owner
 }
 
-// Returns whether a text has such a line.
+// Returns whether a text has a line that names this owner of the ticket.
 fn has_owner_line(ticket: &[u8], owner: &[u8], text: &[u8]) -> bool
     ensures { MatchBool result (HasOwnerLine ticket.now owner.now text.now)
         (HasOwnerLine ticket.now owner.now text.now → ⊥) }

@@ -1,4 +1,4 @@
-//! The parts of a list, for each number the first that arrived.
+//! The parts of a list: for each number, the first part that arrived.
 ghost use Rattle.std.specs.Prelude.{◌≡◌, true, Some, None, option_map, vec_len, IfOk, IfSome};
 ghost use Rattle.std.specs.Option.{option_or};
 ghost use Rattle.booth_wire.specs.PlainMessage.{content_of, has_text, plain_of};
@@ -10,7 +10,7 @@ use booth_wire::{Message, results};
 use std::alloc::{AllocError, Global};
 use std::marker::Model;
 
-/// The most parts of a list.
+/// The greatest number of parts of a list.
 pub const PARTS: usize = 32;
 
 // The place of the part with one number, with the memory of its text.
@@ -113,7 +113,7 @@ fn joined(alloc: Global, slots: &[Slot]) -> Result<Vec<u8>, AllocError>
     Ok(text)
 }
 
-/// The parts of a list by number, from 0: for each the first that arrived. Contracts see a list of them.
+/// The parts of a list by number, from 0: for each number, the first part that arrived. Contracts see a list of them.
 #[derive(Drop)]
 pub struct Parts {
     slots: Vec<Slot>,
@@ -132,7 +132,7 @@ impl Model for Parts {
 }
 
 impl Parts {
-    /// Returns no parts, with memory for all.
+    /// Returns an empty list of parts, with memory for all.
     pub(crate) fn new(alloc: Global) -> Result<Parts, AllocError>
         ensures { IfOk result (λ parts. AreNone parts) }
     {
@@ -140,7 +140,7 @@ impl Parts {
         Ok(Parts { slots })
     }
 
-    /// Stores the part in an answer, if it is one and the first with its number.
+    /// Stores the part in an answer, if the answer is a part and the first with its number.
     pub(crate) fn take(&mut self, message: &Message<'_>)
         requires { has_text (content_of message.now.body) ≡ true }
         ensures { AreTaken (λ n. part_in n (plain_of message.now)) self.old self.new }
@@ -151,7 +151,7 @@ impl Parts {
         }
     }
 
-    /// Returns whether the last part has arrived, and each before it.
+    /// Returns whether the last part has arrived, and each part before it.
     pub(crate) fn is_whole(&self) -> bool
         ensures { result ≡ is_whole self.now }
     {

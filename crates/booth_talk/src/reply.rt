@@ -1,4 +1,4 @@
-//! Which datagrams are replies to a request.
+//! The datagrams that are replies to a request.
 ghost use Rattle.std.specs.Prelude.{◌≡◌, true, option_map, IfSome};
 ghost use Rattle.booth_wire.specs.PlainMessage.{content_of, has_text, plain_of};
 ghost use Rattle.booth_talk.specs.Replies.{answers, is_answer, leader_in, message_in, reply_in, text_in};
@@ -43,7 +43,7 @@ fn leader_in(body: &Body<'_>) -> MemberId
     }
 }
 
-/// Returns the text in the reply, or none.
+/// Returns the text in the reply, or no bytes.
 pub(crate) fn text_in<'a>(body: &Body<'a>) -> &'a [u8]
     ensures { result.now ≡ text_in (content_of body.now) }
 {
@@ -54,7 +54,7 @@ pub(crate) fn text_in<'a>(body: &Body<'a>) -> &'a [u8]
 }
 
 /// Returns the authentic message that these bytes spell, in answer to the request that was sent at `start`, if they
-/// do.
+/// spell one.
 #[tactic(auto, unfolding(crate::specs::Replies::message_in))]
 pub(crate) fn message_in<'a>(asking: &Asking, start: u64, bytes: &'a [u8]) -> Option<Message<'a>>
     ensures same { option_map plain_of result ≡ message_in asking.now start bytes.now }
@@ -74,7 +74,7 @@ pub(crate) fn message_in<'a>(asking: &Asking, start: u64, bytes: &'a [u8]) -> Op
     }
 }
 
-/// Returns the reply that these bytes spell, in answer to the request that was sent at `start`, if they do.
+/// Returns the reply that these bytes spell, in answer to the request that was sent at `start`, if they spell one.
 #[tactic(auto, unfolding(crate::specs::Replies::reply_in))]
 pub(crate) fn reply_in(asking: &Asking, start: u64, bytes: &[u8]) -> Option<Reply>
     ensures { result ≡ reply_in asking.now start bytes.now }

@@ -31,7 +31,7 @@ fn value_in<'m>(body: &'m Body<'_>) -> &'m [u8]
     }
 }
 
-// Returns a text without the line feed at its end, if it has one there.
+// Returns a text without the line feed at its end, or `None` if it has none there.
 fn body_in(text: &[u8]) -> Option<&[u8]>
     ensures { MatchOption result ((body : List ℕ) → text.now ≡ body ++ codes "\n" → ⊥)
         (λ body. text.now ≡ body.now ++ codes "\n") }
@@ -85,16 +85,16 @@ fn revoke_text(alloc: Global, code: u32, ticket: &[u8]) -> Result<ByteText, Allo
     }
 }
 
-/// Returns the output for a list with this text: line by line, with dates; a text that is no list is unchanged.
+/// Returns the output for a list with this text: line by line, with dates. A text that is not a list is unchanged.
 pub(crate) fn list_report(alloc: Global, text: &[u8]) -> Result<ByteText, AllocError>
     ensures { IfOk result (λ report. IsListReport text.now report) }
 {
     shown(alloc, Form::List, text)
 }
 
-/// Returns the output for a good reply, which says that the request was done or begun.
+/// Returns the output for a good reply, which states that the request was done or begun.
 ///
-/// A list of tickets or members is printed line by line, with dates. A text that is no such list is printed
+/// A list of tickets or members is printed line by line, with dates. A text that is not such a list is printed
 /// unchanged, and so is a list of attributes. A value is a line, and so is the state of a ticket. After an attribute
 /// was set or deleted, the output is empty.
 pub fn report(alloc: Global, asking: &Asking, reply: &Message<'_>) -> Result<ByteText, AllocError>
@@ -113,7 +113,7 @@ pub fn report(alloc: Global, asking: &Asking, reply: &Message<'_>) -> Result<Byt
     }
 }
 
-/// Returns the same for the last reply, which has these bytes.
+/// Returns the output for the last reply, which has these bytes.
 pub fn report_of(
     alloc: Global,
     asking: &Asking,

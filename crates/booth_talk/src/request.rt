@@ -1,4 +1,4 @@
-//! The request, as it is sent at a moment.
+//! The request, as it is sent at a reading of the clock.
 ghost use Rattle.std.specs.Prelude.{◌≡◌, true, option_map};
 ghost use Rattle.booth_wire.specs.Command.{kind_of};
 ghost use Rattle.booth_wire.specs.PlainMessage.{Attr, content_of, has_text, is_named, kind_in, plain_of};

@@ -184,7 +184,7 @@ fn object_of(alloc: Global, config: &Config, part: &TicketPart) -> Result<ByteTe
     Ok(ByteText::from_vec(text))
 }
 
-// ---- of a reply
+// ---- the output for a reply
 
 fn ticket_report(
     alloc: Global,

@@ -32,7 +32,8 @@ impl Room {
     }
 }
 
-// Does what follows the wait for the first reply.
+// Continues after the wait for the first reply: waits for the outcome, if the client wants it and the request was
+// begun.
 fn go_on<H: Host>(
     asking: &Asking,
     start: u64,
@@ -99,7 +100,7 @@ fn is_revoke(order: &Order) -> bool
     }
 }
 
-// Returns the member to which a revoke is sent on, and the reading at which it is.
+// Returns the member to which a revoke is redirected, and the reading at which it is sent.
 fn redirected(asking: &Asking, first: &Waited) -> Option<(Peer, u64)>
     ensures { result ≡ redirected asking.now first.now }
 {
@@ -115,7 +116,7 @@ fn redirected(asking: &Asking, first: &Waited) -> Option<(Peer, u64)>
     }
 }
 
-// Does what follows the first request, which was sent.
+// Continues after the first request, which was sent: sends one more, if it is redirected.
 fn ask_on<H: Host>(
     asking: &Asking,
     first: Waited,
@@ -136,13 +137,13 @@ fn ask_on<H: Host>(
 
 /// Sends the request to this peer, at this reading, and waits for its answer.
 ///
-/// If the answer to a revoke names another owner, the revoke is sent on to that member, once, as a new request. The
-/// bytes of the last answer are then in the room's datagram. A list, which comes in parts, is requested by
+/// If the answer to a revoke names another owner, the revoke is redirected to that member, once, as a new request.
+/// The bytes of the last answer are then in the room's datagram. A list, which comes in parts, is requested by
 /// `talk_list`.
 ///
 /// # Errors
 ///
-/// `Failed` only if a request could not be sent.
+/// Returns `Failed` only if a request could not be sent.
 pub fn talk<H: Host>(
     asking: &Asking,
     to: &Peer,

@@ -9,16 +9,16 @@ use crate::reply::{Reply, reply_in};
 use booth_host::{Arrival, Datagram, Failed, Host};
 use booth_wire::results;
 
-/// The most pairs of a wait.
+/// The greatest number of pairs of a wait.
 pub const MOST_PAIRS: u64 = 1 << 40;
 
-/// How long a client waits for the first reply, in ms.
+/// The time for which a client waits for the first reply, in ms.
 pub const PATIENCE: u64 = 5_000;
 
-/// How a wait ended.
+/// The end of a wait.
 #[derive(Clone, Copy)]
 pub enum Waited {
-    /// This reply arrived, and then the clock read this.
+    /// This reply arrived, and then the clock had this reading.
     Came { reply: Reply, reading: u64 },
     /// No reply arrived.
     Over,
@@ -52,7 +52,7 @@ pub(crate) fn is_late(start: u64, reading: u64) -> bool
     }
 }
 
-/// Returns whether the reply says that the request was begun, and that the outcome will follow.
+/// Returns whether the reply states that the request was begun, and that the outcome will follow.
 pub fn is_begun(reply: &Reply) -> bool
     ensures { result ≡ is_begun reply.now }
 {

@@ -1,4 +1,4 @@
--- The code's ticket as what contracts see of it. No public clause cites this module.
+-- The code's ticket in the form in which contracts see it. No public clause cites this module.
 use Rattle.std.specs.Prelude.{◌≡◌, None}
 use Rattle.booth_ticket.specs.declared.ticket.Kind.{Kind}
 use Rattle.booth_ticket.specs.declared.ticket.Kind.TheVariants as kinds
@@ -8,7 +8,7 @@ abbrev pub state_of : Kind → TicketState
 state_of (kinds.Automatic core) = record { setup = core.setup; known = Automatic core.view }
 state_of (kinds.Manual ticket) = record { setup = ticket.setup; known = Manual ticket.known }
 
--- no write waits between two calls; for a manual ticket this holds by its definition
+-- No write waits between two calls. For a manual ticket this holds by its definition.
 abbrev pub IsIdle : Kind → Type 0
 IsIdle (kinds.Automatic core) = core.view.waiting ≡ None
 IsIdle (kinds.Manual ticket) = Unit {0}

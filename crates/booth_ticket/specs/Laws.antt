@@ -1,4 +1,4 @@
--- Laws over the trees: what a ticket does whenever it may, for every setup, view and message.
+-- Laws over the trees: actions that a ticket does whenever it may, for every setup, view and message.
 use Rattle.std.specs.Prelude.{◌≡◌, ◌≢◌, ℕ, ◌+◌, ◌<◌, Bool, true, false, List, [], ◌∷◌, ◌++◌, map, Some, None, if◌then◌else◌}
 use Rattle.booth_base.specs.declared.address.MemberId.{MemberId}
 use Rattle.booth_base.specs.Times.{promise_of}
@@ -33,12 +33,12 @@ use Rattle.booth_ticket.specs.Requests.{follow_request, refused_grant}
 use Rattle.booth_ticket.specs.Saying.{others}
 use Rattle.booth_ticket.specs.Waiting.{Left, joined}
 
--- these acts are the first of the tree on its path with these answers, and this is the rest
+-- With these answers, these acts are the first of the tree, and the rest of the tree follows.
 pub record IsBegunBy (deeds : Deeds Ask Left) (acts : List Act) : Type 0 where
   pub rest : Deeds Ask Left
   pub first : Leads IsAct deeds acts rest
 
--- these acts are all of the tree on its path with these answers, and the result has this property
+-- With these answers, these acts are all acts of the tree, and its result has this property.
 pub record IsDoneBy (deeds : Deeds Ask Left) (acts : List Act) (Holds : Left → Type 0) : Type 0
   where
     pub left : Left
@@ -47,13 +47,13 @@ pub record IsDoneBy (deeds : Deeds Ask Left) (acts : List Act) (Holds : Left →
 
 -- ---- a round is received
 
--- a message that is a round of this kind: an election's number is 0, and a renewal's is another
+-- The message is a round of this kind. The number of an election is 0, and the number of a renewal is not.
 abbrev pub IsRound : RoundKind → Head → Type 0
 IsRound Election head = (head.cmd ≡ RVot) × (head.options ≡ 0)
 IsRound Renewal head = (head.cmd ≡ HrtB) × (head.options ≢ 0)
 
--- the record with the promise to a round's sender: the member has voted for it in the round's term, promised it for
--- the time of a promise from now on, and keeps its lease and its abstention
+-- The record with the promise to a round's sender. The member has voted for the sender in the round's term, and
+-- promised it for the time of a promise from now on. It keeps its lease and its abstention.
 abbrev pub promise_record : Setup → View → Head → TicketPart → ℕ → Record
 promise_record setup view head part now = record {
   version = 2;
@@ -64,20 +64,21 @@ promise_record setup view head part now = record {
   abstain = view.abstain;
 }
 
--- the answer to a round's sender, with its term and its number
+-- The answer to a round's sender, with the round's term and number.
 abbrev pub answer_to : Setup → ℕ → RoundKind → Head → TicketPart → Act
 answer_to setup from kind head part =
     said (Member from) (head_of setup (answer_cmd kind) head.request head.options 0 0)
     (part_of setup head.from part.term 0)
 
--- the acts of a member that answers a round: in version 2 it writes its promise before it sends the answer
+-- The acts of a member that answers a round. In version 2 it writes its promise before it sends the answer.
 abbrev pub answering_acts : Setup → View → ℕ → RoundKind → Head → TicketPart → ℕ → List Act
 answering_acts setup view from kind head part now =
     if setup.second
     then kept (promise_record setup view head part now) true ∷ answer_to setup from kind head part ∷ []
     else answer_to setup from kind head part ∷ []
 
--- A member that may answer a round does so before all else: in version 2 if its promise was written.
+-- A member that may answer a round answers it before all other acts. In version 2 this requires that its promise was
+-- written.
 abbrev pub AnswersWhereItMay : Type 0
 AnswersWhereItMay =
     (setup : Setup) (view : View) (waiters : List Waiter) (from : ℕ) (kind : RoundKind) (head : Head)
@@ -88,13 +89,13 @@ AnswersWhereItMay =
 
 -- ---- a grant
 
--- the record of a new term after a client's request: in version 2 with the own promise, if the member votes for
--- itself
+-- The record of a new term after a client's request. In version 2 it has the own promise, if the member votes for
+-- itself.
 abbrev pub asked_record : Setup → View → ℕ → Record
 asked_record setup view now = record_of setup (asking setup view ADMN now) view.kept.lease
 
--- the acts of a grant that asks all members, for a ticket without a handler: it writes the new term, asks each other
--- member for its vote, and tells the client that it was begun
+-- The acts of a grant that asks all members, for a ticket without a handler. The member writes the new term, asks
+-- each other member for its vote, and informs the client that the grant was begun.
 abbrev pub asking_acts : Setup → View → Request → ℕ → List Act
 asking_acts setup view request now =
     kept (asked_record setup view now) true
@@ -105,14 +106,14 @@ asking_acts setup view request now =
     (seconds_left (shown_end view.shown) now))
     ∷ []
 
--- A member asks for votes, with this term written and these clients waiting.
+-- A member is a candidate, with this record written and these clients waiting.
 pub record AsksVotes (kept : Record) (waiters : List Waiter) (left : Left) : Type 0 where
   pub asks : left.core.view.role ≡ Candidate
   pub kept_record : left.core.view.kept ≡ kept
   pub waiting : left.waiters ≡ waiters
 
--- A grant of a ticket without a handler that is not refused asks every other member, if the new term was written and
--- this member alone is no majority; and its client waits, if it asked for that.
+-- A grant that is not refused, of a ticket without a handler, asks every other member. This requires that the new
+-- term was written and that this member alone is no majority. The client waits, if it asked for that.
 abbrev pub GrantAsksAll : Type 0
 GrantAsksAll =
     (setup : Setup) (view : View) (waiters : List Waiter) (spare : ℕ) (ready : Bool) (request : Request)
@@ -125,13 +126,13 @@ GrantAsksAll =
 
 -- ---- an answer is received
 
--- a message that is an answer to a round of this kind
+-- The message is an answer to a round of this kind.
 abbrev pub IsAnswer : RoundKind → Head → Type 0
 IsAnswer Election head = (head.cmd ≡ VtFr) × (head.options ≡ 0)
 IsAnswer Renewal head = (head.cmd ≡ Ack) × (head.options ≢ 0)
 
--- The answer of the member at a place completes a majority for this member's round, which is not won yet, before the
--- lease would end.
+-- The answer of the member at a place completes a majority for this member's round before its lease would end. The
+-- round is not won yet.
 pub record Completes (setup : Setup) (round : Round) (from : ℕ) (head : Head) (part : TicketPart)
     (now : ℕ) : Type 0 where
   pub leader : part.leader ≡ setup.me
@@ -141,27 +142,28 @@ pub record Completes (setup : Setup) (round : Round) (from : ℕ) (head : Head) 
   pub unwon : round.won ≡ false
   pub in_time : now < round.opened + setup.times.expire
 
--- the lease of the round: it runs from the round's opening
+-- The lease of the round. It runs from the time at which the round was opened.
 abbrev pub lease_of : Setup → View → Round → Lease
 lease_of setup view round = record { term = view.term; until = round.opened + setup.times.expire }
 
--- the record with it and the member's pledge
+-- The record with this lease and the member's pledge.
 abbrev pub lease_kept : Setup → View → Lease → Record
 lease_kept setup view lease = record_of setup view (Some lease)
 
--- each of these clients is informed that the ticket was granted, first to last
+-- Each of these clients is informed that the ticket was granted, first to last.
 abbrev pub told_granted : Setup → List Waiter → TicketPart → List Act
 told_granted setup waiters part =
     map (λ waiter. said (Client waiter.from) (head_of setup RGnt waiter.number 0 0 SUCCESS) part) waiters
 
--- the acts of a member that gains: it writes the lease, announces it to all others, and tells each client that waits
+-- The acts of a member that gains: it writes the lease, announces the lease to all other members, and informs each
+-- client that waits.
 abbrev pub gaining_acts : Setup → View → List Waiter → Lease → ℕ → List Act
 gaining_acts setup view waiters lease now =
     let state : TicketPart = part_of setup setup.me view.term (seconds_left lease.until now) in
     kept (lease_kept setup view lease) true
     ∷ said_to_each (others setup) (head_of setup UpdE 0 0 0 0) state ++ told_granted setup waiters state
 
--- A leader has the lease: this record of it was written, the leader is the known owner, and no client waits.
+-- A leader has the lease: its record was written, the leader is the known owner, and no client waits.
 pub record HasLease (owner : MemberId) (own : Record) (lease : Lease) (left : Left) : Type 0 where
   pub leads : left.core.view.role ≡ Leader
   pub kept_record : left.core.view.kept ≡ own
@@ -169,7 +171,7 @@ pub record HasLease (owner : MemberId) (own : Record) (lease : Lease) (left : Le
   pub shown : left.core.view.shown ≡ Some (record { owner = owner; until = lease.until })
   pub waiting : left.waiters ≡ []
 
--- A majority in time gives the lease, if its record was written, and each client that waits is informed.
+-- A majority that answers in time gives the lease, if its record was written. Each client that waits is informed.
 abbrev pub MajorityGains : Type 0
 MajorityGains =
     (setup : Setup) (view : View) (waiters : List Waiter) (round : Round) (from : ℕ) (kind : RoundKind)

@@ -1,4 +1,4 @@
--- Laws over the trees of manual tickets: what a ticket does whenever it may, for every setup and view.
+-- Laws over the trees of manual tickets: actions that a ticket does whenever it may, for every setup and view.
 use Rattle.std.specs.Prelude.{◌≡◌, ℕ, ◌+◌, Bool, true, false, List, [], ◌∷◌, ◌++◌, Option, None}
 use Rattle.std.specs.Option.{is_some}
 use Rattle.booth_base.specs.declared.address.Peer.{Peer}
@@ -27,7 +27,7 @@ use Rattle.booth_ticket.specs.ManualHandling.{is_awaited, manual_over}
 use Rattle.booth_ticket.specs.ManualRequests.{manual_asked, refused_manual_grant}
 use Rattle.booth_ticket.specs.Saying.{others}
 
--- these acts are all of the tree on its path with these answers, and leave the ticket with this view
+-- With these answers, these acts are all acts of the tree, and its result has this property.
 pub record IsDoneByHand (deeds : Deeds Ask ManualLeft) (acts : List Act) (Holds : ManualLeft → Type 0) : Type 0
   where
     pub left : ManualLeft
@@ -38,7 +38,7 @@ abbrev pub request_for : Wish → Peer → ℕ → ℕ → Request
 request_for wish from number options =
     record { wish = wish; from = from; number = number; options = options }
 
--- the lease is written, each other member is informed, and then the client that asked
+-- The lease is written. Each other member is informed, and then the client that asked.
 abbrev pub granting : Setup → ManualView → Peer → ℕ → List Act
 granting setup view from number =
     kept (granted_record setup view) true
@@ -48,15 +48,15 @@ granting setup view from number =
     (part_of setup setup.me (view.term + 1) NO_END_SECONDS)
     ∷ []
 
--- this site holds the ticket, by this record, and the last write succeeded
+-- This site holds the ticket, by this record, and the last write succeeded.
 pub record HoldsByHand (own : Record) (view : ManualView) : Type 0 where
   pub owner : view.owner ≡ true
   pub sure : view.sure ≡ true
   pub kept_record : view.kept ≡ own
   pub shown : view.shown ≡ None
 
--- A grant of a ticket without a handler that is not refused, at a site that does not hold the ticket, is written,
--- announced to all others and answered with success, if the write succeeds.
+-- A grant is written, announced to all other members and answered with success, if the write succeeds. The ticket has
+-- no handler, the grant is not refused, and the site does not hold the ticket.
 abbrev pub GrantsByHand : Type 0
 GrantsByHand =
     (setup : Setup) (known : ManualKnown) (waiters : List Waiter) (spare : ℕ) (ready : Bool) (from : Peer)
@@ -69,7 +69,7 @@ GrantsByHand =
     (granting setup known.view from number)
     (λ left. HoldsByHand (granted_record setup known.view) left.ticket.known.view)
 
--- the lease is written, each other member is informed, and then each client that waits
+-- The lease is written. Each other member is informed, and then each client that waits.
 abbrev pub granting_to_all : Setup → ManualView → List Waiter → List Act
 granting_to_all setup view waiters =
     kept (granted_record setup view) true
@@ -77,14 +77,14 @@ granting_to_all setup view waiters =
     (part_of setup setup.me (view.term + 1) NO_END_SECONDS)
     ++ told_granted setup waiters (part_of setup setup.me (view.term + 1) NO_END_SECONDS)
 
--- this site holds the ticket, no handler runs, and no client waits
+-- This site holds the ticket, no handler runs, and no client waits.
 pub record HoldsAfterHandler (own : Record) (left : ManualLeft) : Type 0 where
   pub holds : HoldsByHand own left.ticket.known.view
   pub over : left.ticket.known.job ≡ None
   pub waiting : left.waiters ≡ []
 
--- If the handler of a grant says that the service can run, the grant is written, announced to all others and told to
--- each client that waits, if a term is left and the write succeeds.
+-- If the handler of a grant reports that the service can run, the grant is written, announced to all other members
+-- and sent to each client that waits. This requires that a term is left and the write succeeds.
 abbrev pub GrantsAfterHandler : Type 0
 GrantsAfterHandler =
     (setup : Setup) (known : ManualKnown) (waiters : List Waiter) (job : ℕ)
@@ -93,7 +93,7 @@ GrantsAfterHandler =
     (granting_to_all setup known.view waiters)
     (HoldsAfterHandler (granted_record setup known.view))
 
--- a record without a lease is written, each other member is informed, and then the client that asked
+-- A record without a lease is written. Each other member is informed, and then the client that asked.
 abbrev pub giving_back : Setup → ManualView → Peer → ℕ → List Act
 giving_back setup view from number =
     kept (kept_by_hand setup view.term None) true
@@ -102,14 +102,14 @@ giving_back setup view from number =
     (part_of setup (shown_or_none view.shown) view.term 0)
     ∷ []
 
--- this site no longer holds the ticket
+-- This site no longer holds the ticket.
 pub record HoldsNoMore (own : Record) (view : ManualView) : Type 0 where
   pub owner : view.owner ≡ false
   pub sure : view.sure ≡ true
   pub kept_record : view.kept ≡ own
 
--- A revoke at the site that holds the ticket is written, announced to all others and answered with success, if the
--- write succeeds.
+-- A revoke at the site that holds the ticket is written, announced to all other members and answered with success, if
+-- the write succeeds.
 abbrev pub RevokesByHand : Type 0
 RevokesByHand =
     (setup : Setup) (known : ManualKnown) (waiters : List Waiter) (spare : ℕ) (ready : Bool) (job : Option ℕ)

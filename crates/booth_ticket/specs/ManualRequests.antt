@@ -1,4 +1,4 @@
--- Clients' requests about a manual ticket, and their replies.
+-- Clients' requests about a manual ticket, and the replies to them.
 use Rattle.std.specs.Prelude.{◌≡◌, ℕ, ◌+◌, ◌-◌, IsTrue, Bool, true, false, not, ◌&&◌, ◌||◌, nat_lt, ◌==◌, List, Option, Some, None, if◌then◌else◌}
 use Rattle.std.specs.Option.{is_some}
 use Rattle.std.specs.Int.{bit_at}
@@ -30,27 +30,28 @@ use Rattle.booth_ticket.specs.Waiting.{waits, joined}
 
 -- ---- options
 
--- the client requests the ticket although another holder is known
+-- The client requests the ticket although another holder is known.
 abbrev pub forces : ℕ → Bool
 forces options = bit_at options 0 == 1
 
--- the other options of the request
+-- The other options of the request.
 abbrev pub unforced : ℕ → ℕ
 unforced options = if forces options then options - IMMEDIATE else options
 
--- a bit is set that no request has
+-- A bit is set that no request has.
 abbrev pub is_strange : ℕ → Bool
 is_strange options = nat_lt (IMMEDIATE + WAIT + COMMIT) options
 
--- ---- what is refused
+-- ---- requests that are refused
 
--- the known holder is another member
+-- The known holder is another member.
 abbrev pub is_another_shown : Option MemberId → MemberId → Bool
 is_another_shown None me = false
 is_another_shown (Some shown) me = not (is_same shown me)
 
--- the immediate reply to a grant, while a handler runs or not, and with or without its prerequisites: the first of
--- these that applies; otherwise the ticket is granted. An owner whose last write failed writes its record again.
+-- The immediate reply to a grant, while a handler runs or not, and with or without its prerequisites. The first
+-- condition that holds gives the reply; if none holds, the ticket is granted. An owner whose last write failed writes
+-- its record again.
 abbrev pub refused_manual_grant : Setup → ManualView → Bool → ℕ → Bool → ℕ → Option ℕ
 refused_manual_grant setup view runs spare ready options =
     if not setup.site || is_strange options then Some IARG else
@@ -62,7 +63,8 @@ refused_manual_grant setup view runs spare ready options =
     if waits (unforced options) && spare == 0 then Some BUSY else
     None
 
--- the immediate reply to a revoke: the first of these that applies; otherwise a record is written
+-- The immediate reply to a revoke. The first condition that holds gives the reply; if none holds, a record is
+-- written.
 abbrev pub refused_manual_revoke : Setup → ManualView → Bool → Option ℕ
 refused_manual_revoke setup view runs =
     if view.owner then None else
@@ -77,19 +79,19 @@ refused_by_hand setup view runs spare ready options Revoke = refused_manual_revo
 
 -- ---- the action
 
--- the state if a request is not refused: an owner whose last write failed, or a term that is not used up; and for a
--- revoke an owner
+-- The state if a request is not refused. For a grant, the site is an owner whose last write failed, or a term is
+-- left. For a revoke, the site is an owner.
 abbrev pub MayTry : ManualView → Wish → Type 0
 MayTry view Grant =
     (IsTrue view.owner → view.sure ≡ false) × (view.owner ≡ false → are_terms_spent view ≡ false)
 MayTry view Revoke = IsTrue view.owner
 
--- the rule for the request: the record that it writes
+-- The rule for the request, which gives the record to write.
 abbrev pub tries_for : Setup → ManualView → Wish → Tries
 tries_for setup view Grant = if view.owner then again setup view else grant setup view
 tries_for setup view Revoke = revoke setup view
 
--- the reply after the write: an owner stays one if the record may not have been written
+-- The reply after the write. An owner stays one if the record may not have been written.
 abbrev pub result_of_keep : Wish → Bool → ℕ
 result_of_keep Grant ok = if ok then SUCCESS else PEND
 result_of_keep Revoke ok = if ok then SUCCESS else FAIL
@@ -99,24 +101,24 @@ pub record Tried : Type 0 where
   pub answer : ℕ
   pub rules : State
 
--- a record is written, or the write fails
+-- The write of a record, which may fail.
 abbrev pub keep : Record → Deeds Ask Bool
 keep tried = Does (Keep tried) (λ ok. Ends ok)
 
--- the record is written, and the message that follows goes to all members
+-- The record is written, and then the message about it goes to all members.
 unfoldable pub keep_tried : State → Wish → Record → Deeds Ask Tried
 keep_tried rules wish tried = do
   ok ← keep tried
   say rules.setup None (finish rules.setup rules.view ok).say
   Ends (record { answer = result_of_keep wish ok; rules = with_view rules (finish rules.setup rules.view ok).view })
 
--- the request's rule runs, and its record is written
+-- The request's rule runs, and its record is written.
 unfoldable pub keep_for : State → Wish → Deeds Ask Tried
 keep_for rules wish =
     keep_tried (with_view rules (tries_for rules.setup rules.view wish).view) wish
     (tries_for rules.setup rules.view wish).tried
 
--- the request needs its handler first: a grant at a site that does not hold the ticket
+-- The request needs its handler first: it is a grant at a site that does not hold the ticket.
 abbrev pub wants_handler : ManualView → Wish → Bool
 wants_handler view Grant = not view.owner
 wants_handler view Revoke = false
@@ -127,7 +129,7 @@ pub record Begun : Type 0 where
   pub rules : State
   pub running : Option Job
 
--- after the start of a handler: the grant waits for its end, or the handler has failed
+-- The result after the start of a handler: the grant waits for its end. If the start failed, the handler has failed.
 abbrev pub waits_for : State → Option Job → ℕ → ℕ → Bool → Begun
 waits_for rules running job now true = record {
   answer = ASYN;
@@ -139,15 +141,15 @@ waits_for rules running job now false = record { answer = XPRG; rules = rules; r
 unfoldable pub start_for : State → Option Job → ℕ → ℕ → Deeds Ask Begun
 start_for rules running job now = Does (Start job 0) (λ ok. Ends (waits_for rules running job now ok))
 
--- A request that is not refused: without a job number its record is written at once; with one, its handler is started
--- first, under this number.
+-- The actions of a request that is not refused. Without a job number its record is written at once. With a job
+-- number, its handler is started first, under this number.
 abbrev pub begin_for : State → Option Job → Option ℕ → Wish → ℕ → Deeds Ask Begun
 begin_for rules running None wish now = do
   done ← keep_for rules wish
   Ends (record { answer = done.answer; rules = done.rules; running = running })
 begin_for rules running (Some job) wish now = start_for rules running job now
 
--- the result of a request: it is refused, or begun
+-- The result of a request: it is refused, or begun.
 abbrev pub do_for : State → Option Job → Option ℕ → Option ℕ → Wish → ℕ → Deeds Ask Begun
 do_for rules running (Some result) job wish now =
     Ends (record { answer = result; rules = rules; running = running })
@@ -156,18 +158,18 @@ do_for rules running None job wish now =
 
 -- ---- the reply
 
--- A client that waits for a grant of a manual ticket is also told about a failed write; the option to force it no
--- longer matters.
+-- The request of a client that waits for a grant of a manual ticket. The client is also informed about a failed
+-- write, and the option to force the grant no longer matters.
 abbrev pub as_waiting : Request → Request
 as_waiting request = record request { options = if waits (unforced request.options) then WAIT else 0 }
 
--- the reply to a request, with the state of the ticket
+-- The reply to a request, with the state of the ticket.
 unfoldable pub manual_reply : State → Request → ℕ → Deeds Ask (Unit {0})
 manual_reply rules request answer =
     say_to (Client request.from) (head_of rules.setup (reply_cmd request.wish) request.number 0 0 answer)
     (manual_state rules.setup rules.view)
 
--- the actions for a client before the reply
+-- The actions for a client before the reply.
 abbrev pub done_by_hand : ManualState → ℕ → Given → Request → Deeds Ask Begun
 done_by_hand ticket spare given request =
     do_for (rules_of ticket) ticket.known.job
@@ -175,8 +177,8 @@ done_by_hand ticket spare given request =
     request.wish)
     given.job request.wish given.now
 
--- A client's request is done, and the reply is the last act; the client waits, if it asked to. This many more clients
--- may wait.
+-- The actions for a client's request. The reply is the last act, and the client waits if it asked for that. This many
+-- more clients may wait.
 unfoldable pub manual_asked : ManualState → List Waiter → ℕ → Given → Request → Deeds Ask ManualLeft
 manual_asked ticket waiters spare given request = do
   done ← done_by_hand ticket spare given request

@@ -1,4 +1,4 @@
--- A ticket between two calls, and what it does in each.
+-- A ticket between two calls, and its actions in each call.
 use Rattle.std.specs.Prelude.{◌≤◌, ℕ, ◌/◌, nat_lt, List, Option, Some, None, IsSomeAnd, if◌then◌else◌}
 use Rattle.booth_base.specs.Tree.{Deeds, Ends, ◌>>=◌}
 use Rattle.booth_rec.specs.declared.record.Record.{Record}
@@ -35,34 +35,34 @@ pub record TicketState : Type 0 where
   pub setup : Setup
   pub known : Known
 
--- a ticket starts from the record that was written last
+-- An automatic ticket at its start from the record that was written last.
 abbrev pub opened : Setup → Record → ℕ → TicketState
 opened setup rec now = record { setup = setup; known = Automatic (started setup rec now) }
 
--- the same for a manual ticket
+-- A manual ticket at its start from the record that was written last.
 abbrev pub opened_by_hand : Setup → Record → ℕ → TicketState
 opened_by_hand setup rec now = record { setup = setup; known = Manual (manual_started rec now) }
 
--- What a call leaves: the ticket, and the clients that wait for it.
+-- The result of a call: the ticket, and the clients that wait for it.
 pub record TicketLeft : Type 0 where
   pub ticket : TicketState
   pub waiters : List Waiter
 
--- the result of an automatic ticket's call
+-- The result of an automatic ticket's call.
 abbrev pub left_as : Left → TicketLeft
 left_as left = record {
   ticket = record { setup = left.core.setup; known = Automatic left.core.view };
   waiters = left.waiters;
 }
 
--- the result of a manual ticket's call
+-- The result of a manual ticket's call.
 abbrev pub left_by_hand : ManualLeft → TicketLeft
 left_by_hand left = record {
   ticket = record { setup = left.ticket.setup; known = Manual left.ticket.known };
   waiters = left.waiters;
 }
 
--- a message of the member at a place is handled
+-- The actions for a message of the member at a place.
 abbrev pub ticket_heard : Setup → Known → List Waiter → ℕ → Head → TicketPart → ℕ → Deeds Ask TicketLeft
 ticket_heard setup (Automatic view) waiters from head part now = do
   left ← hear (record { setup = setup; view = view }) waiters from head part now
@@ -71,7 +71,7 @@ ticket_heard setup (Manual known) waiters from head part now = do
   ticket ← manual_heard (record { setup = setup; known = known }) from head part
   Ends (left_by_hand (record { ticket = ticket; waiters = waiters }))
 
--- a client's request is followed; this many more clients may wait
+-- The actions for a client's request. This many more clients may wait.
 abbrev pub ticket_asked : Setup → Known → List Waiter → ℕ → Given → Request → Deeds Ask TicketLeft
 ticket_asked setup (Automatic view) waiters spare given request = do
   left ← follow_request (record { setup = setup; view = view }) waiters spare given request request.wish
@@ -80,7 +80,7 @@ ticket_asked setup (Manual known) waiters spare given request = do
   left ← manual_asked (record { setup = setup; known = known }) waiters spare given request
   Ends (left_by_hand left)
 
--- the deadline has passed
+-- The actions at the deadline.
 abbrev pub ticket_due : Setup → Known → List Waiter → Given → Deeds Ask TicketLeft
 ticket_due setup (Automatic view) waiters given = do
   left ← come_due (record { setup = setup; view = view }) waiters given
@@ -89,7 +89,7 @@ ticket_due setup (Manual known) waiters given = do
   left ← manual_due (record { setup = setup; known = known }) waiters given.now
   Ends (left_by_hand left)
 
--- a handler has ended
+-- The actions after the end of a handler.
 abbrev pub ticket_over : Setup → Known → List Waiter → ℕ → Service → ℕ → Deeds Ask TicketLeft
 ticket_over setup (Automatic view) waiters job service now = do
   left ← end_job (record { setup = setup; view = view }) waiters job service now
@@ -98,16 +98,16 @@ ticket_over setup (Manual known) waiters job service now = do
   left ← manual_over (record { setup = setup; known = known }) waiters job service
   Ends (left_by_hand left)
 
--- the next deadline of the ticket
+-- The next deadline of the ticket.
 abbrev pub deadline : Known → Option ℕ
 deadline (Automatic view) = view.due
 deadline (Manual known) = manual_deadline known
 
--- the deadline has passed
+-- The deadline has passed.
 abbrev pub IsDue : Known → ℕ → Type 0
 IsDue known now = IsSomeAnd (deadline known) (λ due. due ≤ now)
 
--- the site that is the known owner now, and the end of its lease in whole seconds
+-- The site that is the known owner now, and the end of its lease in whole seconds.
 abbrev pub shown_owner : Option Shown → ℕ → Option Owner
 shown_owner None now = None
 shown_owner (Some shown) now =
@@ -115,12 +115,12 @@ shown_owner (Some shown) now =
     then Some (record { site = shown.owner; until_secs = shown.until / 1000 })
     else None
 
--- the site that holds a manual ticket, whose lease has no end: the end is given as 0
+-- The site that holds a manual ticket. Its lease has no end, so the end is given as 0.
 abbrev pub endless_owner : Option MemberId → Option Owner
 endless_owner None = None
 endless_owner (Some site) = Some (record { site = site; until_secs = 0 })
 
--- the holder of a manual ticket as far as this member knows: itself, or the known holder
+-- The holder of a manual ticket as far as this member knows: itself, or the known holder.
 abbrev pub manual_owner : Setup → ManualView → Option Owner
 manual_owner setup view = endless_owner (if view.owner then Some setup.me else view.shown)
 
@@ -128,12 +128,12 @@ abbrev pub owner : Setup → Known → ℕ → Option Owner
 owner setup (Automatic view) now = shown_owner view.shown now
 owner setup (Manual known) now = manual_owner setup known.view
 
--- the owner of a manual ticket is named without a term, with the most seconds that there can be
+-- The part that names the owner of a manual ticket, without a term, and with the greatest possible number of seconds.
 abbrev pub endless_part : Setup → Option Owner → TicketPart
 endless_part setup None = part_of setup NO_ONE 0 0
 endless_part setup (Some shown) = part_of setup shown.site 0 4294967295
 
--- the reply to a client that asks for this ticket alone
+-- The reply to a client that asks for this ticket alone.
 abbrev pub told_ticket : Setup → Known → ℕ → TicketPart
 told_ticket setup (Automatic view) now = told_part setup view now
 told_ticket setup (Manual known) now = endless_part setup (manual_owner setup known.view)

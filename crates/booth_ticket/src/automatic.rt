@@ -1,4 +1,4 @@
-//! What an automatic ticket does in each call.
+//! The actions of an automatic ticket in each call.
 ghost use Rattle.std.specs.Prelude.{◌≡◌, ◌≢◌, ◌<◌, ◌^◌, None, IsTrue, false, length, slice_set};
 ghost use Rattle.booth_raft.specs.Facts.{KeepWaits};
 ghost use Rattle.booth_raft.specs.Members.{is_follower, is_working};
@@ -41,7 +41,7 @@ pub(crate) fn hear_message<W: Hands>(
     carry_out(core, Some(from), now, deed, hands)
 }
 
-// Acquires the ticket if its prerequisites hold. Otherwise looks at it again a renewal's time later.
+// Acquires the ticket if its prerequisites hold. Otherwise tries again a renewal's time later.
 #[tactic(auto, using(crate::proofs::DidLemmas::did_end))]
 fn take_over<W: Hands>(core: &mut Core, given: Given, hands: &mut W) -> Deed
     requires early { given.now < 2 ^ 62 }
@@ -60,7 +60,7 @@ fn take_over<W: Hands>(core: &mut Core, given: Given, hands: &mut W) -> Deed
     acquire_by(core, given.job, TLST, given.now, hands)
 }
 
-// Does the step that the rule of a deadline requests.
+// Performs the step that the rule of a deadline requests.
 #[tactic(auto, using(crate::proofs::DidLemmas::did_end))]
 fn follow<W: Hands>(core: &mut Core, deed: Deed, given: Given, hands: &mut W) -> Deed
     requires early { given.now < 2 ^ 62 }
@@ -130,7 +130,7 @@ pub(crate) fn tick<W: Hands>(core: &mut Core, given: Given, hands: &mut W) -> De
     carry_out(core, None, given.now, deed, hands)
 }
 
-/// Handles the deadline, and tells the waiting clients.
+/// Handles the deadline, and informs the waiting clients.
 #[tactic(auto, using(crate::proofs::DidLemmas::did_then), unfolding(crate::specs::Automatic::come_due))]
 pub(crate) fn come_due<W: Hands>(
     core: &mut Core,

@@ -1,4 +1,4 @@
-//! Hands that record what they do.
+//! Hands that record their acts, for tests.
 ghost use Rattle.std.specs.Prelude.{◌≡◌, [], true, false};
 
 use crate::hands::{Hands, To};
@@ -25,15 +25,15 @@ pub enum Noted {
     },
 }
 
-/// Hands that record their acts, the oldest first, while there is memory for them.
+/// Hands in memory that record their acts, the oldest first, while memory is left.
 #[derive(Drop)]
 pub struct FakeHands {
     pub acts: Vec<Noted>,
-    /// Whether `acts` has all acts.
+    /// Whether `acts` contains all acts.
     pub tells: bool,
     /// Whether writes fail.
     pub fails: bool,
-    /// Whether writes fail from the next but one on.
+    /// Whether all writes after the next one fail.
     pub breaks: bool,
     /// Whether starts of a handler fail.
     pub fails_to_start: bool,

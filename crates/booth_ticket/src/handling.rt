@@ -14,16 +14,16 @@ use booth_raft::{Core, Deed, Note, Role, Told, Want, is_promised_elsewhere, own_
 use booth_wire::Say;
 use booth_wire::reasons::{LOCF, RACQ};
 
-/// What the end of a handler says about the service of its ticket at this site.
+/// The meaning of a handler's end for the service of its ticket at this site.
 #[derive(Clone, Copy)]
 pub enum Service {
-    /// The handler ended with status 0.
+    /// The service can run: the handler ended with status 0.
     CanRun,
-    /// It ended with another status.
+    /// The service cannot run: the handler ended with another status.
     CannotRun,
 }
 
-/// Returns an action with a result for clients alone.
+/// Returns an action that has only a result for clients.
 pub(crate) fn telling(told: Told) -> Deed
     ensures { result ≡ record { keep = None; say = Say.Nothing; want = Want.Nothing; told = told } }
 {
@@ -57,7 +57,7 @@ fn acquire(core: &mut Core, reason: u32, now: u64) -> Deed
     }
 }
 
-// Goes on after the start of a handler before an acquisition.
+// Continues after the start of a handler before an acquisition.
 fn work(core: &mut Core, job: u64, reason: u32, now: u64, ok: bool) -> Deed
     requires early { now < 2 ^ 62 }
     requires idle { core.old.view.waiting ≡ None }
@@ -103,7 +103,7 @@ pub(crate) fn acquire_by<W: Hands>(
 
 // ---- before a renewal
 
-// Goes on after the start of a handler before a renewal.
+// Continues after the start of a handler before a renewal.
 fn check(core: &mut Core, job: u64, now: u64, ok: bool) -> Deed
     requires early { now < 2 ^ 62 }
     requires idle { core.old.view.waiting ≡ None }
@@ -121,7 +121,7 @@ fn check(core: &mut Core, job: u64, now: u64, ok: bool) -> Deed
     telling(Told::Nothing)
 }
 
-// Returns the job of a site's handler; an arbitrator has none.
+// Returns the job of a site's handler. An arbitrator has none.
 fn job_at(site: bool, job: Option<u64>) -> Option<u64>
     ensures { result ≡ (if site then job else None) }
 {
@@ -149,7 +149,7 @@ pub(crate) fn renew_by<W: Hands>(core: &mut Core, job: Option<u64>, now: u64, ha
 // ---- the end of a job
 
 impl Service {
-    /// Returns what an exit status says.
+    /// Returns the meaning of an exit status.
     pub fn of_status(status: i32) -> Service
         ensures { result ≡ service_of status }
     {
@@ -180,7 +180,7 @@ fn acquire_after(core: &mut Core, now: u64) -> Deed
     acquire(core, reason, now)
 }
 
-// Goes on after the end of the handler before an acquisition.
+// Continues after the end of the handler before an acquisition.
 fn work_on(core: &mut Core, service: Service, now: u64) -> Deed
     requires early { now < 2 ^ 62 }
     requires idle { core.old.view.waiting ≡ None }
@@ -217,7 +217,7 @@ fn renew_or_release(core: &mut Core, service: Service, now: u64) -> Deed
     }
 }
 
-// Goes on after the end of the handler before a renewal.
+// Continues after the end of the handler before a renewal.
 fn lead_on(core: &mut Core, service: Service, now: u64) -> Deed
     requires early { now < 2 ^ 62 }
     requires idle { core.old.view.waiting ≡ None }
@@ -234,7 +234,7 @@ fn lead_on(core: &mut Core, service: Service, now: u64) -> Deed
     renew_or_release(core, service, now)
 }
 
-// Goes on after the end of the ticket's handler.
+// Continues after the end of the ticket's handler.
 fn go_on(core: &mut Core, service: Service, now: u64) -> Deed
     requires early { now < 2 ^ 62 }
     requires idle { core.old.view.waiting ≡ None }
@@ -255,7 +255,7 @@ fn go_on(core: &mut Core, service: Service, now: u64) -> Deed
     }
 }
 
-// Handles the end of a handler: the one for which the ticket waits, or another.
+// Handles the end of a handler, whether the ticket waits for it or not.
 fn job_over(core: &mut Core, job: u64, service: Service, now: u64) -> Deed
     requires early { now < 2 ^ 62 }
     requires idle { core.old.view.waiting ≡ None }

@@ -11,8 +11,8 @@ use crate::hands::Hands;
 use crate::saying::say;
 use booth_raft::{Core, Deed};
 
-// Writes the record of an action, if it has one, and returns the action that follows. After the result of a gain no
-// other write follows; after another result the write of a gain may.
+// Writes the record of an action, if it has one, and returns the next action. After the result of a gain there is no
+// other write. After another result, the write of a gain may come.
 fn keep_once<W: Hands>(core: &mut Core, now: u64, deed: Deed, hands: &mut W) -> Deed
     requires early { now < 2 ^ 62 }
     requires waits { KeepWaits deed.keep core.old.view.waiting now }
@@ -32,8 +32,8 @@ fn keep_once<W: Hands>(core: &mut Core, now: u64, deed: Deed, hands: &mut W) -> 
     core.kept(now, ok)
 }
 
-/// Does a step: its writes, and then its messages, after a message of the member at the place `from` or without one.
-/// The last action has the result for clients.
+/// Performs a step: its writes, and then its messages. The step may come after a message of the member at the place
+/// `from`, or without one. The last action has the result for clients.
 #[tactic(auto, using(crate::proofs::DidLemmas::did_calls), unfolding(crate::specs::Keeping::carry_out))]
 pub(crate) fn carry_out<W: Hands>(
     core: &mut Core,

@@ -1,8 +1,9 @@
-//! Laws over the trees, each the contract of a function that does nothing.
+//! Laws over the trees. Each is the contract of a function that does nothing.
 ghost use Rattle.booth_ticket.specs.Laws.{AnswersWhereItMay, GrantAsksAll, MajorityGains};
 ghost use Rattle.booth_ticket.specs.ManualLaws.{GrantsAfterHandler, GrantsByHand, RevokesByHand};
 
-/// A member that may answer a round does so before all else: in version 2 if its promise was written.
+/// A member that may answer a round answers it before all other acts. In version 2 this requires that its promise was
+/// written.
 pub fn answers_where_it_may()
     ensures { AnswersWhereItMay }
 {}
@@ -17,20 +18,20 @@ pub fn majority_gains()
     ensures { MajorityGains }
 {}
 
-/// A manual ticket's grant that is not refused, without a handler, is written, announced to all others and answered
-/// with success, if the write succeeds.
+/// Suppose that a manual ticket has no handler, that a grant of it is not refused, and that the write succeeds. Then
+/// the grant is written, announced to all other members and answered with success.
 pub fn grants_by_hand()
     ensures { GrantsByHand }
 {}
 
-/// A manual ticket's grant whose handler says that the service can run is written, announced to all others and told
-/// to each client that waits, if a term is left and the write succeeds.
+/// If the handler of a manual ticket's grant reports that the service can run, the grant is written, announced to all
+/// other members and sent to each client that waits. This requires that a term is left and the write succeeds.
 pub fn grants_after_handler()
     ensures { GrantsAfterHandler }
 {}
 
-/// A manual ticket's revoke at its holder is written, announced to all others and answered with success, if the write
-/// succeeds.
+/// A manual ticket's revoke at its holder is written, announced to all other members and answered with success, if
+/// the write succeeds.
 pub fn revokes_by_hand()
     ensures { RevokesByHand }
 {}

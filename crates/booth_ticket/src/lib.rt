@@ -1,4 +1,4 @@
-//! One ticket: its rules, carried out by hands. It knows no frames, no files and no other ticket.
+//! One ticket: its rules, carried out by hands. This crate has no frames, no files and no other ticket.
 #![tactic(auto)]
 
 mod automatic;

@@ -1,4 +1,4 @@
-//! A manual ticket: its state, and what it does in each call.
+//! A manual ticket: its state, and its actions in each call.
 ghost use Rattle.std.specs.Prelude.{◌≡◌, ◌≤◌, ◌<◌, ◌^◌, None, IsTrue, length, slice_set};
 ghost use Rattle.booth_raft.specs.Sound.{IsSound};
 ghost use Rattle.booth_ticket.specs.Acts.{Did};
@@ -25,7 +25,7 @@ use std::marker::Model;
 #[derive(Clone, Copy)]
 pub struct Job {
     pub number: u64,
-    /// When it counts as failed, in milliseconds since 1970.
+    /// The time from which it counts as failed, in milliseconds since 1970.
     pub limit: u64,
 }
 
@@ -33,7 +33,7 @@ pub struct Job {
 #[derive(Drop)]
 pub(crate) struct ManualTicket {
     rules: Manual,
-    /// The reading of its start, until it has asked all members for their state.
+    /// The reading of the ticket's start, until it has asked all members for their state.
     greets_at: Option<u64>,
     /// The handler that runs before a grant.
     running: Option<Job>,
@@ -75,7 +75,7 @@ impl ManualTicket {
         }
     }
 
-    /// Returns the setup with which it started.
+    /// Returns the setup with which the ticket started.
     pub fn setup(&self) -> &Setup
         ensures value { result.now ≡ self.now.setup }
         ensures sound { IsSound result.now }
@@ -83,14 +83,15 @@ impl ManualTicket {
         self.rules.setup()
     }
 
-    /// Returns the state of its rules.
+    /// Returns the state of the ticket's rules.
     pub fn view(&self) -> &ManualView
         ensures { result.now ≡ self.now.known.view }
     {
         self.rules.view()
     }
 
-    /// Returns its next deadline: it must ask all members for their state, or the handler is late.
+    /// Returns the ticket's next deadline: the time to ask all members for their state, or else the latest end of the
+    /// handler.
     pub fn deadline(&self) -> Option<u64>
         ensures { result ≡ manual_deadline self.now.known }
     {
@@ -108,7 +109,7 @@ impl ManualTicket {
         say(self.rules.setup(), Some(from), &words, hands);
     }
 
-    /// Follows a client's request. The reply is the last act.
+    /// Handles a client's request. The reply is the last act.
     pub fn client<W: Hands>(
         &mut self,
         request: &Request,
@@ -143,7 +144,7 @@ impl ManualTicket {
         self.running.is_some_and(|awaited| awaited.number == job)
     }
 
-    /// Handles the end of a handler. A job that is none of the ticket's changes nothing.
+    /// Handles the end of a handler. A job that is not one of the ticket changes nothing.
     pub fn handler_done<W: Hands>(
         &mut self,
         job: u64,

@@ -14,7 +14,7 @@ use crate::waiters::Waiters;
 use booth_manual::Manual;
 use booth_raft::Told;
 
-// Grants the ticket, if a term is left, since the service can run. Returns the outcome for the waiting clients.
+// Grants the ticket, if a term is left, because the service can run. Returns the outcome for the waiting clients.
 fn grant<W: Hands>(rules: &mut Manual, hands: &mut W) -> Told
     requires sound { IsSound rules.old.setup }
     requires idle { rules.old.view.waiting ≡ None }
@@ -33,7 +33,7 @@ fn grant<W: Hands>(rules: &mut Manual, hands: &mut W) -> Told
     }
 }
 
-/// Goes on after the handler of a grant. Returns the outcome for the waiting clients.
+/// Continues after the handler of a grant. Returns the outcome for the waiting clients.
 #[tactic(auto, using(crate::proofs::DidLemmas::did_end))]
 pub(crate) fn grant_after<W: Hands>(rules: &mut Manual, service: Service, hands: &mut W) -> Told
     requires sound { IsSound rules.old.setup }
@@ -48,7 +48,7 @@ pub(crate) fn grant_after<W: Hands>(rules: &mut Manual, service: Service, hands:
     }
 }
 
-/// Tells the clients that wait for a manual ticket an outcome.
+/// Informs the clients that wait for a manual ticket about an outcome.
 #[tactic(auto, unfolding(crate::specs::ManualHandling::tell_waiters))]
 pub(crate) fn tell_waiters<W: Hands>(
     rules: &Manual,

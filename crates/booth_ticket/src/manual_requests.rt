@@ -52,7 +52,7 @@ fn is_another_shown(shown: Option<MemberId>, me: MemberId) -> bool
     shown.is_some_and(|shown| shown != me)
 }
 
-// Returns the immediate reply to a grant, or none if it is begun. `runs`: a handler runs.
+// Returns the immediate reply to a grant, or `None` if it is begun. `runs` is true if a handler runs.
 fn refused_grant(
     setup: &Setup,
     view: &ManualView,
@@ -87,7 +87,7 @@ fn refused_grant(
     None
 }
 
-// Returns the immediate reply to a revoke, or none if a record is written. `runs`: a handler runs.
+// Returns the immediate reply to a revoke, or `None` if a record is written. `runs` is true if a handler runs.
 fn refused_revoke(setup: &Setup, view: &ManualView, runs: bool) -> Option<u32>
     ensures { result ≡ refused_manual_revoke setup.now view.now runs }
 {
@@ -103,7 +103,7 @@ fn refused_revoke(setup: &Setup, view: &ManualView, runs: bool) -> Option<u32>
     Some(TIDL)
 }
 
-// Returns the immediate reply to a request, or none if it is begun.
+// Returns the immediate reply to a request, or `None` if it is begun.
 fn refused(
     setup: &Setup,
     view: &ManualView,
@@ -163,7 +163,7 @@ fn result_of_keep(wish: Wish, ok: bool) -> u32
     }
 }
 
-/// Writes the record, and sends the message that follows to all members. Returns the result for the client that
+/// Writes the record, and then sends the message about it to all members. Returns the result for the client that
 /// asked.
 pub(crate) fn keep_tried<W: Hands>(
     rules: &mut Manual,
@@ -238,7 +238,7 @@ fn job_for(view: &ManualView, job: Option<u64>, wish: Wish) -> Option<u64>
     if wants_handler(view, wish) { job } else { None }
 }
 
-// Begins a request that is not refused: writes its record, after its handler if there is one. Returns the result for
+// Begins a request that is not refused: writes its record, after its handler if it needs one. Returns the result for
 // the client that asked.
 fn begin_for<W: Hands>(
     rules: &mut Manual,
@@ -296,7 +296,7 @@ pub(crate) fn do_for<W: Hands>(
     }
 }
 
-/// Returns the state for clients.
+/// Returns the part with the state for clients.
 pub(crate) fn client_part(setup: &Setup, view: &ManualView) -> TicketPart
     ensures { result ≡ manual_state setup.now view.now }
 {
@@ -318,7 +318,7 @@ pub(crate) fn manual_reply<W: Hands>(rules: &Manual, request: &Request, answer: 
     hands.say(To::Client(request.from), &head, &part);
 }
 
-/// Returns the request in the form in which it waits: its client is also told about a failed write.
+/// Returns the request in the form in which it waits. Its client is also informed about a failed write.
 pub(crate) fn as_waiting(request: &Request) -> Request
     ensures { result ≡ as_waiting request.now }
 {

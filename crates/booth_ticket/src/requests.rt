@@ -50,7 +50,7 @@ fn holder_result(sure: bool, spare: u32, options: u32) -> u32
     }
 }
 
-// Returns the immediate reply to a grant, or none if the ticket is acquired.
+// Returns the immediate reply to a grant, or `None` if the ticket is acquired.
 fn refused_grant(
     setup: &Setup,
     view: &View,
@@ -85,8 +85,8 @@ fn refused_grant(
     None
 }
 
-// Returns the result of an acquisition. For a client that asked to hear about the write, a lease that could not be
-// written was begun.
+// Returns the result of an acquisition. For a client that asked to be informed about the write, a grant whose lease
+// could not be written counts as begun.
 fn grant_result(options: u32, told: Told) -> u32
     ensures { result ≡ grant_result options told }
 {
@@ -160,7 +160,7 @@ fn grant<W: Hands>(core: &mut Core, spare: u32, given: Given, options: u32, hand
     }
 }
 
-// Returns the immediate reply to a revoke, or none if the lease is released.
+// Returns the immediate reply to a revoke, or `None` if the lease is released.
 fn refused_revoke(setup: &Setup, view: &View, options: u32, now: u64) -> Option<u32>
     ensures { result ≡ refused_revoke setup.now view.now options now }
 {
@@ -227,7 +227,7 @@ fn revoke<W: Hands>(core: &mut Core, options: u32, now: u64, hands: &mut W) -> D
     }
 }
 
-// Does what the client requests, or refuses it.
+// Performs the client's request, or refuses it.
 fn do_for<W: Hands>(
     core: &mut Core,
     request: &Request,
@@ -248,7 +248,7 @@ fn do_for<W: Hands>(
     }
 }
 
-/// Follows a client's request: does its actions, tells the waiting clients, and then sends the reply.
+/// Handles a client's request: performs its actions, informs the waiting clients, and then sends the reply.
 pub(crate) fn follow_request<W: Hands>(
     core: &mut Core,
     request: &Request,

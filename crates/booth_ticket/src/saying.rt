@@ -17,7 +17,7 @@ use booth_wire::{Head, Say, Setup, TicketPart};
 
 type Places = ArrayVec<u32, MEMBERS>;
 
-// Adds a place to the others, if it is wanted.
+// Adds a place to the others, if `looked_for` is true.
 fn add_where(places: &mut Places, place: u32, looked_for: bool)
     requires room { array_vec_len places.old < MEMBERS }
     ensures { places.new.items ≡ places.old.items ++ cond looked_for (place ∷ []) [] }

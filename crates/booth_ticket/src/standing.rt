@@ -25,7 +25,7 @@ fn part_of(setup: &Setup, leader: MemberId, term: u32, valid_for: u32) -> Ticket
     }
 }
 
-// Returns the lease to report: that of the record, while this site holds the ticket by it.
+// Returns the lease to report: the lease of the record, while this site holds the ticket by it.
 fn told_lease(setup: &Setup, view: &View, now: u64) -> Option<Lease>
     ensures { result ≡ told_lease setup.now view.now now }
 {
@@ -58,7 +58,7 @@ pub(crate) fn told_part(setup: &Setup, view: &View, now: u64) -> TicketPart
     }
 }
 
-/// Returns the holder of a manual ticket: its lease has no end, and no term of its own.
+/// Returns the part with the holder of a manual ticket. Its lease has no end, and no term of its own.
 pub(crate) fn endless_part(setup: &Setup, owner: Option<Owner>) -> TicketPart
     ensures { result ≡ endless_part setup.now owner }
 {

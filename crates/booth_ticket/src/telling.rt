@@ -1,4 +1,4 @@
-//! The messages to clients: to those that wait, and to the one that asked.
+//! The messages to clients: to the clients that wait, and to the client that asked.
 ghost use Rattle.std.specs.Prelude.{◌≡◌, ◌≤◌, ◌<◌, ◌++◌, [], ◌∷◌, IsTrue, length, slice_set};
 ghost use Rattle.booth_wire.specs.Command.{kind_of};
 ghost use Rattle.booth_wire.specs.declared.command.Kind.{Kind};
@@ -15,7 +15,7 @@ use booth_wire::options::{COMMIT, WAIT};
 use booth_wire::results::{ASYN, FAIL, PEND, SUCCESS, XPRG};
 use booth_wire::{Cmd, Head, Setup, TicketPart};
 
-/// Returns whether a client asked to be told about a grant only once it is written.
+/// Returns whether a client asked to be informed about a grant only after it is written.
 pub(crate) fn commits(options: u32) -> bool
     ensures { result ≡ commits options }
 {
@@ -57,7 +57,7 @@ fn reply_part(setup: &Setup, view: &View, now: u64) -> TicketPart
     }
 }
 
-// Returns the result of an outcome for a client that waits, or none if the client waits on.
+// Returns the result of an outcome for a client that waits, or `None` if the client continues to wait.
 fn result_for(told: Told, waiter: &Waiter) -> Option<u32>
     ensures { result ≡ result_for told waiter.now }
 {
@@ -70,7 +70,7 @@ fn result_for(told: Told, waiter: &Waiter) -> Option<u32>
     }
 }
 
-// Tells a waiting client its result, if it has one.
+// Sends a waiting client its result, if it has one.
 #[tactic(auto, using(crate::proofs::DidLemmas::did_end), unfolding(crate::specs::Waiting::tell_one))]
 fn tell_one<W: Hands>(setup: &Setup, part: &TicketPart, waiter: &Waiter, told: Told, hands: &mut W)
     ensures did { Did W.did (tell_one setup.now part.now told waiter.now) tt hands.old hands.new }
@@ -81,7 +81,7 @@ fn tell_one<W: Hands>(setup: &Setup, part: &TicketPart, waiter: &Waiter, told: T
     }
 }
 
-// Has a client without a result wait on, behind those that were not looked at yet.
+// Adds a client without a result to the end of its list again, after the clients that were not handled yet.
 fn keep_waiting(waiter: Waiter, told: Told, list: u32, waiters: &mut Waiters)
     requires exists { list < length waiters.old }
     requires room { 0 < spare_in waiters.old }
@@ -93,8 +93,8 @@ fn keep_waiting(waiter: Waiter, told: Told, list: u32, waiters: &mut Waiters)
     }
 }
 
-/// Tells the clients that wait for the ticket an outcome, first to last, with this state of the ticket. A client that
-/// was told leaves the list.
+/// Informs the clients that wait for the ticket about an outcome, first to last, with this state of the ticket. A
+/// client that was informed leaves the list.
 pub(crate) fn tell_each<W: Hands>(
     setup: &Setup,
     part: &TicketPart,
@@ -118,7 +118,7 @@ pub(crate) fn tell_each<W: Hands>(
     }
 }
 
-/// Tells the clients that wait for an automatic ticket about its last action.
+/// Informs the clients that wait for an automatic ticket about its last action.
 #[tactic(auto, using(crate::proofs::DidLemmas::did_calls), unfolding(crate::specs::Waiting::tell))]
 pub(crate) fn tell<W: Hands>(
     core: &Core,
@@ -139,7 +139,7 @@ pub(crate) fn tell<W: Hands>(
     tell_each(core.setup(), &part, last.told, list, waiters, hands);
 }
 
-/// Has the client wait for the outcome, if its request was begun and it asked for that.
+/// Adds the client to the waiting clients, if its request was begun and it asked for that.
 pub(crate) fn join(request: &Request, answer: u32, list: u32, waiters: &mut Waiters)
     requires exists { list < length waiters.old }
     requires room { IsTrue (joins request.now answer) → 0 < spare_in waiters.old }

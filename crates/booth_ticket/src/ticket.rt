@@ -27,7 +27,7 @@ pub struct Owner {
 /// A ticket at one member.
 ///
 /// Every `now` is a reading of the member's clock in milliseconds since 1970, below 2^62. The clients that wait for
-/// it are at the place `list` of `waiters`; no call changes another list. No call allocates memory.
+/// the ticket are in the list `list` of `waiters`, and no call changes another list. No call allocates memory.
 #[derive(Drop)]
 pub struct Ticket {
     kind: Kind,
@@ -36,7 +36,7 @@ pub struct Ticket {
 /// The rules of a ticket, by its kind.
 #[derive(Drop)]
 enum Kind {
-    /// It is granted by a majority of the members.
+    /// A majority of the members grants it.
     Automatic(Core),
     /// Only an operator grants it.
     Manual(ManualTicket),
@@ -111,7 +111,7 @@ impl Ticket {
         }
     }
 
-    /// Returns the setup with which it started.
+    /// Returns the setup with which the ticket started.
     pub fn setup(&self) -> &Setup
         ensures value { result.now ≡ self.now.setup }
         ensures sound { IsSound result.now }
@@ -122,7 +122,7 @@ impl Ticket {
         }
     }
 
-    /// Handles a message of the member at the place `from`, which is another than this one.
+    /// Handles a message of the member at the place `from`, which is not this member.
     pub fn hear<W: Hands>(
         &mut self,
         now: u64,
@@ -152,8 +152,8 @@ impl Ticket {
         }
     }
 
-    /// Follows a client's request; `ready`: the prerequisites of the requested grant hold. If the ticket has a
-    /// handler, `job` is the number under which it may be started. The reply is the last act.
+    /// Handles a client's request. `ready` is true if the prerequisites of the requested grant hold. If the ticket
+    /// has a handler, `job` is the number under which it may be started. The reply is the last act.
     pub fn client<W: Hands>(
         &mut self,
         now: u64,
@@ -181,7 +181,7 @@ impl Ticket {
         }
     }
 
-    /// Handles the end of a handler. A job of another ticket, or an earlier one, changes nothing.
+    /// Handles the end of a handler. A job of another ticket, or an earlier job, changes nothing.
     pub fn handler_done<W: Hands>(
         &mut self,
         now: u64,
@@ -208,8 +208,8 @@ impl Ticket {
         }
     }
 
-    /// Handles the deadline; `ready`: the prerequisites of a takeover hold. If the ticket has a handler, `job` is the
-    /// number under which it may be started.
+    /// Handles the deadline. `ready` is true if the prerequisites of a takeover hold. If the ticket has a handler,
+    /// `job` is the number under which it may be started.
     pub fn tick<W: Hands>(
         &mut self,
         now: u64,
@@ -236,7 +236,7 @@ impl Ticket {
         }
     }
 
-    /// Returns its next deadline, in milliseconds since 1970.
+    /// Returns the ticket's next deadline, in milliseconds since 1970.
     pub fn deadline(&self) -> Option<u64>
         ensures { result ≡ deadline self.now.known }
     {
@@ -246,7 +246,7 @@ impl Ticket {
         }
     }
 
-    /// Returns the known owner now; none if no owner is known.
+    /// Returns the known owner now, or `None` if no owner is known.
     pub fn owner(&self, now: u64) -> Option<Owner>
         ensures { result ≡ owner self.now.setup self.now.known now }
     {
@@ -256,8 +256,8 @@ impl Ticket {
         }
     }
     /// Returns the state of the ticket now, for a client that asks for this ticket alone: the holder, the term of its
-    /// lease, and the seconds that are left. Only the holder reports a term; it is 0 if another member holds the
-    /// ticket or none does.
+    /// lease, and the seconds that are left. Only the holder reports a term. The term is 0 if another member holds
+    /// the ticket, or no member does.
     pub fn told(&self, now: u64) -> TicketPart
         ensures { result ≡ told_ticket self.now.setup self.now.known now }
     {

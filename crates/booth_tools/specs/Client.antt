@@ -175,7 +175,7 @@ IsTold asking to start outcome said entries =
     MatchBool (is_list asking.order) (IsListTold asking to start outcome said entries)
     (IsTalkTold asking to start outcome said entries)
 
--- the socket failed, or memory was out before it
+-- the socket failed, or the memory ran out before it
 abbrev pub IsSocketless : Outcome → List ℕ → List Entry → Type 0
 IsSocketless outs.OpenFault said entries = (said ≡ unopened_text)
     × (failed : Failed) × (entries ≡ Open None 0 [] [] (Err failed) ∷ [])
@@ -215,7 +215,7 @@ pub data IsClientLog (asked : ClientWords) (outcome : Outcome) (said : List ℕ)
 
 -- ---- in the code
 
--- the memory is that for the order, and no part of a list has arrived
+-- the memory fits the kind of the order, and no part of a list has arrived
 abbrev pub IsMemoryFor : Order → Memory → Type 0
 IsMemoryFor order (memories.List room) = (is_list order ≡ true) × AreNone room.parts
 IsMemoryFor order (memories.Talk room) = is_list order ≡ false

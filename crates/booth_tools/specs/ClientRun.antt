@@ -79,12 +79,12 @@ IsMoveAnswered NotSite = Unit {0}
 IsMoveAnswered (Stranded result) = Unit {0}
 IsMoveAnswered outcome = IsAnswered outcome
 
--- the arguments are those of a client, with any options
+-- the arguments ask for a client, with any options
 pub record AskForClient (program : Program) (words : List (List ℕ)) : Type 0 where
   pub asked : ClientWords
   pub asks : AsksClient program words asked
 
--- the arguments are those of a move, with any options
+-- the arguments ask for a move, with any options
 pub record AskForMove (program : Program) (words : List (List ℕ)) : Type 0 where
   pub asked : MoveWords
   pub own : program ≡ Booth

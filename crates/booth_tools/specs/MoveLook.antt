@@ -89,13 +89,13 @@ pub record IsElsewhere (asked : MoveWords) (asking : Asking) (entries : List Ent
 
 -- ---- in the code
 
--- how a move ends after a list, or that it goes on
+-- how a move ends after a list, or that it continues
 abbrev pub IsJudged : MoveWords → Listed → List ℕ → Option Ended → List Entry → Type 0
 IsJudged asked came text (Some ended) entries = LookEndsWith asked (Ok came) text ended.outcome ended.said entries
 IsJudged asked Whole text None entries = IsNotHeldIn asked text × (entries ≡ [])
 IsJudged asked came text None entries = ⊥
 
--- how a move ends after the look, or that it goes on
+-- how a move ends after the look, or that it continues
 abbrev pub IsLook : MoveWords → Asking → Option Ended → List Entry → Type 0
 IsLook asked asking (Some ended) entries = IsSettled asked asking ended.outcome ended.said entries
 IsLook asked asking None entries = IsElsewhere asked asking entries

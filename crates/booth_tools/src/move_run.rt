@@ -122,7 +122,7 @@ fn set_out<H: Host>(
     }
 }
 
-// Does what follows if the target is a site: reads the key, and goes on.
+// Continues if the target is a site: reads the key, and then does the rest.
 fn move_to<H: Host>(
     alloc: Global,
     asked: MoveWords,

@@ -113,7 +113,7 @@ fn unanswered<H: Host>(order: &Order, host: &mut H) -> Ended
     }
 }
 
-// Returns how a talk ends whose requests were sent; the last reply has these bytes.
+// Returns how a talk ends if its requests were sent and the last reply has these bytes.
 fn end<H: Host>(alloc: Global, asking: &Asking, last: &Waited, bytes: &[u8], host: &mut H) -> Ended
     requires { IsHeld asking.now last.now bytes.now }
     ensures past { GrewSome (EndsWith asking.now (Ok last.now) bytes.now result.outcome result.said)
@@ -162,7 +162,8 @@ fn talk_and_tell<H: Host>(
     }
 }
 
-/// Sends this peer the request, at this reading, and prints the result. The memory is that for the order.
+/// Sends this peer the request, at this reading, and prints the result. `IsMemoryFor` says that the memory fits the
+/// kind of the request.
 pub(crate) fn ask_and_tell<H: Host>(
     alloc: Global,
     asking: &Asking,

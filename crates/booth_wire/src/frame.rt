@@ -32,7 +32,7 @@ impl Frame {
     ///
     /// # Errors
     ///
-    /// `AllocError` if memory is out.
+    /// `AllocError` if the memory has run out.
     pub fn new(alloc: Global) -> Result<Frame, AllocError>
         ensures { IfOk result (λ frame. frame ≡ []) }
     {

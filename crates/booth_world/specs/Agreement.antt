@@ -1,4 +1,4 @@
--- When the lease rules' view of a ticket agrees with the state of a member in the world.
+-- The conditions under which the lease rules' view of a ticket agrees with the state of a member in the world.
 use Rattle.std.specs.Prelude.{◌≡◌, ◌≢◌, ℕ, ◌+◌, ◌<◌, ◌≤◌, Bool, IsSomeAnd, true, false, slice_index_or, ◌||◌, IsTrue, List, [], ◌∷◌, Option, Some, None}
 use Rattle.std.specs.Option.{ForSome}
 use Rattle.booth_base.specs.declared.address.MemberId.{MemberId}
@@ -23,8 +23,8 @@ abbrev pub AreIds : ℕ → (ℕ → MemberId) → Type 0
 AreIds members id_of =
     (s t : ℕ) → s < members → t < members → id_of s ≡ id_of t → s ≡ t
 
--- the setup of the member at this place of the cluster, in a session of version 2 or 1; the ticket's name and the
--- member's rank are the setup's own
+-- The setup of the member at this place of the cluster, in a session of version 2 or 1. The ticket's name and the
+-- member's rank stay as in the given setup.
 abbrev pub seat : Cluster → (ℕ → MemberId) → ℕ → Bool → Setup → Setup
 seat c id_of m second setup = record setup {
   me = id_of m;
@@ -38,7 +38,7 @@ seat c id_of m second setup = record setup {
 abbrev pub IsSeated : Cluster → (ℕ → MemberId) → ℕ → Bool → Setup → Type 0
 IsSeated c id_of m second setup = setup ≡ seat c id_of m second setup
 
--- ---- what the rules name by ids and the world names by places
+-- ---- members: the rules name them by ids, and the world by places
 
 abbrev pub bound_in : (ℕ → MemberId) → Option ℕ → Option MemberId
 bound_in id_of None = None
@@ -49,8 +49,8 @@ promise_in id_of None = None
 promise_in id_of (Some promise) =
     Some (record { to = id_of promise.to; term = promise.term; until = promise.until })
 
--- The rules have one type of record for both versions: a record of version 1 has version 1, and nothing but its term
--- and lease.
+-- The version of a record with this pledge. The rules have one type of record for both versions: a record of version
+-- 1 has version 1, a term and perhaps a lease, and nothing else.
 abbrev pub version_in : Option Pledge → ℕ
 version_in None = 1
 version_in (Some pledge) = 2
@@ -83,12 +83,13 @@ records_in id_of (kept ∷ others) = record_in id_of kept ∷ records_in id_of o
 
 -- ---- a round
 
--- the member at a place answered the round
+-- The member at this place answered the round.
 abbrev pub HasAnswered : Facts → Round → ℕ → Type 0
 HasAnswered f round place =
     (a : Answer) × (Has f.answers a) × (a.member ≡ place) × (a.round ≡ round)
 
--- the view's round is the one that the member has open, and the members noted as having answered it did
+-- The view's round is the round that the member has open. If the view notes that a member answered the round, the
+-- member has answered it.
 pub record IsOpen (f : Facts) (m : ℕ) (round : ViewRound) (open_round : Option Round) : Type 0 where
   pub own : Round
   pub open_at : open_round ≡ Some own
@@ -101,16 +102,16 @@ pub record IsOpen (f : Facts) (m : ℕ) (round : ViewRound) (open_round : Option
 
 -- ---- a view and a member
 
--- If the member may promise itself at its last reading, it has done so, from that reading on. So what it writes
--- before its own round includes its own answer to that round.
+-- If the member may promise itself at its last reading, it has done so, and the promise runs from that reading on. So
+-- the record that it writes before its own round includes its own answer to that round.
 abbrev pub PromisesItself : Cluster → ℕ → MemberState → Type 0
 PromisesItself c m x =
     x.abstain ≤ x.reading → ForSome x.promise (λ promise. promise.to ≢ m → promise.until ≤ x.reading)
     → (x.bound ≡ Some m) × (x.promise ≡ Some (new_promise c x m x.term))
 
--- A round that a member of version 2 will answer once its promise is written. It is one of the facts, of the site
--- with this id, with this number and in the member's term, and was opened no later than the true time of the member's
--- reading; and the member has voted for its site, and has promised it until this reading.
+-- A round that a member of version 2 will answer after its promise is written. The round is one of the facts: it has
+-- this number, its site has this id, and its term is the member's term. The site opened it no later than the true
+-- time of the member's reading. The member has voted for the round's site, and has promised it until this reading.
 pub record PromisesTo (id_of : ℕ → MemberId) (rounds : List Round) (second : Bool) (term at until : ℕ)
     (bound : Option ℕ) (promise : Option Promise) (to : MemberId) (number : ℕ) : Type 0 where
   pub in_second : second ≡ true
@@ -123,10 +124,10 @@ pub record PromisesTo (id_of : ℕ → MemberId) (rounds : List Round) (second :
   pub is_bound : bound ≡ Some round.site
   pub given : promise ≡ Some (record { to = round.site; term = term; until = until })
 
--- What holds while the write of a rule waits. Only a site gains, starts elections, releases and renews. The term of a
--- new election is above that of the record, and the member has voted for no other in it. A renewal is of the round
--- that is open, and the member has voted for itself. In version 2 the own promise is made by then, if it is allowed;
--- and a round that will be answered has its promise.
+-- The condition that holds while the write of a rule waits. Only a site gains a lease, starts an election, releases
+-- and renews. The term of a new election is above the term of the record, and the member has voted for no other
+-- member in it. A renewal is about the open round, and the member has voted for itself. In version 2 the member has
+-- promised itself by then, if it may; and a round that will be answered already has its promise.
 abbrev pub IsAsked : Cluster → (ℕ → MemberId) → Facts → ℕ → MemberState → View → Rule → Type 0
 IsAsked c id_of f m x view (rules.Ask reason) =
     (c.is_site m ≡ true) × (view.kept.term < view.term) × ForSome x.bound (λ bound. bound ≡ m)
@@ -138,15 +139,15 @@ IsAsked c id_of f m x view (rules.Answer kind to number request told) =
     PromisesTo id_of f.rounds x.second x.term x.at (x.reading + promise_time c) x.bound x.promise to number
 IsAsked c id_of f m x view rule = c.is_site m ≡ true
 
--- a record whose write waits is one that may have been written, and its pledge is the member's
+-- A record whose write waits may have been written, and its pledge is the member's.
 pub record IsTried (id_of : ℕ → MemberId) (x : MemberState) (tried : Record) : Type 0 where
   pub kept : KeptRecord
   pub may : Has x.may kept
   pub same : record_in id_of kept ≡ tried
   pub pledge : kept.pledge ≡ pledge_of x
 
--- What agrees. The member may still have a round that the view has ended. Only a site is a candidate or leads, and a
--- release message that will still be repeated is about a release of the member.
+-- A view agrees with a member's state. The member may still have a round that the view has ended. Only a site is a
+-- candidate or leads. A release message that will still be repeated is about a release by the member.
 pub record Agrees (c : Cluster) (id_of : ℕ → MemberId) (f : Facts) (m : ℕ) (view : View)
     (x : MemberState) : Type 0 where
   pub up : x.up ≡ true

@@ -22,16 +22,16 @@ use Rattle.booth_ticket.specs.Laws.{HasLease, IsDoneBy, asked_record, told_grant
 use Rattle.booth_ticket.specs.Requests.{follow_request, refused_grant}
 use Rattle.booth_ticket.specs.Saying.{others}
 
--- the lease in the next term, which runs from now on
+-- The lease in the next term, which runs from now on.
 abbrev pub lease_alone : Setup → View → ℕ → Lease
 lease_alone setup view now = record { term = next_term view; until = now + setup.times.expire }
 
--- its record, with the member's pledge from the record of the new term
+-- The record of this lease, with the member's pledge from the record of the new term.
 abbrev pub record_alone : Setup → View → ℕ → Record
 record_alone setup view now = record_of setup (asking setup view ADMN now) (Some (lease_alone setup view now))
 
--- the new term is written, and then the lease; the other members are informed, then the waiting clients, and then the
--- client that asked
+-- The member writes the new term and then the lease. It informs the other members, then the waiting clients, and then
+-- the client that asked.
 abbrev pub alone_acts : Setup → View → List Waiter → Request → ℕ → List Act
 alone_acts setup view waiters request now =
     let state : TicketPart = part_of setup setup.me (next_term view) (seconds_left (now + setup.times.expire) now) in
@@ -42,8 +42,9 @@ alone_acts setup view waiters request now =
     ++ said (Client request.from) (head_of setup RGnt request.number 0 0 SUCCESS) state
     ∷ [])
 
--- A grant of a ticket without a handler that is not refused, at a member that is a majority by its own answer, gives
--- the lease at once if both records are written; the client that asked gets success, and no client waits.
+-- A grant gives the lease at once under these conditions: the ticket has no handler, the grant is not refused, the
+-- member is a majority by its own answer, and both records are written. The client that asked gets success, and no
+-- client waits.
 abbrev pub GrantGainsAlone : Type 0
 GrantGainsAlone =
     (setup : Setup) (view : View) (waiters : List Waiter) (spare : ℕ) (ready : Bool) (request : Request)

@@ -21,7 +21,7 @@ use Rattle.booth_world.specs.Rules.{MemberMessage, CoreCall, Asks, Hears, Renews
 
 -- ---- answers
 
--- if a member may answer a round of a site, by its view, it may promise that site in the world
+-- If a member's view allows it to answer a round of a site, the member may promise that site in the world.
 abbrev pub PromisesWhereItMayAnswer : Type 0
 PromisesWhereItMayAnswer =
     (c : Cluster) (id_of : ℕ → MemberId) (f : Facts) (m : ℕ) (view : View) (x : MemberState)
@@ -38,7 +38,7 @@ pub record Caller : Type 0 where
   pub setup : Setup
   pub view : View
 
--- a member of a world, with its setup and a view that agrees with its state
+-- A member of a world, with its setup and a view that agrees with its state.
 pub record IsMember (c : Cluster) (w : WorldState) (member : Caller) : Type 0 where
   pub ids : AreIds c.members member.id_of
   pub below : member.place < c.members
@@ -47,7 +47,7 @@ pub record IsMember (c : Cluster) (w : WorldState) (member : Caller) : Type 0 wh
   pub view_facts : ViewFacts member.setup member.view
   pub agrees : Agrees c member.id_of w.facts member.place member.view (w.member member.place)
 
--- what holds for each member of each world to which a list of steps leads
+-- The property holds for each member of each world to which a list of steps leads.
 abbrev pub OfEachMember : (Cluster → WorldState → Caller → Type 0) → Type 0
 OfEachMember P =
     (c : Cluster) → HasClocks c → (steps : List WorldStep) → IsRun c (opening c) steps
@@ -61,16 +61,16 @@ mark_at w m = mark_of w.now m (w.member m)
 
 -- ---- the result of a call
 
--- steps of the member lead from this world to the given result
+-- Steps of the member lead from this world to the given result.
 abbrev pub Gives : Cluster → (ℕ → MemberId) → WorldState → ℕ → Given → Type 0
 Gives c id_of w m given = LeadsTo c id_of (mark_at w m) w.facts (w.member m) given
 
--- the same in a session of this version
+-- Steps of the member in a session of this version lead from this world to the given result.
 abbrev pub GivesIn : Bool → Cluster → (ℕ → MemberId) → WorldState → ℕ → Given → Type 0
 GivesIn second c id_of w m given =
     LeadsTo c id_of (record (mark_at w m) { second = second }) w.facts (w.member m) given
 
--- the result of a call, at the member's last reading
+-- The result of a call, at the member's last reading.
 abbrev pub given_by_call : Rules → WorldState → Caller → CoreCall → Given
 given_by_call rules w member call =
     given_by
@@ -78,7 +78,7 @@ given_by_call rules w member call =
     (records_in member.id_of (state_of w member).may)
     w.facts.releases
 
--- the result after the write that waits
+-- The result of the member's waiting write, which succeeded or failed.
 abbrev pub given_by_answer : Rules → WorldState → Caller → Bool → Given
 given_by_answer rules w member ok =
     given_by
@@ -86,7 +86,7 @@ given_by_answer rules w member ok =
     (may_answered member.view.waiting ok (records_in member.id_of (state_of w member).may))
     (releases_answered (mark_at w member.place) member.view.waiting ok w.facts.releases)
 
--- the result of a start, after which the record that it read is the only one that may have been written
+-- The result of a start: the record that the start read is the only one that may have been written.
 abbrev pub given_by_start : Rules → WorldState → ℕ → Setup → Record → Given
 given_by_start rules w m setup kept = record {
   view = rules.start setup kept (w.member m).reading;
@@ -97,7 +97,7 @@ given_by_start rules w m setup kept = record {
 
 -- ---- the calls
 
--- a message of a member arrives at the true time of the reading, and is a fact about that member
+-- A message of a member arrives at the true time of the reading, and is a fact about its sender.
 pub record IsHeard (c : Cluster) (w : WorldState) (member : Caller) (message : MemberMessage)
     : Type 0 where
   pub timely : (state_of w member).at ≡ w.now
@@ -105,7 +105,7 @@ pub record IsHeard (c : Cluster) (w : WorldState) (member : Caller) (message : M
   pub from : message.head.from ≡ member.id_of message.sender
   pub fact : IsFact member.id_of w.facts message.sender message.head message.part message.head.cmd
 
--- the condition of a call; in addition, no write waits
+-- The condition of a call, apart from the condition that no write waits.
 abbrev pub MayCall : Cluster → WorldState → Caller → CoreCall → Type 0
 MayCall c w member (Asks reason) = IsTrue member.setup.site
 MayCall c w member (Hears message) = IsHeard c w member message
@@ -113,8 +113,8 @@ MayCall c w member RenewsLease = IsTrue (is_leader member.view.role)
 MayCall c w member (GivesBack reason) = IsTrue member.setup.site
 MayCall c w member call = Unit {0}
 
--- a member that is down starts with a record that it may have written, in a session of either version, but not of
--- version 1 after one of version 2
+-- A member that is down starts with a record that it may have written. Its session may be of either version, but not
+-- of version 1 after one of version 2.
 abbrev pub StartsAreSteps : Rules → Type 0
 StartsAreSteps rules =
     (c : Cluster) → HasClocks c → (steps : List WorldStep) → IsRun c (opening c) steps
@@ -126,7 +126,7 @@ StartsAreSteps rules =
     → GivesIn second c id_of (world_of c steps) m (given_by_start rules (world_of c steps) m setup kept)
 
 -- Each start, each call and each result of a write gives steps. The result of a write may come later than its call,
--- after steps of others.
+-- after steps of other members.
 pub record CallsAreSteps (rules : Rules) : Type 0 where
   pub start_gives : StartsAreSteps rules
   pub call_gives : OfEachMember (λ c w member.
@@ -135,7 +135,7 @@ pub record CallsAreSteps (rules : Rules) : Type 0 where
   pub answer_gives : OfEachMember (λ c w member.
       (ok : Bool) → Gives c member.id_of w member.place (given_by_answer rules w member ok))
 
--- steps that one member may make from a world are steps of the world
+-- The steps that one member may make from a world are steps of the world.
 abbrev pub StepsOfOneAreSteps : Type 0
 StepsOfOneAreSteps =
     (c : Cluster) (w : WorldState) (m : ℕ) (steps : List MemberStep) → m < c.members

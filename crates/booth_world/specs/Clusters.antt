@@ -10,7 +10,7 @@ use Rattle.booth_node.specs.Opening.{is_site_at}
 use Rattle.booth_node.specs.World.{World, members_of, begins_with}
 use Rattle.booth_world.specs.States.{Promise, KeptRecord, Cluster}
 
--- the place of the member with an id
+-- The place of the member with this id.
 abbrev pub place_of : World → MemberId → ℕ
 place_of w id = unwrap_or (position (has_id id) w.members) 0
 
@@ -23,7 +23,7 @@ promise_at w None = None
 promise_at w (Some promise) =
     Some (record { to = place_of w promise.to; term = promise.term; until = promise.until })
 
--- a record with members named by their places: a record of version 2 has a pledge
+-- A record with its members named by place. A record of version 2 has a pledge.
 abbrev pub kept_at : World → Record → KeptRecord
 kept_at w kept = record {
   term = kept.term;
@@ -33,7 +33,7 @@ kept_at w kept = record {
       else None;
 }
 
--- the cluster of a ticket
+-- The cluster of a ticket, from the world's members, clocks and configuration.
 abbrev pub cluster_of : World → TicketConf → Cluster
 cluster_of w ticket = record {
   members = members_of w;

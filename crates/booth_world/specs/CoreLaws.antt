@@ -1,4 +1,5 @@
--- The three laws (one holder, holders apart, terms never fall), for a list of entries of the lease cores of one ticket.
+-- The three laws (one holder, holders apart, terms never fall), for a list of entries of the lease cores of one
+-- ticket.
 use Rattle.std.specs.Prelude.{◌≡◌, ◌≢◌, ◌⊎◌, ℕ, ◌<◌, ◌≤◌, List, [], ◌∷◌, true, None, Some, IsSomeAnd}
 use Rattle.booth_rec.specs.declared.record.Lease.{Lease}
 use Rattle.booth_rec.specs.declared.record.Record.{Record}
@@ -12,13 +13,14 @@ use Rattle.booth_world.specs.Cores.{CoreEntry, HasAnswer, StartsWith, Cores, ope
 
 -- ---- releases, by the entries
 
--- the rules whose write releases a term: a release, and the end of a round
+-- The rules whose write releases a term: a release, and the end of a round.
 abbrev pub IsReleasing : Rule → Type 0
 IsReleasing (rules.Release reason) = Unit {0}
 IsReleasing rules.EndRound = Unit {0}
 IsReleasing rule = ⊥
 
--- the result of a write releases a term if a record with it, without a lease, was written for such a rule
+-- The result of a write releases a term if the write succeeded, its record has no lease, and a rule of `IsReleasing`
+-- waited for it.
 abbrev pub IsReleaseAt : Cores → CoreEntry → Release → Type 0
 IsReleaseAt cores (HasAnswer m kept true) release =
     (release ≡ record { site = m; term = kept.term; at = cores.now }) × (kept.lease ≡ None)
@@ -33,8 +35,8 @@ IsReleaseIn c cast cores (entry ∷ entries) release =
 
 -- ---- holders
 
--- a member holds by a record that it may have written, while the record is in force at what the member's clock reads
--- now
+-- A member holds by a record that it may have written, while the record is in force at the time that the member's
+-- clock reads now.
 abbrev pub CoreHoldsBy : Cluster → Cores → ℕ → Record → Type 0
 CoreHoldsBy c cores s k =
     (s < c.members) × Has (cores.place s).may k × IsInForce k (reads c s cores.now)
@@ -44,7 +46,7 @@ CoreHolds c cores s = (k : Record) × CoreHoldsBy c cores s k
 
 -- ---- the laws
 
--- Entries from the very beginning, in two parts.
+-- A list of entries from the very beginning, in two parts: the early entries and the late ones.
 pub record CoreCourse (c : Cluster) (cast : Cast) (early late : List CoreEntry) : Type 0 where
   pub clocks : HasClocks c
   pub is_cast : IsCast c cast
@@ -57,15 +59,15 @@ early_cores c cast early = cores_after c cast (opening_cores c cast) early
 abbrev pub late_cores : Cluster → Cast → List CoreEntry → List CoreEntry → Cores
 late_cores c cast early late = cores_after c cast (early_cores c cast early) late
 
--- no two sites ever hold the ticket at the same moment
+-- No two sites ever hold the ticket at the same time.
 abbrev pub CoresHoldOne : Type 0
 CoresHoldOne =
     (c : Cluster) (cast : Cast) (entries : List CoreEntry) → CoreCourse c cast entries [] → IsTimed c
     → (s t : ℕ) → CoreHolds c (early_cores c cast entries) s
     → CoreHolds c (early_cores c cast entries) t → s ≡ t
 
--- If one site holds by a record and another holds later, acquire-after lies between each time at which that record
--- was in force and the later one, or an entry between the two released the record's lease.
+-- One site holds by a record, and another site holds later. Then acquire-after lies between each time at which that
+-- record was in force and the later time, or an entry between the two released the record's lease.
 abbrev pub CoresAreApart : Type 0
 CoresAreApart =
     (c : Cluster) (cast : Cast) (early late : List CoreEntry) → CoreCourse c cast early late → IsTimed c
@@ -75,7 +77,8 @@ CoresAreApart =
     ⊎ ((release : Release) × IsReleaseIn c cast (early_cores c cast early) late release
     × GivesBackLease s k.lease release)
 
--- if each record that a member may have written has at least a term, so has each one later
+-- If each record that a member may have written has at least this term, then so has each record that it may have
+-- written later.
 abbrev pub CoreTermsNeverFall : Type 0
 CoreTermsNeverFall =
     (c : Cluster) (cast : Cast) (early late : List CoreEntry) → CoreCourse c cast early late
@@ -85,7 +88,7 @@ CoreTermsNeverFall =
 
 -- ---- version 2 alone
 
--- a start is of version 2
+-- A start in this entry is of version 2.
 abbrev pub IsSecondStart : CoreEntry → Type 0
 IsSecondStart (StartsWith m session kept) = session.second ≡ true
 IsSecondStart entry = Unit {0}
@@ -94,8 +97,8 @@ abbrev pub AreSecondStarts : List CoreEntry → Type 0
 AreSecondStarts [] = Unit {0}
 AreSecondStarts (entry ∷ entries) = IsSecondStart entry × AreSecondStarts entries
 
--- If each start is of version 2, and one member holds by a lease and another holds later by a lease, the later lease
--- has the later term.
+-- If each start is of version 2, and two members hold by leases, one after the other, the later lease has the greater
+-- term.
 abbrev pub LaterCoreHasLaterTerm : Type 0
 LaterCoreHasLaterTerm =
     (c : Cluster) (cast : Cast) (early late : List CoreEntry) → CoreCourse c cast early late → IsTimed c

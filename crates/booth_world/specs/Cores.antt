@@ -1,4 +1,4 @@
--- Entries of the lease cores of one ticket, at all members, and the state of each member after them: the records that
+-- Entries of the lease cores of one ticket at all members, and the state of each member after them. The records that
 -- may have been written, the messages and the releases follow from the entries alone.
 use Rattle.std.specs.Prelude.{◌≡◌, refl, ℕ, ◌<◌, ◌≤◌, nat_lt, List, [], ◌∷◌, Bool, true, Option, Some, None, IsTrue, IsSomeAnd}
 use Rattle.std.specs.Option.{ForSome}
@@ -27,12 +27,12 @@ pub record Session : Type 0 where
   pub rank : ℕ
   pub few : nat_lt rank MEMBERS ≡ true
 
--- before a member has started
+-- The session of a member that has not started yet.
 abbrev pub opening_session : Bool → Session
 opening_session second = record { second = second; rank = 0; few = refl }
 
--- An event: true time passes; or, at one member, the member reads its clock, calls its core, or gets the result of a
--- write; it stops, or starts with a record, in a session of its own.
+-- An event. Either true time passes, or one member does something: it reads its clock, calls its core, gets the
+-- result of a write, stops, or starts with a record in a new session.
 pub data CoreEntry : Type 0 where
   TimePasses : (time : ℕ) → CoreEntry
   ReadsTime : (m time : ℕ) → CoreEntry
@@ -43,8 +43,8 @@ pub data CoreEntry : Type 0 where
 
 -- ---- the state of the members after entries
 
--- A member: its view while it is up; its session, or its last one while it is down; its last reading and the true
--- time of it; and the records that it may have written.
+-- The state of a member: its view while it is up; its session, or its last session while it is down; its last reading
+-- and the true time of that reading; and the records that it may have written.
 pub record CorePlace : Type 0 where
   pub view : Option View
   pub session : Session
@@ -52,7 +52,7 @@ pub record CorePlace : Type 0 where
   pub at : ℕ
   pub may : List Record
 
--- All members, the messages that were sent, the releases, and the marks that facts may carry.
+-- The state of all members, with the messages that were sent, the releases, and the marks that facts may carry.
 pub record Cores : Type 0 where
   pub now : ℕ
   pub place : ℕ → CorePlace
@@ -60,7 +60,7 @@ pub record Cores : Type 0 where
   pub releases : List Release
   pub marks : List Mark
 
--- The members at the places: their ids, and their setups, each for any session.
+-- The members at the places: the id of each, and the setup of each for any session.
 pub record Cast : Type 0 where
   pub id_of : ℕ → MemberId
   pub setup : ℕ → Session → Setup
@@ -71,7 +71,7 @@ pub record IsCast (c : Cluster) (cast : Cast) : Type 0 where
       → IsSeated c cast.id_of m session.second (cast.setup m session)
   pub sound : (m : ℕ) → m < c.members → (session : Session) → IsSound (cast.setup m session)
 
--- No member has started: each has what it begins with.
+-- The state before any start: each member has its beginning.
 abbrev pub opening_cores : Cluster → Cast → Cores
 opening_cores c cast = record {
   now = 0;
@@ -87,9 +87,9 @@ opening_cores c cast = record {
   marks = [];
 }
 
--- ---- what may come next
+-- ---- the entries that may come next
 
--- the condition of a call without a message; in addition, no write waits
+-- The condition of a call that handles no message, apart from the condition that no write waits.
 abbrev pub MayCallAlone : Setup → View → CoreCall → Type 0
 MayCallAlone setup view (Asks reason) = IsTrue setup.site
 MayCallAlone setup view (Hears message) = ⊥
@@ -98,19 +98,21 @@ MayCallAlone setup view RenewsLease = IsTrue (is_leader view.role)
 MayCallAlone setup view (GivesBack reason) = IsTrue setup.site
 MayCallAlone setup view call = Unit {0}
 
--- the setup of the member's session
+-- The setup of the member in its session.
 abbrev pub setup_in : Cast → Cores → ℕ → Setup
 setup_in cast cores m = cast.setup m (cores.place m).session
 
--- a message arrives that was sent, with its sender's id, at the true time of the reading
+-- The condition of a call. A message that arrives was sent, has its sender's id, and arrives at the true time of the
+-- reading.
 abbrev pub MayCallCore : Cast → Cores → ℕ → View → CoreCall → Type 0
 MayCallCore cast cores m view (Hears message) =
     (Has cores.said message) × (message.head.from ≡ cast.id_of message.sender)
     × ((cores.place m).at ≡ cores.now)
 MayCallCore cast cores m view call = MayCallAlone (setup_in cast cores m) view call
 
--- While a write waits, only its result or a stop may come; in version 2 no reading comes in between. A start reads
--- one of the records that may have been written, and is not of version 1 after one of version 2.
+-- The condition of an entry. While a write waits, the member does not call its core, and in version 2 it does not
+-- read its clock either. A start reads one of the records that may have been written, and is not of version 1 after
+-- one of version 2.
 abbrev pub MayEnter : Cluster → Cast → Cores → CoreEntry → Type 0
 MayEnter c cast cores (TimePasses time) = (cores.now ≤ time) × (time < c.span)
 MayEnter c cast cores (ReadsTime m time) =
@@ -132,7 +134,7 @@ MayEnter c cast cores (StartsWith m session kept) =
 
 -- ---- the state after an entry
 
--- the messages after one more
+-- The list of sent messages after one more.
 abbrev pub said_more : ℕ → Say → List MemberMessage → List MemberMessage
 said_more m says.Nothing said = said
 said_more m (says.All head part) said = record { sender = m; head = head; part = part } ∷ said
@@ -149,7 +151,7 @@ mark_in cores m = record {
   now = cores.now;
 }
 
--- a member's core has returned this, in this session
+-- The state after a member's core returned this result in this session.
 abbrev pub has_given : Cores → ℕ → Session → Given → Cores
 has_given cores m session given = record {
   now = cores.now;
@@ -159,7 +161,7 @@ has_given cores m session given = record {
   marks = record (mark_in cores m) { second = session.second } ∷ cores.marks;
 }
 
--- the result of a call, and after the write that waits
+-- The result of a call with this view, and the result after the write that waits.
 abbrev pub call_given : Cast → Cores → ℕ → CoreCall → View → Given
 call_given cast cores m call view =
     given_by
@@ -174,7 +176,7 @@ answer_given cast cores m ok view =
     (may_answered view.waiting ok (cores.place m).may)
     (releases_answered (mark_in cores m) view.waiting ok cores.releases)
 
--- if the member is up
+-- The state after a call of the member's core. If the member is down, the state is unchanged.
 abbrev pub after_call : Cast → Cores → ℕ → CoreCall → Option View → Cores
 after_call cast cores m call None = cores
 after_call cast cores m call (Some view) =
@@ -203,7 +205,7 @@ entered c cast cores (StartsWith m session kept) = has_given cores m session (re
   releases = cores.releases;
 })
 
--- each entry may come in the state before it
+-- Each entry is allowed in the state before it.
 abbrev pub AreEntered : Cluster → Cast → Cores → List CoreEntry → Type 0
 AreEntered c cast cores [] = Unit {0}
 AreEntered c cast cores (entry ∷ entries) =

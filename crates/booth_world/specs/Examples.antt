@@ -12,7 +12,7 @@ use Rattle.booth_world.specs.Steps.{WorldStep, Elects, Renews, Promises, Answers
 
 -- ---- three members, whose clocks differ by as much as the drift allows over so short a time
 
--- one clock jumps ahead, one stands still for a moment, and one is exact
+-- The readings of three clocks: one jumps ahead, one stands still briefly, and one is exact.
 abbrev pub ahead : List ℕ
 ahead = 0 ∷ 1 ∷ 2 ∷ 3 ∷ 5 ∷ 6 ∷ 7 ∷ 8 ∷ []
 
@@ -38,7 +38,7 @@ three = record {
   begins = λ m. begins_bare;
 }
 
--- ---- what they do
+-- ---- the steps of the members
 
 abbrev pub unleased : ℕ → KeptRecord
 unleased term = record { term = term; lease = None; pledge = None }
@@ -50,7 +50,7 @@ won_by round = record {
   pledge = None;
 }
 
--- all start, in version 1, and have written nothing
+-- All members start, in version 1, and have written nothing.
 abbrev pub start : List WorldStep
 start =
     MemberDoes 0 (Starts none_kept false) ∷ MemberDoes 1 (Starts none_kept false)
@@ -60,20 +60,20 @@ abbrev pub all_read_at : ℕ → List WorldStep
 all_read_at time =
     Passes time ∷ MemberDoes 0 ReadsClock ∷ MemberDoes 1 ReadsClock ∷ MemberDoes 2 ReadsClock ∷ []
 
--- a member promises a round until a reading, and answers it
+-- A member promises a round until a reading, and answers it.
 abbrev pub answers : ℕ → Round → ℕ → List WorldStep
 answers m round until =
     MemberDoes m (Promises round.site round.term)
     ∷ MemberDoes m (Answers round (record { to = round.site; term = round.term; until = until }))
     ∷ []
 
--- a site starts a new term, and opens its first round
+-- A site starts a new term, and opens its first round.
 abbrev pub election : ℕ → ℕ → List WorldStep
 election s term =
     MemberDoes s (Learns term) ∷ MemberDoes s (TriesKeep (unleased term))
     ∷ MemberDoes s (HasKept (unleased term)) ∷ MemberDoes s Elects ∷ []
 
--- with its own answer and that of the last member a site gains a lease, and writes it
+-- A site gains a lease with its own answer and the last member's answer, and writes it.
 abbrev pub gain : Round → List WorldStep
 gain round =
     MemberDoes round.site (Gains round (round.site ∷ 2 ∷ []))
@@ -123,7 +123,7 @@ crashed_and_started =
 
 -- ---- a member whose view agrees with its state
 
--- the id of a place is its number
+-- The id of the member at a place is the place's number.
 abbrev pub id_of_place : ℕ → MemberId
 id_of_place m = record { 0 = m }
 

@@ -1,4 +1,5 @@
--- What tells leases apart, whatever clocks do: there is no premise on any clock here, not even that it never falls.
+-- The terms of leases distinguish them, whatever clocks do. No definition here has a premise on a clock, not even
+-- that it never falls.
 use Rattle.std.specs.Prelude.{◌≡◌, ◌≢◌, ◌⊎◌, ◌++◌, ℕ, ◌<◌, ◌≤◌, false, Some, List}
 use Rattle.booth_conf.specs.declared.tickets.TicketConf.{TicketConf}
 use Rattle.booth_rec.specs.declared.record.Lease.{Lease}
@@ -19,7 +20,7 @@ pub record HasGained (c : Cluster) (w : WorldState) (s : ℕ) (lease : Lease) : 
   pub has : kept.lease ≡ Some lease
   pub fresh : (c.begins s).kept.lease ≢ Some lease
 
--- If each start is of version 2, two gained leases of one term are of one member.
+-- If each start is of version 2, two gained leases with the same term belong to one member.
 abbrev pub TermsAreOfOneMember : Type 0
 TermsAreOfOneMember =
     (c : Cluster) (early late : List WorldStep) → IsRun c (opening c) (early ++ late) → AreSecond (early ++ late)
@@ -27,11 +28,12 @@ TermsAreOfOneMember =
     → HasGained c (world_of c early) s first → HasGained c (world_of c (early ++ late)) t second
     → first.term ≡ second.term → s ≡ t
 
--- each record that the member may have written is of a term below this one
+-- Each record that the member may have written has a term below this one.
 abbrev pub IsBelow : WorldState → ℕ → ℕ → Type 0
 IsBelow w s term = (k : KeptRecord) → Has (w.member s).may k → k.term < term
 
--- A lease whose term its member had not written yet when another lease was gained has the greater term.
+-- A lease has a greater term than another lease if its member had not yet written its term when the other lease was
+-- gained.
 abbrev pub LaterAskersHaveLaterTerms : Type 0
 LaterAskersHaveLaterTerms =
     (c : Cluster) (early late : List WorldStep) → IsRun c (opening c) (early ++ late) → AreSecond (early ++ late)
@@ -40,8 +42,8 @@ LaterAskersHaveLaterTerms =
     → IsBelow (world_of c early) t second.term
     → first.term < second.term
 
--- The same for the facts: a lease by a round that was opened after another lease was gained has no smaller term, and
--- in the same term it is of the same site.
+-- The law for the facts: if a round was opened after another lease was gained, the lease of that round has no smaller
+-- term. In the same term, both leases belong to the same site.
 abbrev pub LaterRoundsHaveLaterTerms : Type 0
 LaterRoundsHaveLaterTerms =
     (c : Cluster) (early late : List WorldStep) → IsRun c (opening c) (early ++ late) → AreSecond (early ++ late)
@@ -49,12 +51,12 @@ LaterRoundsHaveLaterTerms =
     → (Has (world_of c early).facts.rounds h.round → ⊥)
     → (g.round.term ≤ h.round.term) × (g.round.term ≡ h.round.term → g.round.site ≡ h.round.site)
 
--- no record that the member may have written has this lease
+-- No record that the member may have written has this lease.
 abbrev pub HasNot : WorldState → ℕ → Lease → Type 0
 HasNot w s lease = (k : KeptRecord) → Has (w.member s).may k → k.lease ≢ Some lease
 
--- A lease that a member gains after it went down has a greater term than each lease that it gained before: within a
--- term its leases are of one life of its daemon.
+-- A lease that a member gains after it went down has a greater term than each lease that it gained before. So all
+-- leases of one term belong to one run of its daemon.
 abbrev pub LivesHaveTheirTerms : Type 0
 LivesHaveTheirTerms =
     (c : Cluster) (early late : List WorldStep) → IsRun c (opening c) (early ++ late) → AreSecond (early ++ late)
@@ -73,7 +75,7 @@ pub record HasGainedAt (w : World) (ticket : TicketConf) (m : ℕ) (moment : Mom
   pub has : kept.lease ≡ Some lease
   pub fresh : (begins_with w m ticket.name).lease ≢ Some lease
 
--- two gained leases of one term are of one member
+-- Two gained leases with the same term belong to one member.
 abbrev pub TermsAreOfOneIn : World → Type 0
 TermsAreOfOneIn w =
     (ticket : TicketConf) → IsAutomatic w ticket
@@ -82,7 +84,7 @@ TermsAreOfOneIn w =
     → HasGainedAt w ticket s early first → HasGainedAt w ticket t late second
     → first.term ≡ second.term → s ≡ t
 
--- two holders, each by its own clock at its own moment, whose leases have one term, are one member
+-- If two holders have leases with the same term, each by its own clock and at its own moment, they are the same member.
 abbrev pub HoldersOfOneTermIn : World → Type 0
 HoldersOfOneTermIn w =
     (ticket : TicketConf) → IsAutomatic w ticket
@@ -92,14 +94,15 @@ HoldersOfOneTermIn w =
     → HoldsBy w ticket s early kept → HoldsBy w ticket t late other
     → first.term ≡ second.term → s ≡ t
 
--- Each record for the ticket that the member may have written at this moment, or writes next in its turn, is of a
--- term below this one.
+-- Each record for the ticket that the member may have written at this moment has a term below this one. So has the
+-- record that it writes next in its turn.
 abbrev pub IsBelowAt : (w : World) → TicketConf → ℕ → Moment w → ℕ → Type 0
 IsBelowAt w ticket m moment term =
     (kept : Record) → Kept (may_at w ticket m moment) kept ⊎ IsComing ticket.name (entries_of m moment.before) kept
     → kept.term < term
 
--- a lease whose term its member had not written yet when another lease was gained has the greater term
+-- A lease has a greater term than another lease if its member had not yet written its term when the other lease was
+-- gained.
 abbrev pub AskersHaveLaterTermsIn : World → Type 0
 AskersHaveLaterTermsIn w =
     (ticket : TicketConf) → IsAutomatic w ticket

@@ -17,12 +17,13 @@ use Rattle.booth_world.specs.Messages.{IsSaid}
 
 -- ---- the records that may have been written
 
--- after a call, the record that its action writes is one more
+-- The records that may have been written after a call: the record that its action writes is added.
 abbrev pub may_after : Option Record → List Record → List Record
 may_after None may = may
 may_after (Some tried) may = tried ∷ may
 
--- after a write, a record that was written is the only one, and one that was not is still one of them
+-- The records that may have been written after the result of a write. A record that was written is the only one. A
+-- record whose write failed is still one of them.
 abbrev pub may_answered : Option Waiting → Bool → List Record → List Record
 may_answered None ok may = may
 may_answered (Some waits) true may = waits.tried ∷ []
@@ -30,8 +31,8 @@ may_answered (Some waits) false may = may
 
 -- ---- the facts of a call
 
--- The marks of a call's facts: its member, the member's last reading and the true time of it, and the true time now;
--- and the version of the member's session, which is that of its starts.
+-- The marks of a call's facts: its member; the member's last reading and the true time of that reading; the true time
+-- now; and the version of the member's session, which is the version of its starts.
 pub record Mark : Type 0 where
   pub member : ℕ
   pub second : Bool
@@ -53,20 +54,22 @@ IsMarkedAnswer mark answer =
 abbrev pub IsMarkedGain : Mark → Gain → Type 0
 IsMarkedGain mark gain = (gain.round.site ≡ mark.member) × (gain.at ≡ mark.now)
 
--- each new fact has the mark, and the releases are exactly these
+-- Each new fact has the mark, and the releases are exactly these.
 pub record AddsOnly (mark : Mark) (releases : List Release) (f f' : Facts) : Type 0 where
   pub rounds : (r : Round) → Has f'.rounds r → Has f.rounds r ⊎ IsMarkedRound mark r
   pub answers : (a : Answer) → Has f'.answers a → Has f.answers a ⊎ IsMarkedAnswer mark a
   pub leases : (g : Gain) → Has f'.leases g → Has f.leases g ⊎ IsMarkedGain mark g
   pub releases_now : f'.releases ≡ releases
 
--- a written record releases its term if a release, or the end of a round, waited for the write
+-- The releases after a written record. It releases its term if a release, or the end of a round, waited for the
+-- write.
 abbrev pub released_by : Rule → Release → List Release → List Release
 released_by (rules.Release reason) new releases = new ∷ releases
 released_by rules.EndRound new releases = new ∷ releases
 released_by rule new releases = releases
 
--- after a write, one more release if a release waited and was written: that of the record's term
+-- The releases after a write. If a release waited and its record was written, the release of the record's term is
+-- added.
 abbrev pub releases_answered : Mark → Option Waiting → Bool → List Release → List Release
 releases_answered mark (Some waits) true releases =
     released_by waits.rule
@@ -83,7 +86,7 @@ pub record Given : Type 0 where
   pub may : List Record
   pub releases : List Release
 
--- by a rule's outcome, from the records that may have been written before, and the releases
+-- The result of a rule's outcome, from the records that may have been written before and the releases.
 abbrev pub given_by : Outcome → List Record → List Release → Given
 given_by outcome may releases = record {
   view = outcome.view;
@@ -92,7 +95,7 @@ given_by outcome may releases = record {
   releases = releases;
 }
 
--- The member has reached a state that agrees with the view, its messages are facts, the records that may have been
+-- The member has reached a state that agrees with the view. Its messages are facts, the records that it may have
 -- written are the given ones, and it has not read its clock.
 pub record IsReached (c : Cluster) (id_of : ℕ → MemberId) (mark : Mark) (given : Given) (f : Facts)
     (x : MemberState) : Type 0 where
@@ -103,7 +106,7 @@ pub record IsReached (c : Cluster) (id_of : ℕ → MemberId) (mark : Mark) (giv
   pub same_reading : x.reading ≡ mark.reading
   pub same_at : x.at ≡ mark.at
 
--- these steps of the member are allowed, lead to that state, and add no other facts
+-- These steps of the member are allowed, lead to the given result, and add no other facts.
 pub record LeadsTo (c : Cluster) (id_of : ℕ → MemberId) (mark : Mark) (f : Facts) (x : MemberState)
     (given : Given) : Type 0 where
   pub steps : List MemberStep

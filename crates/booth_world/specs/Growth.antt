@@ -1,4 +1,4 @@
--- Shadows grow: the shadow of a later moment continues that of an earlier one.
+-- Shadows grow: the shadow of a later moment continues the shadow of an earlier one.
 use Rattle.std.specs.Prelude.{◌≡◌, ◌⊎◌, ◌++◌, List, [], ◌∷◌}
 use Rattle.booth_conf.specs.declared.tickets.TicketConf.{TicketConf}
 use Rattle.booth_node.specs.Held.{Moment, IsAutomatic}
@@ -10,8 +10,9 @@ use Rattle.booth_world.specs.Shadows.{GivesTermBack, HasShadow}
 use Rattle.booth_world.specs.Steps.{WorldStep, AreSecond, world_of}
 use Rattle.booth_world.specs.Worlds.{IsLater}
 
--- Shadows of two moments. The steps of the later continue those of the earlier; each new release in them is that of
--- an entry between the two; and if all sessions of the world are of version 2, so is each start among the steps.
+-- The shadows of two moments. The steps of the later shadow continue the steps of the earlier one. Each new release
+-- in them is the release of an entry between the two moments. If all sessions of the world are of version 2, each
+-- start among the steps is of version 2.
 pub record HasLongerShadow (w : World) (ticket : TicketConf) (early late : Moment w) (between : List WorldEntry)
     : Type 0 where
   pub first : HasShadow w ticket early

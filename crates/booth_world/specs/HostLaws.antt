@@ -15,7 +15,7 @@ use Rattle.booth_world.specs.Hosts.{HostEntry, DoesAsk, Boots, Hosts, opening_ho
 
 -- ---- releases, by the entries
 
--- the first act is a send of the message that this term was released
+-- The first action sends the message that this term was released.
 pub record Revokes (term : ℕ) (tree : TurnTree) : Type 0 where
   pub message : MemberMessage
   pub go : Bool → TurnTree
@@ -23,12 +23,12 @@ pub record Revokes (term : ℕ) (tree : TurnTree) : Type 0 where
   pub revokes : message.head.cmd ≡ Revk
   pub same_term : message.part.term ≡ term
 
--- after the next write, if it is done, the other members are informed that the term was released, if there are any
+-- If the next write succeeds, the member then informs the other members that the term was released, if there are any.
 abbrev pub RevokesAfter : ℕ → ℕ → TurnTree → Type 0
 RevokesAfter members term (Ends view) = ⊥
 RevokesAfter members term (Does ask go) = 1 < members → Revokes term (go true)
 
--- a record without a lease was written, and this released its term
+-- This entry wrote a record without a lease, and so released its term.
 abbrev pub IsHostReleaseAt : Cluster → Hosts → HostEntry → Release → Type 0
 IsHostReleaseAt c hosts (DoesAsk m (Keeps kept) true) release =
     (release ≡ record { site = m; term = kept.term; at = hosts.now }) × (kept.lease ≡ None)
@@ -43,11 +43,13 @@ IsHostReleaseIn c cast hosts (entry ∷ entries) release =
 
 -- ---- holders
 
--- the records that a member's writes may have left, with the one that may be done without a result yet
+-- The records that a member's writes may have left. They include the record of a write that may be done but has no
+-- result yet.
 abbrev pub host_may : Hosts → ℕ → List Record
 host_may hosts m = pending (hosts.place m).tree (hosts.place m).may
 
--- a member holds by such a record, while the record is in force at what the member's clock reads now
+-- A member holds by a record that its writes may have left, while the record is in force at the time that the
+-- member's clock reads now.
 abbrev pub HostHoldsBy : Cluster → Hosts → ℕ → Record → Type 0
 HostHoldsBy c hosts s k =
     (s < c.members) × Has (host_may hosts s) k × IsInForce k (reads c s hosts.now)
@@ -57,7 +59,7 @@ HostHolds c hosts s = (k : Record) × HostHoldsBy c hosts s k
 
 -- ---- the laws
 
--- Entries from the very beginning, in two parts.
+-- A list of entries from the very beginning, in two parts: the early entries and the late ones.
 pub record HostCourse (c : Cluster) (cast : Cast) (early late : List HostEntry) : Type 0 where
   pub clocks : HasClocks c
   pub is_cast : IsCast c cast
@@ -70,15 +72,15 @@ early_hosts c cast early = hosts_after c cast (opening_hosts c cast) early
 abbrev pub late_hosts : Cluster → Cast → List HostEntry → List HostEntry → Hosts
 late_hosts c cast early late = hosts_after c cast (early_hosts c cast early) late
 
--- no two sites ever hold the ticket at the same moment
+-- No two sites ever hold the ticket at the same time.
 abbrev pub HostsHoldOne : Type 0
 HostsHoldOne =
     (c : Cluster) (cast : Cast) (entries : List HostEntry) → HostCourse c cast entries [] → IsTimed c
     → (s t : ℕ) → HostHolds c (early_hosts c cast entries) s
     → HostHolds c (early_hosts c cast entries) t → s ≡ t
 
--- If one site holds by a record and another holds later, acquire-after lies between each time at which that record
--- was in force and the later one, or a write between the two released the record's lease.
+-- One site holds by a record, and another site holds later. Then acquire-after lies between each time at which that
+-- record was in force and the later time, or a write between the two released the record's lease.
 abbrev pub HostsAreApart : Type 0
 HostsAreApart =
     (c : Cluster) (cast : Cast) (early late : List HostEntry) → HostCourse c cast early late → IsTimed c
@@ -88,7 +90,8 @@ HostsAreApart =
     ⊎ ((release : Release) × IsHostReleaseIn c cast (early_hosts c cast early) late release
     × GivesBackLease s k.lease release)
 
--- if each record that a member's writes may have left has at least a term, so has each one later
+-- If each record that a member's writes may have left has at least this term, then so has each record that they may
+-- have left later.
 abbrev pub HostTermsNeverFall : Type 0
 HostTermsNeverFall =
     (c : Cluster) (cast : Cast) (early late : List HostEntry) → HostCourse c cast early late
@@ -98,7 +101,7 @@ HostTermsNeverFall =
 
 -- ---- version 2 alone
 
--- a start is of version 2
+-- A start in this entry is of version 2.
 abbrev pub IsSecondBoot : HostEntry → Type 0
 IsSecondBoot (Boots m time session kept) = session.second ≡ true
 IsSecondBoot entry = Unit {0}
@@ -107,8 +110,8 @@ abbrev pub AreSecondBoots : List HostEntry → Type 0
 AreSecondBoots [] = Unit {0}
 AreSecondBoots (entry ∷ entries) = IsSecondBoot entry × AreSecondBoots entries
 
--- If each start is of version 2, and one member holds by a lease and another holds later by a lease, the later lease
--- has the later term.
+-- If each start is of version 2, and two members hold by leases, one after the other, the later lease has the greater
+-- term.
 abbrev pub LaterHostHasLaterTerm : Type 0
 LaterHostHasLaterTerm =
     (c : Cluster) (cast : Cast) (early late : List HostEntry) → HostCourse c cast early late → IsTimed c

@@ -1,5 +1,5 @@
--- Entries of the hosts of one ticket, at all members: turns that a crash may interrupt anywhere, and the state of
--- each member after them. The records that may have been written follow from the results of writes alone.
+-- Entries of the hosts of one ticket at all members, and the state of each member after them. A crash may interrupt a
+-- turn anywhere. The records that may have been written follow from the results of writes alone.
 use Rattle.std.specs.Prelude.{◌≡◌, ℕ, ◌<◌, ◌≤◌, List, [], ◌∷◌, Bool, true, false, Option, Some, None, IsSomeAnd}
 use Rattle.std.specs.Option.{ForSome}
 use Rattle.booth_base.specs.Tree.{Ends, Does}
@@ -15,9 +15,9 @@ use Rattle.booth_world.specs.Turns.{TicketAsk, Keeps, Sends, TurnTree, Plan, tur
 
 -- ---- entries
 
--- An event: true time passes; or, at one member, a turn begins at a reading, perhaps with a message; the next request
--- of its turn gets its answer; the member stops, at any point; or it starts, at a reading, with a record, in a
--- session of its own.
+-- An event. Either true time passes, or one of these happens at one member: a turn begins at a reading, perhaps with
+-- a message; the next request of its turn gets its answer; the member stops, at any point; or it starts at a reading,
+-- with a record, in a new session.
 pub data HostEntry : Type 0 where
   LetsPass : (time : ℕ) → HostEntry
   BeginsTurn : (m time : ℕ) (came : Option MemberMessage) (plan : View → Plan) → HostEntry
@@ -27,8 +27,8 @@ pub data HostEntry : Type 0 where
 
 -- ---- the state of the members after entries
 
--- A member: the rest of its turn while it is up; its last session; its last reading; and the records that its writes
--- may have left.
+-- The state of a member: the rest of its turn while it is up; its last session; its last reading; and the records
+-- that its writes may have left.
 pub record HostPlace : Type 0 where
   pub tree : Option TurnTree
   pub session : Session
@@ -40,7 +40,7 @@ pub record Hosts : Type 0 where
   pub place : ℕ → HostPlace
   pub sent : List MemberMessage
 
--- no member has started: each has what it begins with
+-- The state before any start: each member has its beginning.
 abbrev pub opening_hosts : Cluster → Cast → Hosts
 opening_hosts c cast = record {
   now = 0;
@@ -53,7 +53,7 @@ opening_hosts c cast = record {
   sent = [];
 }
 
--- the next write may be done already, without a result
+-- The records that a turn's writes may have left. The next write may already be done, although it has no result.
 abbrev pub pending_in : TurnTree → List Record → List Record
 pending_in (Does (Keeps kept) go) may = kept ∷ may
 pending_in tree may = may
@@ -62,9 +62,9 @@ abbrev pub pending : Option TurnTree → List Record → List Record
 pending None may = may
 pending (Some tree) may = pending_in tree may
 
--- ---- what may come next
+-- ---- the entries that may come next
 
--- the last turn has ended, and the next may be this one
+-- The last turn has ended, and this turn may begin next.
 abbrev pub MayBegin : Setup → ℕ → Option MemberMessage → (View → Plan) → TurnTree → Type 0
 MayBegin s now came plan (Ends view) = MayTurn s now view came plan
 MayBegin s now came plan (Does ask go) = ⊥
@@ -73,13 +73,13 @@ abbrev pub IsNextAsk : TicketAsk → TurnTree → Type 0
 IsNextAsk ask (Ends view) = ⊥
 IsNextAsk ask (Does first go) = first ≡ ask
 
--- a message that arrives was sent, with its sender's id
+-- A message that arrives was sent, and has its sender's id.
 abbrev pub MayCome : Cast → Hosts → MemberMessage → Type 0
 MayCome cast hosts message =
     (Has hosts.sent message) × (message.head.from ≡ cast.id_of message.sender)
 
--- A start reads the record of a write that was done, or that failed or was interrupted since; and it is not of
--- version 1 after one of version 2.
+-- The condition of an entry. A start reads the record of the last write that was done, or of a later one that failed
+-- or was interrupted. It is not of version 1 after one of version 2.
 abbrev pub MayHost : Cluster → Cast → Hosts → HostEntry → Type 0
 MayHost c cast hosts (LetsPass time) = (hosts.now ≤ time) × (time < c.span)
 MayHost c cast hosts (BeginsTurn m time came plan) =
@@ -147,7 +147,7 @@ hosted c cast hosts (Boots m time session kept) = record hosts {
   });
 }
 
--- each entry may come in the state before it
+-- Each entry is allowed in the state before it.
 abbrev pub AreHosted : Cluster → Cast → Hosts → List HostEntry → Type 0
 AreHosted c cast hosts [] = Unit {0}
 AreHosted c cast hosts (entry ∷ entries) =

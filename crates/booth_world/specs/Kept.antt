@@ -1,4 +1,4 @@
--- Laws on which clients rely: about writes that failed, about the kinds of tickets, and about waiting clients.
+-- The laws on which clients rely: about writes that failed, about the kinds of tickets, and about waiting clients.
 use Rattle.std.specs.Prelude.{◌≡◌, ◌⊎◌, ℕ, ◌<◌, Bool, true, false, List, [], Option, Some, None, is_some, slice_get}
 use Rattle.booth_base.specs.Tree.{Deeds, Ends, Does, Always}
 use Rattle.booth_conf.specs.declared.tickets.TicketConf.{TicketConf}
@@ -32,38 +32,38 @@ abbrev pub AreOver : {S : Type 0} → Deeds Ask S → Type 0
 AreOver (Ends left) = Unit {0}
 AreOver (Does ask go) = ⊥
 
--- nothing follows a write that failed: no record is written, no message is sent
+-- Nothing follows a write that failed: the member writes no record and sends no message.
 abbrev pub EndsByFailure : {S : Type 0} → Deeds Ask S → Type 0
 EndsByFailure (Ends left) = Unit {0}
 EndsByFailure (Does (Keep tried) go) = AreOver (go false) × EndsByFailure (go true)
 EndsByFailure (Does (Say to head part) go) = (ok : Bool) → EndsByFailure (go ok)
 EndsByFailure (Does (Start job expires) go) = (ok : Bool) → EndsByFailure (go ok)
 
--- this holds for all actions of a step of the lease rules
+-- A write that fails ends all actions of a step of the lease rules.
 abbrev pub FailedKeepsSayNothing : Type 0
 FailedKeepsSayNothing = (from : Option ℕ) (now : ℕ) (begun : Step) → EndsByFailure (carry_out from now begun)
 
 -- ---- kinds
 
--- manual or automatic
+-- The ticket is manual, or automatic, as the argument says.
 abbrev pub IsOfKind : Bool → Known → Type 0
 IsOfKind true (Manual known) = Unit {0}
 IsOfKind false (Automatic view) = Unit {0}
 IsOfKind manual known = ⊥
 
--- if the node's configuration has the ticket, the node has it at its place, and of its kind
+-- If the node's configuration has the ticket, the node has a ticket of the same kind at its place.
 abbrev pub StandsInKind : TicketConf → NodeConfig → State → Type 0
 StandsInKind ticket node state =
     (place : ℕ) (own : TicketConf) → slice_get node.config.tickets place ≡ Some own → own.name ≡ ticket.name
     → (t : TicketState) × (slice_get state.tickets place ≡ Some t) × IsOfKind ticket.manual t.known
 
--- between two turns, and where a turn begins
+-- The ticket has its configured kind between two turns, and when a turn begins.
 abbrev pub RestsInKind : TicketConf → Stand → Type 0
 RestsInKind ticket (Doing node (Ends state)) = StandsInKind ticket node state
 RestsInKind ticket (Hearing node old answer bytes) = StandsInKind ticket node old
 RestsInKind ticket stand = Unit {0}
 
--- the tickets of a node keep the kinds that the configuration gives them
+-- The tickets of a node keep the kinds that the configuration gives them.
 abbrev pub TicketsKeepTheirKinds : Type 0
 TicketsKeepTheirKinds =
     (w : World) → IsUntimedWorld w → (ticket : TicketConf) → IsOneTicket w ticket
@@ -71,7 +71,7 @@ TicketsKeepTheirKinds =
 
 -- ---- waiting clients
 
--- any request
+-- Any request is allowed.
 abbrev pub AnyAsk : Ask → Type 0
 AnyAsk ask = Unit {0}
 
@@ -82,7 +82,7 @@ ToldStopWaiting =
     → Always AnyAsk (λ left. (waiter : Waiter) → Has left waiter → result_for told waiter ≡ None)
     (tell_each setup part told waiters)
 
--- A client that waits for a manual ticket never waits for a record alone, and none waits while no handler runs.
+-- A client that waits for a manual ticket never waits for a record alone, and no client waits while no handler runs.
 pub record WaitForJob (known : ManualKnown) (waiters : List Waiter) : Type 0 where
   pub uncommitted : (waiter : Waiter) → Has waiters waiter → waiter.commit ≡ false
   pub idle : known.job ≡ None → waiters ≡ []
@@ -90,8 +90,8 @@ pub record WaitForJob (known : ManualKnown) (waiters : List Waiter) : Type 0 whe
 abbrev pub LeavesJobs : Deeds Ask ManualLeft → Type 0
 LeavesJobs deeds = Always AnyAsk (λ left. WaitForJob left.ticket.known left.waiters) deeds
 
--- This holds when a manual ticket starts, and every event leaves it true. And if a client waits, the ticket has a
--- deadline.
+-- Clients wait only for a running handler: this holds when a manual ticket starts, and every event leaves it true. If
+-- a client waits, the ticket has a deadline.
 pub record ManualWaitersHaveJobs : Type 0 where
   pub starts : (rec : Record) (now : ℕ) → WaitForJob (manual_started rec now) []
   pub heard : (ticket : ManualState) (from : ℕ) (head : Head) (part : TicketPart) (waiters : List Waiter)

@@ -1,4 +1,4 @@
--- What happens at the last number of a round, of a job, and of a counter. No program counts so far in a test.
+-- The effects of the last number of a round, of a job, and of a counter. No test counts that high.
 use Rattle.std.specs.Prelude.{◌≡◌, ℕ, false, Some}
 use Rattle.booth_wire.specs.declared.message.Setup.{Setup}
 use Rattle.booth_raft.specs.declared.view.Round.{Round}
@@ -10,13 +10,14 @@ use Rattle.booth_node.specs.Counting.{more}
 use Rattle.booth_node.specs.Jobs.{number_after}
 
 pub record LastNumbers : Type 0 where
-  -- no renewal follows the round with the last number: the lease runs out, and the member looks at it when it ends
+  -- No renewal follows the round with the last number. The lease runs out, and the member handles its deadline at
+  -- that time.
   pub round : (setup : Setup) (view : View) (round : Round) (now : ℕ) → view.round ≡ Some round
       → round.number ≡ 4294967295 → needs_term setup view ≡ false
       → renew setup view now ≡ quiet (record view { due = Some (own_end view) })
-  -- the last job's number but one, the last, and the first again
+  -- After the last job number but one comes the last, and then the first again.
   pub job : number_after 18446744073709551614 ≡ 18446744073709551615
   pub job_again : number_after 18446744073709551615 ≡ 1
-  -- a counter stays at its greatest value
+  -- A counter stays at its greatest value.
   pub counter : more 18446744073709551614 ≡ 18446744073709551615
   pub counter_stays : more 18446744073709551615 ≡ 18446744073709551615

@@ -5,14 +5,14 @@ use Rattle.booth_world.specs.States.{KeptRecord, opening, Cluster, HasClocks, Is
 use Rattle.booth_world.specs.Steps.{WorldStep, IsRun, AreSecond, world_of}
 use Rattle.booth_world.specs.Held.{IsHeldBy, Held, ReleasedBetween, IsApart, IsAtLeast}
 
--- no two sites ever hold the ticket at the same moment
+-- No two sites ever hold the ticket at the same time.
 abbrev pub HasOneHolder : Type 0
 HasOneHolder =
     (c : Cluster) → HasClocks c → IsTimed c → (steps : List WorldStep) → IsRun c (opening c) steps
     → (s t : ℕ) → Held c (world_of c steps) s → Held c (world_of c steps) t → s ≡ t
 
--- If a member holds early by a record and another holds late, acquire-after lies between each time at which that
--- record was in force and the late one, or the first released the record's lease between the two.
+-- A member holds early by a record, and another member holds late. Then acquire-after lies between each time at which
+-- that record was in force and the late time, or the first member released the record's lease between the two.
 abbrev pub HoldersAreApart : Type 0
 HoldersAreApart =
     (c : Cluster) → HasClocks c → IsTimed c
@@ -22,15 +22,16 @@ HoldersAreApart =
     → IsApart c s k (world_of c early) (world_of c (early ++ late))
     ⊎ ReleasedBetween (world_of c early) (world_of c (early ++ late)) s k
 
--- if each record that a member may have written has at least a term, so has each one later
+-- If each record that a member may have written has at least this term, then so has each record that it may have
+-- written later.
 abbrev pub KeptTermsNeverFall : Type 0
 KeptTermsNeverFall =
     (c : Cluster) (early late : List WorldStep) → IsRun c (opening c) (early ++ late)
     → (s term : ℕ)
     → IsAtLeast (world_of c early) s term → IsAtLeast (world_of c (early ++ late)) s term
 
--- If each start is of version 2, and one member holds by a lease and another holds later by a lease, the later lease
--- has the later term.
+-- If each start is of version 2, and two members hold by leases, one after the other, the later lease has the greater
+-- term.
 abbrev pub LaterHolderHasLaterTerm : Type 0
 LaterHolderHasLaterTerm =
     (c : Cluster) → HasClocks c → IsTimed c

@@ -1,13 +1,13 @@
--- The kinds of step by which a member gains, writes, releases and frees a lease: the condition of each, and its
--- effect.
+-- The kinds of step by which a member gains, writes, releases and frees a lease, with the condition and the effect of
+-- each.
 use Rattle.std.specs.Prelude.{◌≡◌, ◌⊎◌, ℕ, ◌+◌, ◌<◌, ◌&&◌, true, if◌then◌else◌, not, ◌==◌, nat_lt, Option, Some, None, List, [], ◌∷◌}
 use Rattle.booth_rec.specs.declared.record.Lease.{Lease}
 use Rattle.booth_world.specs.Facts.{Has, Round, Answer, Gain, Release, Facts, IsMajority}
 use Rattle.booth_world.specs.States.{Pledge, KeptRecord, Promise, MemberState, Cluster}
 
 -- ---- a gain
--- The open round gives a lease if a majority answered it and the lease has not ended already. The lease is added to
--- the facts.
+-- The open round gives a lease if a majority answered it and the lease has not ended yet. The lease is added to the
+-- facts.
 
 pub record MayGain (c : Cluster) (f : Facts) (x : MemberState) (round : Round) (places : List ℕ)
     : Type 0 where
@@ -23,12 +23,12 @@ with_gain f round now places =
     record f { leases = record { round = round; at = now; answers = places } ∷ f.leases }
 
 -- ---- a write
--- A member writes a record of its term and of the version of its session: without a lease, or with one that it may
--- have written, or with the one that its open round gave; and in version 2 with its pledge at that time. In version 1
--- only sites write, in version 2 arbitrators too. When a write is tried, its record is one more that may have been
--- written; when it is done, its record is the only one.
+-- A member writes a record with its term and the version of its session. The record has no lease, a lease that the
+-- member may have written, or the lease that its open round gave. In version 2 it also has the member's pledge at
+-- that time. In version 1 only sites write; in version 2 arbitrators write too. When a write is tried, its record
+-- joins those that may have been written. When the write is done, its record is the only one.
 
--- the lease of an open round that gave one: it runs from the reading of the round's opening
+-- The lease of an open round that gave one. It runs from the reading at which the round was opened.
 pub record IsWon (c : Cluster) (f : Facts) (x : MemberState) (lease : Lease) : Type 0 where
   pub gained : Gain
   pub fact : Has f.leases gained
@@ -41,7 +41,7 @@ MayLease c f x None = Unit {0}
 MayLease c f x (Some lease) =
     ((k : KeptRecord) × Has x.may k × (k.lease ≡ Some lease)) ⊎ IsWon c f x lease
 
--- the part of its pledge that a member writes: in version 2 all of it, in version 1 nothing
+-- The part of its pledge that a member writes: all of it in version 2, nothing in version 1.
 abbrev pub pledge_of : MemberState → Option Pledge
 pledge_of x =
     if x.second
@@ -63,7 +63,7 @@ abbrev pub having : MemberState → KeptRecord → MemberState
 having x kept = record x { may = kept ∷ [] }
 
 -- ---- a release
--- A site releases its term if no record that it may have written has a lease, and all of them are of that term. Its
+-- A site releases its term if all records that it may have written are of that term and none of them has a lease. Its
 -- round is closed, its promise to itself is dropped, and the release is added to the facts.
 
 pub record MayRelease (c : Cluster) (m : ℕ) (x : MemberState) : Type 0 where
@@ -84,8 +84,8 @@ with_release f m term now =
     record f { releases = record { site = m; term = term; at = now } ∷ f.releases }
 
 -- ---- a clearing
--- A member that receives a release message drops a promise to its site with a term no greater than the release's, and
--- no other.
+-- A member that receives a release message drops a promise to the message's site if the promise's term is no greater
+-- than the release's. It drops no other promise.
 
 pub record MayClear (f : Facts) (x : MemberState) (release : Release) : Type 0 where
   pub up : x.up ≡ true

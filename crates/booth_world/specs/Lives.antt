@@ -1,11 +1,11 @@
--- The kinds of step by which a member learns a term, crashes and starts, and by which time passes: the condition of
--- each, and its effect.
+-- The kinds of step by which a member learns a term, crashes and starts, and by which time passes, with the condition
+-- and the effect of each.
 use Rattle.std.specs.Prelude.{◌≡◌, ℕ, ◌+◌, ◌<◌, ◌≤◌, Bool, true, false, Option, Some, None, [], ◌∷◌}
 use Rattle.booth_world.specs.Facts.{Has}
 use Rattle.booth_world.specs.States.{Pledge, KeptRecord, MemberState, WorldState, Cluster, promise_time, reads}
 
 -- ---- a term is learnt
--- A member takes a term above its own: it has answered no round in it, and its own round is closed.
+-- A member takes a term above its own. It has answered no round in that term, and its own round is closed.
 
 pub record MayLearn (x : MemberState) (term : ℕ) : Type 0 where
   pub up : x.up ≡ true
@@ -15,23 +15,23 @@ abbrev pub learning : MemberState → ℕ → MemberState
 learning x term = record x { term = term; bound = None; round = None }
 
 -- ---- a crash
--- A member that is up may crash at any moment.
+-- A member that is up may crash at any time.
 
 abbrev pub crashing : MemberState → MemberState
 crashing x = record x { up = false }
 
 -- ---- a start
 -- A member that is down starts with a record that it may have written, in a session of either version; but after a
--- session of version 2 it stays in version 2. From a record of version 2 it has the pledge of that record, and
--- abstains no longer than the record says. From any other record it does not know what it promised, so it answers no
--- round for the time of a whole promise.
+-- session of version 2 it stays in version 2. With a record of version 2 it has that record's pledge, and abstains no
+-- longer than the record states. With any other record it does not know what it promised, so it answers no round for
+-- the time of a whole promise.
 
 pub record MayStart (x : MemberState) (kept : KeptRecord) (second : Bool) : Type 0 where
   pub down : x.up ≡ false
   pub fact : Has x.may kept
   pub stays : x.second ≡ true → second ≡ true
 
--- the pledge after a start at this reading, by that of the record
+-- The pledge after a start at this reading, from the record's pledge.
 abbrev pub pledge_at_start : Cluster → ℕ → Option Pledge → Pledge
 pledge_at_start c reading None =
     record { bound = None; promise = None; abstain = reading + promise_time c }

@@ -1,5 +1,5 @@
--- A member that is alone in its cluster, by the lease rules of version 1, at its core and at its host: it shows that
--- the laws over entries are not empty.
+-- A run of a member that is alone in its cluster, by the lease rules of version 1, at its core and at its host. It
+-- shows that the laws over entries are not empty.
 use Rattle.std.specs.Prelude.{true, false, List, [], ◌∷◌, Some, None}
 use Rattle.booth_base.specs.declared.name.Name.{Name}
 use Rattle.booth_rec.specs.declared.record.Record.{Record}
@@ -46,13 +46,13 @@ lone_lease = first_plain 1 (Some (record { term = 1; until = 8 }))
 
 -- ---- at its core
 
--- it starts an election and is granted its lease, and both writes are done
+-- The member starts an election and is granted its lease, and both writes succeed.
 abbrev pub lone_grant : List CoreEntry
 lone_grant =
     StartsWith 0 (opening_session false) no_record ∷ ReadsTime 0 6 ∷ CallsCore 0 (Asks 0)
     ∷ HasAnswer 0 lone_term true ∷ HasAnswer 0 lone_lease true ∷ []
 
--- then the write of a release fails, a second one is interrupted, and it starts from its record
+-- The write of a release fails, a second one is interrupted, and the member starts from its record.
 abbrev pub lone_restart : List CoreEntry
 lone_restart =
     CallsCore 0 (GivesBack 0) ∷ HasAnswer 0 lone_term false ∷ CallsCore 0 (GivesBack 0) ∷ Stops 0
@@ -60,11 +60,11 @@ lone_restart =
 
 -- ---- at its host
 
--- a turn: the member greets all others, acquires the ticket, and tells a client
+-- The plan of a turn: the member greets all others, acquires the ticket, and informs a client.
 abbrev pub lone_plan : View → Plan
 lone_plan view = Calls Greets (λ greeted. Calls (Asks 0) (λ asked. Waits (λ ok. Rests)))
 
--- it begins the turn and writes twice; before it tells the client it stops, and starts with its lease
+-- The member begins the turn and writes twice. It stops before it informs the client, and then starts with its lease.
 abbrev pub lone_turn : List HostEntry
 lone_turn =
     Boots 0 0 (opening_session false) no_record ∷ BeginsTurn 0 6 None lone_plan ∷ DoesAsk 0 (Keeps lone_term) true

@@ -1,10 +1,10 @@
--- Steps of one member, one after the other, while nothing else happens.
+-- Steps of one member, one after the other, while no other event happens.
 use Rattle.std.specs.Prelude.{Bool, ℕ, List, [], ◌∷◌}
 use Rattle.booth_world.specs.Facts.{Facts}
 use Rattle.booth_world.specs.States.{MemberState, Cluster}
 use Rattle.booth_world.specs.Steps.{MemberStep, WorldStep, MemberDoes, May, member_after, facts_after, IsStartOf}
 
--- each step is allowed in the state before it
+-- Each step is allowed in the state before it.
 abbrev pub IsMemberRun : Cluster → ℕ → ℕ → Facts → MemberState → List MemberStep → Type 0
 IsMemberRun c now m f x [] = Unit {0}
 IsMemberRun c now m f x (step ∷ steps) =
@@ -21,12 +21,12 @@ facts_after_all c now m f x [] = f
 facts_after_all c now m f x (step ∷ steps) =
     facts_after_all c now m (facts_after now m x step f) (member_after c now m x step) steps
 
--- the same as steps of the world
+-- A member's steps, as steps of the world.
 abbrev pub world_steps : ℕ → List MemberStep → List WorldStep
 world_steps m [] = []
 world_steps m (step ∷ steps) = MemberDoes m step ∷ world_steps m steps
 
--- each start among them is of version 2 exactly if `second` is true
+-- Each start among the steps is of version 2 exactly if `second` is true.
 abbrev pub AreStartsOf : Bool → List MemberStep → Type 0
 AreStartsOf second [] = Unit {0}
 AreStartsOf second (step ∷ steps) = IsStartOf second step × AreStartsOf second steps

@@ -11,7 +11,7 @@ use Rattle.booth_node.specs.World.{World, members_of, stand_after, IsUntimedWorl
 use Rattle.booth_base.specs.Tree.{Ends}
 use Rattle.booth_world.specs.Waits.{latest}
 
--- the ticket has a deadline; that of an automatic ticket is not later than this
+-- The ticket has a deadline. The deadline of an automatic ticket is not later than `latest`.
 abbrev pub IsComing : Setup → ℕ → Known → Type 0
 IsComing setup now (Automatic view) = IsSomeAnd view.due (λ due. due ≤ latest setup view now)
 IsComing setup now (Manual known) = is_some (manual_deadline known) ≡ true
@@ -21,7 +21,7 @@ RestsWithDeadlines state =
     (place : ℕ) (ticket : TicketState) → slice_get state.tickets place ≡ Some ticket
     → (waiting_at state.waiters place ≡ []) ⊎ IsComing ticket.setup state.last_reading ticket.known
 
--- between two turns, and where a turn begins
+-- Each ticket with a waiting client has a deadline between two turns, and when a turn begins.
 abbrev pub StandsWithDeadlines : Stand → Type 0
 StandsWithDeadlines (Doing node (Ends state)) = RestsWithDeadlines state
 StandsWithDeadlines (Hearing node old answer bytes) = RestsWithDeadlines old

@@ -1,18 +1,19 @@
--- The kinds of step by which a round is opened, promised and answered: the condition of each, and its effect. The
+-- The kinds of step by which a round is opened, promised and answered, with the condition and the effect of each. The
 -- clock is the member's last reading.
 use Rattle.std.specs.Prelude.{◌≡◌, ◌≢◌, ◌⊎◌, ℕ, ◌+◌, ◌<◌, ◌≤◌, ◌&&◌, true, if◌then◌else◌, ◌==◌, nat_eq, Option, Some, None, ◌∷◌}
 use Rattle.std.specs.Option.{ForSome}
 use Rattle.booth_world.specs.Facts.{Has, Round, Answer, Release, Facts}
 use Rattle.booth_world.specs.States.{Pledge, KeptRecord, Promise, MemberState, Cluster, promise_time}
 
--- the round that a member opens now
+-- The round that a member opens now.
 abbrev pub new_round : ℕ → MemberState → ℕ → Round
 new_round m x number =
     record { site = m; term = x.term; number = number; opened = x.reading; at = x.at }
 
 -- ---- an election is opened
--- A site opens the first round of its term if every record that it may have written is of that term, it has voted for
--- no other in it, and it neither opened a round of the term nor released it. It votes for itself.
+-- A site opens the first round of its term under three conditions: every record that it may have written is of that
+-- term; it has voted for no other member in the term; and it has neither opened a round of the term nor released the
+-- term. It votes for itself.
 
 pub record MayElect (c : Cluster) (f : Facts) (m : ℕ) (x : MemberState) : Type 0 where
   pub up : x.up ≡ true
@@ -37,15 +38,16 @@ pub record MayRenew (m : ℕ) (x : MemberState) (before : Round) : Type 0 where
 abbrev pub renewing : ℕ → MemberState → Round → MemberState
 renewing m x before = record x { round = Some (new_round m x (before.number + 1)) }
 
--- either opening adds the round to the facts
+-- The facts with the new round, whether it was opened for an election or a renewal.
 abbrev pub with_round : Facts → Round → Facts
 with_round f round = record f { rounds = round ∷ f.rounds }
 
 -- ---- a promise
--- A member promises a site and a term if it may answer a round of them, whatever lease it may have: it does not
--- abstain, no promise to another is live, and the term is new to it, or is its own and it has voted for no other in
--- it. From then on it is in that term and has voted for that site, and the promise lasts for the time of a whole
--- promise. A round of its own stays open only if it promises itself within its term.
+-- A member makes a promise to a site for a term if it may answer a round of that site in that term, whatever lease it
+-- may have. It may answer if it does not abstain and no promise to another site is live. In addition, the term is new
+-- to it, or it is its own term and it has voted for no other site in it. From then on the member is in that term and
+-- has voted for that site, and the promise lasts for the time of a whole promise. A round of its own stays open only
+-- if it promises itself within its term.
 
 pub record MayPromise (c : Cluster) (x : MemberState) (site term : ℕ) : Type 0 where
   pub up : x.up ≡ true
@@ -70,13 +72,14 @@ promising c m x site term = record x {
 }
 
 -- ---- an answer
--- A member answers a round of the facts if it is in the round's term, has voted for its site, has promised it for the
--- time of a whole promise from now on, and read its clock no earlier than the round's site did. In version 2 all this
--- must be written first: each record that the member may have written is of version 2, and says the same. So
+-- A member answers a round of the facts under these conditions. It is in the round's term, has voted for the round's
+-- site, and has promised that site for the time of a whole promise from now on. It read its clock no earlier than the
+-- site opened the round. In version 2 all this must be written first: each record that the member may have written is
+-- of version 2, and has the vote and the promise. So
 -- whichever of them the next start reads, the vote and the promise are kept. The answer is added to the facts.
 
--- a record of version 2, of the round's term, with a vote for its site and a promise for the time of a whole promise
--- from a reading
+-- A record of version 2 and of the round's term, with a vote for the round's site. It promises that site for the time
+-- of a whole promise from a reading.
 pub record KeepsAnswer (c : Cluster) (reading : ℕ) (round : Round) (k : KeptRecord) : Type 0 where
   pub pledge : Pledge
   pub second : k.pledge ≡ Some pledge

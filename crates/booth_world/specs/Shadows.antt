@@ -29,9 +29,9 @@ use Rattle.booth_world.specs.Revocations.{GoesOnToRevoke, AtSome}
 use Rattle.booth_world.specs.States.{WorldState, opening}
 use Rattle.booth_world.specs.Steps.{WorldStep, IsRun, world_of}
 
--- ---- the entries' side
+-- ---- the state of a member, according to the entries
 
--- the first write for the ticket among these actions, for some answers, is of this record
+-- For some answers, the first write for the ticket among these actions is the write of this record.
 abbrev pub KeepsNext : List ℕ → Deeds Ask State → Record → Type 0
 KeepsNext name (Ends state) kept = ⊥
 KeepsNext name (Does (Send peer message) go) kept = (ok : Bool) × KeepsNext name (go ok) kept
@@ -39,12 +39,12 @@ KeepsNext name (Does (Keep ticket tried) go) kept =
     ((ticket ≡ name) × (tried ≡ kept)) ⊎ ((ticket ≢ name) × (ok : Bool) × KeepsNext name (go ok) kept)
 KeepsNext name (Does (Start job) go) kept = (ok : Bool) × KeepsNext name (go ok) kept
 
--- the node's configuration has the ticket of this name
+-- The node's configuration has the ticket with this name.
 abbrev pub has_ticket : List ℕ → NodeConfig → Bool
 has_ticket name node = is_some (position (is_called name) node.config.tickets)
 
--- The state of a member in its last session that has the ticket, and whether that is its session now. An interrupted
--- call does not change the state.
+-- The state of a member in its last session that has the ticket, and whether that session is its current one. An
+-- interrupted call does not change the state.
 pub record LastStand : Type 0 where
   pub now : Bool
   pub stand : Stand
@@ -65,34 +65,34 @@ abbrev pub IsNextAt : List ℕ → Stand → Record → Type 0
 IsNextAt name (Doing node deeds) kept = KeepsNext name deeds kept
 IsNextAt name stand kept = ⊥
 
--- the member is in a turn of its last session that has the ticket, or was interrupted in one, and this is the record
--- that the turn writes next for the ticket
+-- In its last session that has the ticket, the member is in a turn, or was interrupted in one. The turn writes this
+-- record next for the ticket.
 abbrev pub IsComing : List ℕ → List SessionEntry → Record → Type 0
 IsComing name entries kept =
     IsNextAt name (last_after_all name (record { now = false; stand = Down }) entries).stand kept
 
--- a write for the ticket by this member at this time that was done, with this state after it, of a record without a
--- lease, releases its term: the member goes on to tell each other member
+-- An entry releases the term of the record that it wrote. The entry is a successful write for the ticket, by this
+-- member at this time; its record has no lease; and the member then informs each other member.
 abbrev pub GivesTermBack : World → List ℕ → ℕ → ℕ → Stand → SessionEntry → Release → Type 0
 GivesTermBack w name m time after (Makes (calls.Keep ticket rec (Ok done))) release =
     (ticket ≡ name) × (rec.lease ≡ None) × (release.site ≡ m) × (release.term ≡ rec.term) × (release.at ≡ time)
     × GoesOnToRevoke w name rec.term m after
 GivesTermBack w name m time after what release = ⊥
 
--- this node has this state, and no action of a turn is left: it is between two turns, or has the answer of a `next`
--- and reads its clock next
+-- The node has this state and no action of a turn is left. It is between two turns, or it has the answer of a `next`
+-- and reads its clock next.
 abbrev pub RestsIn : Stand → NodeConfig → State → Type 0
 RestsIn (Doing node (Ends state)) own resting = (node ≡ own) × (state ≡ resting)
 RestsIn (Hearing node old answer bytes) own resting = (node ≡ own) × (old ≡ resting)
 RestsIn stand own resting = ⊥
 
--- the clock gave this reading, in a turn or at a start
+-- The clock gave this reading, in a turn or at a start.
 abbrev pub TakesReading : SessionEntry → ℕ → Type 0
 TakesReading (Starts node reading records) taken = reading ≡ taken
 TakesReading (Makes (calls.Now reading)) taken = reading ≡ taken
 TakesReading what taken = ⊥
 
--- an entry is this member's reading at this true time
+-- One of the entries is this member's reading of its clock at this true time.
 pub record IsReadIn (before : List WorldEntry) (m reading time : ℕ) : Type 0 where
   pub entry : WorldEntry
   pub one : Has before entry
@@ -100,7 +100,7 @@ pub record IsReadIn (before : List WorldEntry) (m reading time : ℕ) : Type 0 w
   pub at : entry.time ≡ time
   pub taken : TakesReading entry.what reading
 
--- an entry sent this message of a member about the ticket; the send may have failed, or been interrupted
+-- An entry sent this message of a member about the ticket. The send may have failed, or been interrupted.
 pub record IsSentIn (name : List ℕ) (before : List WorldEntry) (m : ℕ) (message : PlainMessage) (part : TicketPart)
     : Type 0 where
   pub entry : WorldEntry
@@ -115,8 +115,8 @@ pub record IsSentIn (name : List ℕ) (before : List WorldEntry) (m : ℕ) (mess
 
 -- ---- versions
 
--- whether a member's last session that has the ticket is of version 2 after this entry: a start has the version of
--- its node
+-- Whether a member's last session that has the ticket is of version 2 after this entry. A start has its node's
+-- version.
 abbrev pub second_after : List ℕ → Bool → SessionEntry → Bool
 second_after name second (Starts node reading records) = if has_ticket name node then node.second else second
 second_after name second entry = second
@@ -125,18 +125,18 @@ abbrev pub second_after_all : List ℕ → Bool → List SessionEntry → Bool
 second_after_all name second [] = second
 second_after_all name second (entry ∷ entries) = second_after_all name (second_after name second entry) entries
 
--- whether the member's last session that has the ticket is of version 2; at first as in its beginning
+-- Whether the member's last session that has the ticket is of version 2. Before any session, its beginning decides.
 abbrev pub is_second_at : World → List ℕ → ℕ → List WorldEntry → Bool
 is_second_at w name m before = second_after_all name (w.begins m).second (entries_of m before)
 
 -- ---- the shadow
 
--- the records that a member may have written, as the steps have them
+-- The records that a member may have written, according to the steps.
 abbrev pub records_of : World → WorldState → ℕ → List Record
 records_of w state m = records_in (id_at w) (state.member m).may
 
--- What a node in this state knows about the ticket, at its place in the configuration, agrees with the steps' member:
--- its rules are of the member's version, its view agrees with the member, no write waits, and the last reading is the
+-- The node's knowledge about the ticket at its place in the configuration agrees with the member of the steps. Its
+-- rules are of the member's version, its view agrees with the member, no write waits, and the last reading is the
 -- member's.
 pub record Knows (w : World) (ticket : TicketConf) (m : ℕ) (node : NodeConfig) (place : ℕ) (own : TicketConf)
     (resting : State) (state : WorldState) : Type 0 where
@@ -148,13 +148,14 @@ pub record Knows (w : World) (ticket : TicketConf) (m : ℕ) (node : NodeConfig)
   pub reading : resting.last_reading ≡ (state.member m).reading
   pub agrees : Agrees (cluster_of w ticket) (id_at w) state.facts m view (state.member m)
 
--- Steps from the opening state up to this moment. After them each member's last session is of the version of its last
--- start that has the ticket; the records that a member may have written are those of the entries, and the one that
--- the member's turn writes next; if a node rests between its turns, what it knows about the ticket agrees with its
--- member; each release is that of an entry, after which the member's turn goes on to tell the others; each round was
--- opened, and each answer given, at a reading that is an entry's, by the member that took it; each message that an
--- entry sent states a fact: that a round was opened, or answered, or a term released; and the ticket is held at each
--- member that holds it.
+-- The shadow of this moment: steps from the opening state up to it. After these steps the following holds. Each
+-- member's last session is of the version of its last start that has the ticket. The records that a member may have
+-- written are the records of the entries, and the record that the member's turn writes next. If a node rests between
+-- its turns, its knowledge about the ticket agrees with its member. Each release is the release of an entry, after
+-- which the member's turn informs the others. Each round was opened, and each answer given, at a reading that an
+-- entry of the same member took. Each message that an entry sent states a fact: a round was opened, a round was
+-- answered, or a term was released. A member that holds the ticket according to the entries holds it in the state
+-- after these steps.
 pub record HasShadow (w : World) (ticket : TicketConf) (moment : Moment w) : Type 0 where
   pub steps : List WorldStep
   pub run : IsRun (cluster_of w ticket) (opening (cluster_of w ticket)) steps

@@ -1,5 +1,5 @@
--- What remains of a member's agreement with its view while others make steps, while time passes, and while it reads
--- its clock; and runs one after another.
+-- The parts of a member's agreement with its view that remain while others make steps, while time passes, and while
+-- it reads its clock; and runs one after another.
 use Rattle.std.specs.Prelude.{Bool, true, ◌≡◌, ◌≢◌, ◌++◌, ℕ, ◌<◌, List, [], ◌∷◌, None}
 use Rattle.booth_base.specs.declared.address.MemberId.{MemberId}
 use Rattle.booth_wire.specs.declared.command.Cmd.{Cmd}
@@ -15,14 +15,14 @@ use Rattle.booth_world.specs.Messages.{IsFact}
 use Rattle.booth_world.specs.Gives.{Given, IsReached, AddsOnly}
 use Rattle.booth_world.specs.Calls.{Caller, IsMember, GivesIn, mark_at}
 
--- a step that is not this member's
+-- The step is not one of this member.
 abbrev pub IsOthers : ℕ → WorldStep → Type 0
 IsOthers m (MemberDoes k step) = k ≢ m
 IsOthers m (Passes time) = Unit {0}
 
--- Steps of others leave a member unchanged, and its view still agrees; a message remains a fact, whoever makes a
--- step; and a member's reading of its clock changes nothing in its view. In version 2 a member reads its clock only
--- while no write waits, since what is being written is promised from the last reading on.
+-- Steps of other members leave a member unchanged, and its view still agrees. A message remains a fact, whichever
+-- member makes a step. A member's reading of its clock changes nothing in its view. In version 2 a member reads its
+-- clock only while no write waits, because the record that is being written promises from the last reading on.
 pub record AgreementStays : Type 0 where
   pub unmoved : (c : Cluster) (w : WorldState) (m : ℕ) (step : WorldStep) → IsOthers m step
       → (happens c w step).member m ≡ w.member m
@@ -39,9 +39,9 @@ pub record AgreementStays : Type 0 where
 
 -- ---- a call, as steps of the world
 
--- A call of one member, or a start in a session of this version, leads from one world to another: its view agrees,
--- its messages are facts, and it adds no other facts. True time is unchanged, and so are other members, whose views
--- still agree.
+-- A call of one member, or a start in a session of this version, leads from one world to another. The member's view
+-- agrees, its messages are facts, and it adds no other facts. True time is unchanged. Other members are unchanged,
+-- and their views still agree.
 pub record IsNext (c : Cluster) (id_of : ℕ → MemberId) (w z : WorldState) (m : ℕ) (second : Bool) (given : Given)
     : Type 0 where
   pub reached : IsReached c id_of (record (mark_at w m) { second = second }) given z.facts (z.member m)
@@ -53,7 +53,7 @@ pub record IsNext (c : Cluster) (id_of : ℕ → MemberId) (w z : WorldState) (m
   pub said_on : (s : ℕ) (head : Head) (part : TicketPart) (cmd : Cmd)
       → IsFact id_of w.facts s head part cmd → IsFact id_of z.facts s head part cmd
 
--- each call leads on from world to world; and in version 2 its steps include no start of version 1
+-- Each call leads from one world to the next. In version 2 its steps include no start of version 1.
 abbrev pub CallsLeadOn : Type 0
 CallsLeadOn =
     (c : Cluster) (id_of : ℕ → MemberId) (w : WorldState) (m : ℕ) (second : Bool) (given : Given) → m < c.members
@@ -63,7 +63,7 @@ CallsLeadOn =
 
 -- ---- one run after another
 
--- runs append, and split where they were appended
+-- Runs append, and split at the point where they were appended.
 pub record RunsAppend : Type 0 where
   pub world : (c : Cluster) (w : WorldState) (early late : List WorldStep)
       → after_steps c w (early ++ late) ≡ after_steps c (after_steps c w early) late
@@ -74,13 +74,13 @@ pub record RunsAppend : Type 0 where
   pub second : (c : Cluster) (w : WorldState) (early late : List WorldStep)
       → IsRun c w (early ++ late) → IsRun c (after_steps c w early) late
 
--- none of the steps is this member's
+-- None of the steps is one of this member.
 abbrev pub AreOthers : ℕ → List WorldStep → Type 0
 AreOthers m [] = Unit {0}
 AreOthers m (step ∷ steps) = IsOthers m step × AreOthers m steps
 
--- While others make steps and time passes, a member is unchanged, and one that agrees still agrees; so does one that
--- reads its clock, in version 2 while no write waits.
+-- While others make steps and time passes, a member is unchanged, and if it agreed it still agrees. The same holds if
+-- the member itself reads its clock. In version 2 it holds only while no write waits.
 pub record MembersStay : Type 0 where
   pub state : (c : Cluster) (w : WorldState) (m : ℕ) (more : List WorldStep) → AreOthers m more
       → (after_steps c w more).member m ≡ w.member m

@@ -6,7 +6,7 @@ use Rattle.booth_world.specs.Rounds.{new_round, MayElect, electing, MayRenew, re
 use Rattle.booth_world.specs.Leases.{MayGain, with_gain, MayKeep, trying, having, MayRelease, releasing, with_release, MayClear, clearing}
 use Rattle.booth_world.specs.Lives.{MayLearn, learning, crashing, MayStart, starting, MayPass, reading_clock}
 
--- what one member does
+-- The steps that one member makes.
 pub data MemberStep : Type 0 where
   Elects : MemberStep
   Renews : (before : Round) → MemberStep
@@ -22,12 +22,12 @@ pub data MemberStep : Type 0 where
   Starts : (kept : KeptRecord) (second : Bool) → MemberStep
   ReadsClock : MemberStep
 
--- a member does something, or true time rises
+-- A step of the world: a member makes a step, or true time rises.
 pub data WorldStep : Type 0 where
   MemberDoes : (m : ℕ) (step : MemberStep) → WorldStep
   Passes : (time : ℕ) → WorldStep
 
--- the condition of each kind, for a member in this state
+-- The condition of each kind of step, for a member in this state.
 abbrev pub May : Cluster → Facts → ℕ → MemberState → MemberStep → Type 0
 May c f m x Elects = MayElect c f m x
 May c f m x (Renews before) = MayRenew m x before
@@ -43,7 +43,7 @@ May c f m x Crashes = x.up ≡ true
 May c f m x (Starts kept second) = MayStart x kept second
 May c f m x ReadsClock = Unit {0}
 
--- the member after its step
+-- The state of the member after its step.
 abbrev pub member_after : Cluster → ℕ → ℕ → MemberState → MemberStep → MemberState
 member_after c now m x Elects = electing m x
 member_after c now m x (Renews before) = renewing m x before
@@ -59,7 +59,7 @@ member_after c now m x Crashes = crashing x
 member_after c now m x (Starts kept second) = starting c x kept second
 member_after c now m x ReadsClock = reading_clock c now m x
 
--- the facts after a member's step
+-- The facts after a member's step.
 abbrev pub facts_after : ℕ → ℕ → MemberState → MemberStep → Facts → Facts
 facts_after now m x Elects f = with_round f (new_round m x 0)
 facts_after now m x (Renews before) f = with_round f (new_round m x (before.number + 1))
@@ -68,12 +68,12 @@ facts_after now m x (Gains round places) f = with_gain f round now places
 facts_after now m x Releases f = with_release f m x.term now
 facts_after now m x step f = f
 
--- the condition of a step of the world
+-- The condition of a step of the world.
 abbrev pub MayStep : Cluster → WorldState → WorldStep → Type 0
 MayStep c w (MemberDoes m step) = (m < c.members) × May c w.facts m (w.member m) step
 MayStep c w (Passes time) = MayPass c w time
 
--- the world after a step
+-- The world after a step.
 abbrev pub happens : Cluster → WorldState → WorldStep → WorldState
 happens c w (MemberDoes m step) = record {
   now = w.now;
@@ -82,33 +82,33 @@ happens c w (MemberDoes m step) = record {
 }
 happens c w (Passes time) = record w { now = time }
 
--- a list of steps, each of which is allowed in the state before it
+-- Each step in the list is allowed in the state before it.
 abbrev pub IsRun : Cluster → WorldState → List WorldStep → Type 0
 IsRun c w [] = Unit {0}
 IsRun c w (step ∷ steps) = MayStep c w step × IsRun c (happens c w step) steps
 
--- the world after a list of steps
+-- The world after a list of steps.
 abbrev pub after_steps : Cluster → WorldState → List WorldStep → WorldState
 after_steps c w [] = w
 after_steps c w (step ∷ steps) = after_steps c (happens c w step) steps
 
--- the world after a list of steps from the very beginning
+-- The world after a list of steps from the very beginning.
 abbrev pub world_of : Cluster → List WorldStep → WorldState
 world_of c steps = after_steps c (opening c) steps
 
 -- ---- the versions of starts
 
--- a start is of version 2 exactly if `second` is true; other steps are no starts
+-- A start is of version 2 exactly if `second` is true. Other steps are not starts.
 abbrev pub IsStartOf : Bool → MemberStep → Type 0
 IsStartOf second (Starts kept started) = started ≡ second
 IsStartOf second step = Unit {0}
 
--- of version 2
+-- A start in this step is of version 2.
 abbrev pub StartsSecond : WorldStep → Type 0
 StartsSecond (MemberDoes m step) = IsStartOf true step
 StartsSecond (Passes time) = Unit {0}
 
--- each start among these steps is of version 2
+-- Each start among these steps is of version 2.
 abbrev pub AreSecond : List WorldStep → Type 0
 AreSecond [] = Unit {0}
 AreSecond (step ∷ steps) = StartsSecond step × AreSecond steps

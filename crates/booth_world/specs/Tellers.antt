@@ -1,5 +1,5 @@
--- A member's messages that name itself as the holder of an automatic ticket, and the records that it may have written
--- by then.
+-- The messages by which a member names itself as the holder of an automatic ticket, and the records that it may have
+-- written by then.
 use Rattle.std.specs.Prelude.{◌≡◌, ◌≢◌, ◌⊎◌, ◌++◌, ℕ, ◌<◌, ◌≤◌, ◌+◌, ◌-◌, ◌*◌, ◌/◌, ◌%◌, min, List, [], ◌∷◌, decimal, slice_get, Ok, IsSomeAnd}
 use Rattle.booth_base.specs.declared.address.Address.{Address}
 use Rattle.booth_base.specs.declared.address.MemberId.{MemberId}
@@ -28,16 +28,17 @@ use Rattle.booth_world.specs.Worlds.{IsLater, ReleasedIn}
 
 -- A claim about a lease. A message is identified by its head, which has the time at which it was sent.
 pub data Claim : Type 0 where
-  -- a client is informed that its grant was done
+  -- A client is informed that its grant was done.
   IsGranted : (head : Head) → Claim
-  -- a message states that this many seconds are left
+  -- A message states that this many seconds are left.
   HasLeft : (head : Head) (seconds : ℕ) → Claim
-  -- a handler is told that the lease ends in this second of the member's clock
+  -- A handler is informed that the lease ends in this second of the member's clock.
   EndsIn : (second : ℕ) → Claim
-  -- a list states that the lease ends in the second with these digits
+  -- A list states that the lease ends in the second with these digits.
   IsListed : (digits : List ℕ) → Claim
 
--- a message that is sent at this reading of its member's clock carries the reading, in whole seconds and microseconds
+-- A message that is sent at this reading of its member's clock carries the reading, in whole seconds and
+-- microseconds.
 abbrev pub IsSentAt : Head → ℕ → Type 0
 IsSentAt head reading = (head.secs ≡ min (reading / 1000) 4294967295) × (head.usecs ≡ reading % 1000 * 1000)
 
@@ -52,7 +53,7 @@ BearsOut (IsListed digits) until = decimal (until / 1000) ≡ digits
 
 -- ---- the sender of a claim
 
--- The message is about the ticket. It states that a grant was done; or it names this member as the ticket's leader,
+-- The message is about the ticket. It states that a grant was done, or it names this member as the ticket's leader
 -- with seconds left. This holds for messages to members and to clients alike, with any command.
 abbrev pub PartTells : List ℕ → MemberId → Head → TicketPart → Claim → Type 0
 PartTells name me head part (IsGranted same) =
@@ -65,25 +66,26 @@ abbrev pub MessageTells : List ℕ → MemberId → PlainMessage → Claim → T
 MessageTells name me message claim =
     (part : TicketPart) × (message.content ≡ Ticket part) × PartTells name me message.head part claim
 
--- a handler is started for a lease that its member has, and is given the lease's end; 0 says that there is no lease
+-- A handler is started for a lease that its member has, and gets the lease's end. An end of 0 means that there is no
+-- lease.
 abbrev pub JobTells : List ℕ → Job → Claim → Type 0
 JobTells name job (EndsIn second) = (job.ticket ≡ name) × (job.expires ≡ second) × (0 < second)
 JobTells name job claim = ⊥
 
--- none of these bytes is this one
+-- None of these bytes is this one.
 abbrev pub HasNone : ℕ → List ℕ → Type 0
 HasNone b [] = Unit {0}
 HasNone b (x ∷ xs) = (x ≢ b) × HasNone b xs
 
--- nothing comes before a line, or a line end
+-- The bytes before a line are empty, or end with a line end.
 abbrev pub EndsLine : List ℕ → Type 0
 EndsLine before = (before ≡ []) ⊎ ((earlier : List ℕ) × (before ≡ earlier ++ 10 ∷ []))
 
--- nothing comes after a line, or a line end
+-- The bytes after a line are empty, or begin with a line end.
 abbrev pub BeginsLine : List ℕ → Type 0
 BeginsLine after = (after ≡ []) ⊎ ((later : List ℕ) × (after ≡ 10 ∷ later))
 
--- This is a line of the text, without its line end.
+-- The text has this line, given here without its line end.
 pub record HasLine (text line : List ℕ) : Type 0 where
   pub before : List ℕ
   pub after : List ℕ
@@ -92,35 +94,35 @@ pub record HasLine (text line : List ℕ) : Type 0 where
   pub ends : BeginsLine after
   pub single : HasNone 10 line
 
--- A list, or a part of one, has a line of the ticket with this address as its owner's.
+-- A list, or a part of one, has a line for the ticket that gives this address as its owner's.
 abbrev pub ListTells : List ℕ → Address → PlainMessage → Claim → Type 0
 ListTells name address message (IsListed digits) =
     (text : List ℕ) × (message.head.cmd ≡ RLst) × (message.content ≡ Text text)
     × HasLine text (name ++ 32 ∷ (printed address ++ 32 ∷ digits))
 ListTells name address message claim = ⊥
 
--- the entry starts this job; a start that failed or was interrupted counts
+-- The entry starts this job. A start that failed or was interrupted counts.
 abbrev pub IsStart : SessionEntry → Job → Type 0
 IsStart (Makes (calls.Start number ticket handler local expires answer)) job =
     record { number = number; ticket = ticket; handler = handler; local = local; expires = expires } ≡ job
 IsStart (IsCut (CutStart started)) job = started ≡ job
 IsStart what job = ⊥
 
--- the entry sends a message with this claim, or a list with it
+-- The entry sends a message with this claim, or a list with it.
 abbrev pub SendTells : List ℕ → MemberId → Address → SessionEntry → Claim → Type 0
 SendTells name me address what claim =
     (bytes : List ℕ) × (message : PlainMessage) × IsSend what bytes × (decoded bytes ≡ Ok message)
     × (MessageTells name me message claim ⊎ ListTells name address message claim)
 
--- the entry starts a job with this claim
+-- The entry starts a job with this claim.
 abbrev pub StartTells : List ℕ → SessionEntry → Claim → Type 0
 StartTells name what claim = (job : Job) × IsStart what job × JobTells name job claim
 
--- the address of the member at a place
+-- The address of the member at a place.
 abbrev pub address_at : World → ℕ → Address
 address_at w m = address_in (slice_get w.members m)
 
--- by this entry its member names itself as the ticket's holder
+-- By this entry its member names itself as the ticket's holder.
 abbrev pub Tells : World → TicketConf → WorldEntry → Claim → Type 0
 Tells w ticket entry claim =
     SendTells ticket.name (id_at w entry.member) (address_at w entry.member) entry.what claim
@@ -128,16 +130,17 @@ Tells w ticket entry claim =
 
 -- ---- the laws
 
--- the next entry of the world is this one
+-- The next entry of the world is this one.
 abbrev pub IsNext : {w : World} → Moment w → WorldEntry → Type 0
 IsNext moment entry = (after : List WorldEntry) × (moment.after ≡ entry ∷ after)
 
--- the claim has not ended at what the member's clock reads: each end that bears it out is above that
+-- The claim has not ended at the time that the member's clock reads: each end that bears the claim out is above it.
 abbrev pub IsLive : (w : World) → ℕ → Moment w → Claim → Type 0
 IsLive w m moment claim = (until : ℕ) → BearsOut claim until → clock_at w m moment.time < until
 
--- A claim has not ended at readings below what it states itself: below the second in which a lease is said to end;
--- for a message, up to the reading that it carries, plus the seconds that it states, minus one.
+-- A claim has not ended at readings below the end that it states. For a handler or a list, that is the second in
+-- which the lease ends. For a message, it is the reading that the message carries, plus the seconds that it states,
+-- minus one.
 pub record ClaimsLast : Type 0 where
   pub ends_in : (w : World) (m : ℕ) (moment : Moment w) (second : ℕ) → clock_at w m moment.time < 1000 * second
       → IsLive w m moment (EndsIn second)
@@ -147,7 +150,7 @@ pub record ClaimsLast : Type 0 where
   pub granted : (w : World) (m : ℕ) (moment : Moment w) (head : Head) → head.secs < 4294967295
       → clock_at w m moment.time ≤ 1000 * head.secs + head.usecs / 1000 → IsLive w m moment (IsGranted head)
 
--- just before a member names itself as the holder, it may have written a record whose lease bears the claim out
+-- Just before a member names itself as the holder, it may have written a record whose lease bears the claim out.
 abbrev pub TellersHaveKeptIn : World → Type 0
 TellersHaveKeptIn w =
     (ticket : TicketConf) → IsAutomatic w ticket
@@ -158,8 +161,8 @@ TellersHaveKeptIn w =
 abbrev pub WhoTellsHasKept : Type 0
 WhoTellsHasKept = (w : World) → IsUntimedWorld w → TellersHaveKeptIn w
 
--- When a client is told that its grant was done, a record with such a lease was written, and it is the only one that
--- may have been.
+-- A client is informed that its grant was done only after a record whose lease bears this out was written. It is then
+-- the only record that the member may have written.
 abbrev pub GrantsAreKept : Type 0
 GrantsAreKept =
     (w : World) → IsUntimedWorld w → (ticket : TicketConf) → IsAutomatic w ticket
@@ -168,7 +171,8 @@ GrantsAreKept =
     → (kept : Record) × (may_at w ticket entry.member moment ≡ kept ∷ [])
     × IsSomeAnd kept.lease (λ lease. BearsOut (IsGranted head) lease.until)
 
--- so the member holds the ticket at that moment, while the claim has not ended, and no other member does
+-- While its claim has not ended, a member that names itself as the holder holds the ticket at that moment, and no
+-- other member does.
 abbrev pub TellersHoldIn : World → Type 0
 TellersHoldIn w =
     (ticket : TicketConf) → IsAutomatic w ticket
@@ -180,9 +184,10 @@ TellersHoldIn w =
 abbrev pub WhoTellsHolds : Type 0
 WhoTellsHolds = (w : World) → IsWorld w → TellersHoldIn w
 
--- If one member names itself as the holder, and another does later, and neither claim has ended at that moment, then
--- acquire-after lies between, or the first released in between the lease by which it held, and which bears its claim
--- out. So they never do so at one moment, unless the lease was released then.
+-- One member names itself as the holder, another does so later, and neither claim has ended at its moment. Then
+-- acquire-after lies between the two, or the first member released its lease in between: the lease by which it held,
+-- and which bears its claim out. So two members never name themselves at the same moment, unless the lease was
+-- released then.
 abbrev pub TellersAreApartIn : World → Type 0
 TellersAreApartIn w =
     (ticket : TicketConf) → IsAutomatic w ticket

@@ -22,8 +22,8 @@ use Rattle.booth_world.specs.Tellers.{IsNext}
 use Rattle.booth_world.specs.Fencing.{HasGainedAt, IsBelowAt, TermsAreOfOneIn, HoldersOfOneTermIn, AskersHaveLaterTermsIn}
 use Rattle.booth_world.specs.Worlds.{IsLater}
 
--- The member rests between two turns, or has the answer of a `next`, with this view of the ticket, and at a reading
--- that is no earlier than its last one it would report this lease.
+-- The member rests between two turns, or has the answer of a `next`, with this view of the ticket. At a reading that
+-- is no earlier than its last one, it would report this lease.
 pub record WouldTell (w : World) (ticket : TicketConf) (m : ℕ) (moment : Moment w) (lease : Lease) : Type 0 where
   pub below : m < members_of w
   pub node : NodeConfig
@@ -39,7 +39,8 @@ pub record WouldTell (w : World) (ticket : TicketConf) (m : ℕ) (moment : Momen
   pub later : resting.last_reading ≤ reading
   pub tells : told_lease (setup_of node place own) view reading ≡ Some lease
 
--- if two members would report leases of one term, each at its own moment and by its own clock, they are one member
+-- If two members would report leases with the same term, each at its own moment and by its own clock, they are one
+-- member.
 abbrev pub ToldTermsAreOfOneIn : World → Type 0
 ToldTermsAreOfOneIn w =
     (ticket : TicketConf) → IsAutomatic w ticket
@@ -62,25 +63,26 @@ abbrev pub MessageTellsTerm : List ℕ → MemberId → PlainMessage → ℕ →
 MessageTellsTerm name me message term =
     (part : TicketPart) × (message.content ≡ Ticket part) × PartTellsTerm name me message.head part term
 
--- by this entry its member sends such an answer about itself; a send that failed or was interrupted counts
+-- By this entry its member sends an answer that reports this term and names the member itself. A send that failed or
+-- was interrupted counts.
 abbrev pub TellsTerm : World → TicketConf → WorldEntry → ℕ → Type 0
 TellsTerm w ticket entry term =
     (bytes : List ℕ) × (message : PlainMessage) × IsSend entry.what bytes × (decoded bytes ≡ Ok message)
     × MessageTellsTerm ticket.name (id_at w entry.member) message term
 
--- just before a member reports a term, it may have written a lease of that term, which it gained
+-- Just before a member reports a term, it may have written a lease of that term, which it gained.
 abbrev pub ToldTermsAreGainedIn : World → Type 0
 ToldTermsAreGainedIn w =
     (ticket : TicketConf) → IsAutomatic w ticket
     → (moment : Moment w) (entry : WorldEntry) → IsNext moment entry → (term : ℕ) → TellsTerm w ticket entry term
     → (lease : Lease) × (lease.term ≡ term) × HasGainedAt w ticket entry.member moment lease
 
--- This requires neither version 2, nor that the lease is still in force: a member that is paused before its send
--- reports a term late.
+-- A member that reports a term has gained a lease of that term. This requires neither version 2, nor that the lease
+-- is still in force: a member that is paused before its send reports a term late.
 abbrev pub ToldTermsAreGained : Type 0
 ToldTermsAreGained = (w : World) → IsUntimedWorld w → ToldTermsAreGainedIn w
 
--- two entries that report one term are of one member
+-- Two entries that report the same term belong to one member.
 abbrev pub TellersOfOneTermIn : World → Type 0
 TellersOfOneTermIn w =
     (ticket : TicketConf) → IsAutomatic w ticket
@@ -88,7 +90,8 @@ TellersOfOneTermIn w =
     → (first second : WorldEntry) → IsNext early first → IsNext late second
     → (term : ℕ) → TellsTerm w ticket first term → TellsTerm w ticket second term → first.member ≡ second.member
 
--- if a member reports a term that it had not written yet when another reported one, its term is the greater
+-- Suppose that one member reports a term while another member has not written a term T yet. If the other member reports
+-- T later, T is the greater of the two terms.
 abbrev pub LaterTellersHaveLaterTermsIn : World → Type 0
 LaterTellersHaveLaterTermsIn w =
     (ticket : TicketConf) → IsAutomatic w ticket
@@ -100,7 +103,7 @@ LaterTellersHaveLaterTermsIn w =
 
 -- ---- worlds of version 2
 
--- The terms of leases are fencing tokens: this is what a storage that compares them may rely on.
+-- The terms of leases are fencing tokens. A storage system that compares them may rely on these laws.
 pub record HasFencingTerms (w : World) : Type 0 where
   pub terms : TermsAreOfOneIn w
   pub holders : HoldersOfOneTermIn w
@@ -110,7 +113,7 @@ pub record HasFencingTerms (w : World) : Type 0 where
   pub tellers : TellersOfOneTermIn w
   pub later_tellers : LaterTellersHaveLaterTermsIn w
 
--- This holds in each world whose sessions are all of version 2, however its clocks drift, stand still and step
--- forward.
+-- The terms of leases are fencing tokens in each world whose sessions are all of version 2, however its clocks drift,
+-- stand still and step forward.
 abbrev pub WorldsHaveFencingTerms : Type 0
 WorldsHaveFencingTerms = (w : World) → IsUntimedWorld w → IsSecondWorld w → HasFencingTerms w

@@ -21,22 +21,22 @@ use Rattle.booth_ticket.specs.Requests.{follow_request}
 use Rattle.booth_ticket.specs.Waiting.{Left}
 use Rattle.booth_world.specs.Kept.{AnyAsk}
 
--- how long a member tries a round, or a handler may run: a timeout for the first sending and one for each retry; and
--- 1 ms
+-- The time for which a member tries a round, or for which a handler may run: one timeout for the first send, one for
+-- each retry, and 1 ms.
 abbrev pub patience : Setup → ℕ
 patience setup = setup.times.timeout * (setup.times.retries + 1) + 1
 
--- the latest deadline that is set at a reading: this long after it, or the end of the own lease
+-- The latest deadline that is set at a reading: `patience` after the reading, or the end of the own lease.
 abbrev pub latest : Setup → View → ℕ → ℕ
 latest setup view now = max (now + patience setup) (own_end view)
 
--- A member that does not follow works, is a candidate or leads, and has a deadline; no client waits for the ticket of
--- a follower.
+-- A member that is not a follower is working, is a candidate or leads, and has a deadline. No client waits for the
+-- ticket of a follower.
 pub record WaitForDeadline (setup : Setup) (now : ℕ) (view : View) (waiters : List Waiter) : Type 0 where
   pub coming : is_follower view.role ≡ false → IsSomeAnd view.due (λ due. due ≤ latest setup view now)
   pub idle : is_follower view.role ≡ true → waiters ≡ []
 
--- this holds for the result of a call, and the setup is unchanged
+-- The result of a call has its deadline while a client waits, and the setup is unchanged.
 abbrev pub LeavesDeadlines : Setup → ℕ → Deeds Ask Left → Type 0
 LeavesDeadlines setup now deeds =
     Always AnyAsk (λ left. (left.core.setup ≡ setup) × WaitForDeadline setup now left.core.view left.waiters) deeds
@@ -44,8 +44,8 @@ LeavesDeadlines setup now deeds =
 abbrev pub core_of : Setup → View → State
 core_of setup view = record { setup = setup; view = view }
 
--- This holds when an automatic ticket starts, it stays true while time passes, and every event leaves it true. And if
--- a client waits, the ticket has a deadline, which is not later than that.
+-- A ticket with a waiting client has its deadline: this holds when an automatic ticket starts, and stays true while
+-- time passes and after every event. The deadline is not later than `latest`.
 pub record WaitersHaveDeadlines : Type 0 where
   pub starts : (setup : Setup) (rec : Record) (now : ℕ) → WaitForDeadline setup now (started setup rec now) []
   pub passes : (setup : Setup) (view : View) (waiters : List Waiter) (now later : ℕ) → now ≤ later

@@ -20,21 +20,21 @@ use Rattle.booth_world.specs.Revocations.{GoesOnToRevoke, AtSome}
 
 -- ---- two moments
 
--- the second moment is not before the first, and these are the entries between
+-- The second moment is not before the first, and these are the entries between the two.
 pub record IsLater (w : World) (early late : Moment w) (between : List WorldEntry) : Type 0 where
   pub entries : late.before ≡ early.before ++ between
   pub not_before : early.time ≤ late.time
 
--- A write for the ticket by this member that succeeded, with this state after it, released its lease: its record has
--- none, and a term no smaller than that of the lease, and the member goes on to tell each other member that this term
--- was released. The record of a new term may have no lease too, but then the member goes on to request votes.
+-- A successful write for the ticket by this member released its lease, and left this state. The write's record has no
+-- lease, and its term is no smaller than the lease's. The member then informs each other member that this term was
+-- released. The record of a new term may have no lease either, but then the member requests votes next.
 abbrev pub GivesBack : World → List ℕ → ℕ → Record → Stand → SessionEntry → Type 0
 GivesBack w name m kept after (Makes (calls.Keep ticket rec (Ok done))) =
     (ticket ≡ name) × (rec.lease ≡ None) × ForSome kept.lease (λ given. given.term ≤ rec.term)
     × GoesOnToRevoke w name rec.term m after
 GivesBack w name m kept after what = ⊥
 
--- an entry of the member among these, which follow the others, released the lease
+-- An entry of the member among these entries released the lease.
 abbrev pub ReleasedIn : World → TicketConf → ℕ → Record → List WorldEntry → List WorldEntry → Type 0
 ReleasedIn w ticket s kept before between =
     AtSome before between
@@ -43,7 +43,7 @@ ReleasedIn w ticket s kept before between =
 
 -- ---- the laws
 
--- no two members ever hold an automatic ticket at the same moment of the world
+-- No two members ever hold an automatic ticket at the same moment of the world.
 abbrev pub HoldsOneIn : World → Type 0
 HoldsOneIn w =
     (ticket : TicketConf) → IsAutomatic w ticket
@@ -52,8 +52,8 @@ HoldsOneIn w =
 abbrev pub WorldsHoldOne : Type 0
 WorldsHoldOne = (w : World) → IsWorld w → HoldsOneIn w
 
--- If one member holds it by a record, and another later, acquire-after lies between each time at which that record
--- was in force and the later one, or a write between the two released the record's lease.
+-- One member holds the ticket by a record, and another member holds it later. Then acquire-after lies between each
+-- time at which that record was in force and the later time, or a write between the two released the record's lease.
 abbrev pub WorldsAreApart : Type 0
 WorldsAreApart =
     (w : World) → IsWorld w → (ticket : TicketConf) → IsAutomatic w ticket
@@ -62,7 +62,8 @@ WorldsAreApart =
     → HoldsBy w ticket s early kept → Holds w ticket t late
     → IsApartFrom (cluster_of w ticket) s kept early.time late.time ⊎ ReleasedIn w ticket s kept early.before between
 
--- if each record that a member may have written for a ticket has at least a term, so has each one later
+-- If each record that a member may have written for a ticket has at least this term, then so has each record that it
+-- may have written later.
 abbrev pub TermsNeverFallIn : World → Type 0
 TermsNeverFallIn w =
     (ticket : TicketConf) → IsOneTicket w ticket
@@ -74,7 +75,7 @@ TermsNeverFallIn w =
 abbrev pub WorldTermsNeverFall : Type 0
 WorldTermsNeverFall = (w : World) → IsUntimedWorld w → TermsNeverFallIn w
 
--- If one member holds it by a lease, and another holds it later by a lease, the later lease has the later term.
+-- If two members hold the ticket by leases, one after the other, the later lease has the greater term.
 abbrev pub LaterTermsIn : World → Type 0
 LaterTermsIn w =
     (ticket : TicketConf) → IsAutomatic w ticket
@@ -83,31 +84,32 @@ LaterTermsIn w =
     → kept.lease ≡ Some first → other.lease ≡ Some second
     → HoldsBy w ticket s early kept → HoldsBy w ticket t late other → first.term < second.term
 
--- This holds in each world whose sessions are all of version 2.
+-- Later holders have greater terms in each world whose sessions are all of version 2.
 abbrev pub LaterHoldersHaveLaterTerms : Type 0
 LaterHoldersHaveLaterTerms = (w : World) → IsWorld w → IsSecondWorld w → LaterTermsIn w
 
 -- ---- logs of nodes
 
--- calls that all have answers
+-- A list of calls that all have answers.
 abbrev pub made : List Entry → List SessionEntry
 made calls = map (λ call. Makes call) calls
 
--- the calls of many turns are those of a session, from the state in which they begin, and leave it between two turns
+-- The calls of many turns are the calls of a session. The session begins in the state in which the turns begin, and
+-- after them it is between two turns.
 abbrev pub LogsAreSessions : Type 0
 LogsAreSessions =
     (node : NodeConfig) (old new : State) (count : ℕ) (entries : List Entry) → IsNodeLog node old count new entries
     → AreSessions (Doing node (Ends old)) (made entries)
     × (after_entries (Doing node (Ends old)) (made entries) ≡ Doing node (Ends new))
 
--- the same holds if the last of the turns stopped
+-- The calls of many turns are the calls of a session, even if the last of the turns stopped.
 abbrev pub StoppedLogsAreSessions : Type 0
 StoppedLogsAreSessions =
     (node : NodeConfig) (old new : State) (entries : List Entry) → IsStoppedLog node old new entries
     → AreSessions (Doing node (Ends old)) (made entries)
     × (after_entries (Doing node (Ends old)) (made entries) ≡ Doing node (Ends new))
 
--- and a session up to any of its entries is one
+-- A session up to any of its entries is a session too.
 abbrev pub CutSessionsAreSessions : Type 0
 CutSessionsAreSessions =
     (stand : Stand) (early late : List SessionEntry) → AreSessions stand (early ++ late) → AreSessions stand early

@@ -1,4 +1,4 @@
-//! Small runs, each the contract of a function that does nothing: they show that the laws are not empty.
+//! Small runs that show that the laws are not empty. Each is the contract of a function that does nothing.
 ghost use Rattle.std.specs.Prelude.{◌++◌, []};
 ghost use Rattle.booth_base.specs.declared.name.Name.{Name};
 ghost use Rattle.booth_world.specs.Calls.{IsMember};
@@ -11,8 +11,8 @@ ghost use Rattle.booth_world.specs.States.{opening, HasClocks, IsTimed};
 ghost use Rattle.booth_world.specs.FencingExample.{wild, first_part, second_part};
 ghost use Rattle.booth_world.specs.Steps.{IsRun, AreSecond, world_of};
 
-/// Among three members, whose clocks are at the limits of drift, a ticket is granted, renewed,
-/// released, and granted at another site.
+/// Three members have clocks at the limits of drift. A ticket is granted, renewed, released, and granted at another
+/// site.
 pub fn ticket_moves()
     ensures clocks { HasClocks three }
     ensures timed { IsTimed three }
@@ -28,27 +28,27 @@ pub fn holder_restarts()
     ensures held { Held three (world_of three (granted ++ crashed_and_started)) 0 }
 {}
 
-/// A member that has started is one about whose calls the law speaks.
+/// The law about calls applies to a member that has started.
 pub fn started_view_agrees()
     ensures { (ticket : Name) → IsMember three (world_of three start) (first_caller ticket) }
 {}
 
-/// By the lease rules a member that is alone in its cluster holds. The write of a release fails, the next is
-/// interrupted, and it starts from the record of the write that failed.
+/// A member that is alone in its cluster holds the ticket by the lease rules. The write of a release fails, the next
+/// write is interrupted, and the member starts from the record of the write that failed.
 pub fn lone_core_holds()
     ensures entered { (ticket : Name) → CoreCourse lone (lone_cast ticket) lone_grant lone_restart }
     ensures held { (ticket : Name) → CoreHolds lone (early_cores lone (lone_cast ticket) lone_grant) 0 }
 {}
 
-/// At its host it greets, acquires the ticket and writes twice in one turn, stops before the turn ends, starts again,
-/// and still holds.
+/// At its host, a member that is alone greets, acquires the ticket and writes twice in one turn. It stops before the
+/// turn ends, starts again, and still holds the ticket.
 pub fn lone_host_holds()
     ensures hosted { (ticket : Name) → HostCourse lone (lone_cast ticket) lone_turn [] }
     ensures held { (ticket : Name) → HostHolds lone (early_hosts lone (lone_cast ticket) lone_turn) 0 }
 {}
 
-/// If a clock steps forward, two sites hold at one moment, with each start in version 2, and their leases have the
-/// terms 1 and 2.
+/// If a clock steps forward, two sites hold the ticket at the same time although each start is of version 2. Their
+/// leases have the terms 1 and 2.
 pub fn stepped_clock_gives_a_lease()
     ensures clocks { HasClocks wild }
     ensures run { IsRun wild (opening wild) (first_part ++ second_part) }

@@ -1,4 +1,4 @@
-//! The laws of a ticket's world, each the contract of a function that does nothing.
+//! The laws of a ticket's world. Each is the contract of a function that does nothing.
 ghost use Rattle.booth_node.specs.World.{OneConfigurationIsEnough};
 ghost use Rattle.booth_world.specs.Alone.{GrantGainsAlone};
 ghost use Rattle.booth_world.specs.Calls.{CallsAreSteps, PromisesWhereItMayAnswer, StepsOfOneAreSteps};
@@ -19,14 +19,14 @@ ghost use Rattle.booth_world.specs.Waits.{WaitersHaveDeadlines};
 ghost use Rattle.booth_world.specs.Worlds.{CutSessionsAreSessions, LogsAreSessions, StoppedLogsAreSessions};
 ghost use Rattle.booth_world.specs.Worlds.{LaterHoldersHaveLaterTerms, WorldTermsNeverFall, WorldsAreApart, WorldsHoldOne};
 
-/// No two sites ever hold the ticket at the same moment.
+/// No two sites ever hold the ticket at the same time.
 pub fn one_holder()
     ensures steps { HasOneHolder }
     ensures worlds { WorldsHoldOne }
 {}
 
-/// Acquire-after lies between the lease by which one site holds and another site that holds later, or the first
-/// released that lease between the two.
+/// One site holds by a lease, and another site holds later. Then acquire-after lies between that lease and the later
+/// time, or the first site released the lease between the two.
 pub fn apart()
     ensures steps { HoldersAreApart }
     ensures worlds { WorldsAreApart }
@@ -38,18 +38,18 @@ pub fn terms()
     ensures worlds { WorldTermsNeverFall }
 {}
 
-/// If each session is of version 2, and one site holds by a lease and another holds later by a lease, the later lease
-/// has the later term.
+/// If each session is of version 2, and two sites hold by leases, one after the other, the later lease has the
+/// greater term.
 pub fn later_terms()
     ensures steps { LaterHolderHasLaterTerm }
     ensures worlds { LaterHoldersHaveLaterTerms }
 {}
 
-/// A member that names itself as the holder of an automatic ticket is right: just before, it may have written a
-/// record whose lease bears the claim out; and if the claim is a grant's success, that record was written, and it is
-/// the only one that may have been. If the claim has not ended at that moment, the member holds the ticket then, and
-/// no other member does. And if two members name themselves, one after the other, acquire-after lies between, or the
-/// first released in between the lease by which it held.
+/// A member that names itself as the holder of an automatic ticket is right. Just before, it may have written a
+/// record whose lease bears the claim out. If the claim is a grant's success, that record was written, and it is the
+/// only one that may have been written. If the claim has not ended at that moment, the member holds the ticket then,
+/// and no other member does. If two members name themselves, one after the other, acquire-after lies between the two
+/// moments, or the first member released its lease between them.
 pub fn tellers()
     ensures kept { WhoTellsHasKept }
     ensures granted { GrantsAreKept }
@@ -78,26 +78,26 @@ pub fn manual_waiters_have_jobs()
     ensures { ManualWaitersHaveJobs }
 {}
 
-/// Clients wait for an automatic ticket only while its member works, is a candidate or leads, and then the ticket has
-/// a deadline: at most as long after the last reading as a round is tried, or at the end of the lease.
+/// Clients wait for an automatic ticket only while its member is working, is a candidate or leads. Then the ticket
+/// has a deadline: at most as long after the last reading as a round is tried, or at the end of the lease.
 pub fn waiters_have_deadlines()
     ensures { WaitersHaveDeadlines }
 {}
 
-/// So in each world each ticket for which a client waits, automatic or manual, has a deadline, at each moment at
-/// which a member rests between two turns, or begins one.
+/// In each world, each ticket for which a client waits has a deadline, whether it is automatic or manual. This holds
+/// at each moment at which a member rests between two turns, or begins one.
 pub fn worlds_waiters_have_deadlines()
     ensures { WorldsWaitersHaveDeadlines }
 {}
 
-/// A grant that is not refused, at a member that is a majority by itself, gives the lease at once: the new term is
-/// written, then the lease, and the client that asked gets success.
+/// A grant that is not refused, at a member that is a majority by itself, gives the lease at once. The member writes
+/// the new term and then the lease, and the client that asked gets success.
 pub fn grant_gains_alone()
     ensures { GrantGainsAlone }
 {}
 
-/// After the round with the last number no other is opened in its term, after the last job's number comes 1 again,
-/// and a counter stays at its greatest value.
+/// After the round with the last number, no other round is opened in its term. After the last job number comes 1
+/// again. A counter stays at its greatest value.
 pub fn last_numbers()
     ensures { LastNumbers }
 {}
@@ -112,7 +112,7 @@ pub fn logs_are_sessions()
     ensures { LogsAreSessions }
 {}
 
-/// The same holds for a log whose last turn stopped.
+/// A log whose last turn stopped is part of a session of a world.
 pub fn stopped_logs_are_sessions()
     ensures { StoppedLogsAreSessions }
 {}
@@ -122,7 +122,7 @@ pub fn cut_sessions_are_sessions()
     ensures { CutSessionsAreSessions }
 {}
 
-/// All laws over steps, for a program that takes them by one call.
+/// All laws over steps, so that a program takes them by one call.
 pub fn all()
     ensures one_holder { HasOneHolder }
     ensures apart { HoldersAreApart }
@@ -135,19 +135,19 @@ pub fn all()
     later_terms();
 }
 
-/// If the lease rules may answer a round, the world's member may make the promise.
+/// If the lease rules allow an answer to a round, the member of the world may make the promise.
 pub fn promises_where_it_may_answer()
     ensures { PromisesWhereItMayAnswer }
 {}
 
 /// Each start, each call of `Core` and each result of a write is a list of steps of its member, in a session of
-/// either version. They lead to a state that agrees with the view, and to a known list of records that may have been
-/// written; each message is a fact, and no other facts are added.
+/// either version. The steps lead to a state that agrees with the view, and to a known list of records that may have
+/// been written. Each message is a fact, and no other facts are added.
 pub fn calls_are_steps()
     ensures { CallsAreSteps lease_rules }
 {}
 
-/// Steps that one member may make are steps of the world.
+/// The steps that one member may make are steps of the world.
 pub fn steps_of_one_are_steps()
     ensures { StepsOfOneAreSteps }
 {}
@@ -157,8 +157,8 @@ pub fn agreement_stays()
     ensures { AgreementStays }
 {}
 
-/// Each call of a member leads on from world to world: its view agrees, its messages are facts, and the views of
-/// others still agree.
+/// Each call of a member leads from one world to the next. Its view agrees, its messages are facts, and the views of
+/// other members still agree.
 pub fn calls_lead_on()
     ensures { CallsLeadOn }
 {}
@@ -168,20 +168,20 @@ pub fn runs_append()
     ensures { RunsAppend }
 {}
 
-/// While others make steps and time passes, a member is unchanged, and one that agrees still agrees; so does one that
-/// reads its clock.
+/// While others make steps and time passes, a member is unchanged, and if it agreed it still agrees. The same holds if
+/// the member itself reads its clock.
 pub fn members_stay()
     ensures { MembersStay }
 {}
 
-/// Entries of the lease cores of a ticket, at all members, with stops at any of them, are a run of the world: at no
-/// moment after them do two sites hold the ticket.
+/// Entries of the lease cores of a ticket at all members, with stops at any entry, are a run of the world. After them,
+/// no two sites hold the ticket at the same moment.
 pub fn cores_hold_one()
     ensures { CoresHoldOne }
 {}
 
-/// If one site holds after some entries of the cores and another holds later, acquire-after lies between that lease
-/// and the other, or an entry between released the lease.
+/// One site holds after some entries of the cores, and another site holds later. Then acquire-after lies between that
+/// lease and the later time, or an entry between the two released the lease.
 pub fn cores_are_apart()
     ensures { CoresAreApart }
 {}
@@ -196,14 +196,14 @@ pub fn later_core_terms()
     ensures { LaterCoreHasLaterTerm }
 {}
 
-/// Entries of the hosts of a ticket, whose turns a stop may interrupt anywhere, are entries of its cores: at no
-/// moment after them do two sites hold the ticket.
+/// Entries of the hosts of a ticket, whose turns a stop may interrupt anywhere, are entries of its cores. After them,
+/// no two sites hold the ticket at the same moment.
 pub fn hosts_hold_one()
     ensures { HostsHoldOne }
 {}
 
-/// If one site holds after some entries of the hosts and another holds later, acquire-after lies between that lease
-/// and the other, or a write between the two released the lease.
+/// One site holds after some entries of the hosts, and another site holds later. Then acquire-after lies between that
+/// lease and the later time, or a write between the two released the lease.
 pub fn hosts_are_apart()
     ensures { HostsAreApart }
 {}
@@ -218,7 +218,7 @@ pub fn later_host_terms()
     ensures { LaterHostHasLaterTerm }
 {}
 
-/// All laws over entries of the hosts, for a program that takes them by one call.
+/// All laws over entries of the hosts, so that a program takes them by one call.
 pub fn all_over_hosts()
     ensures one_holder { HostsHoldOne }
     ensures apart { HostsAreApart }
@@ -232,24 +232,25 @@ pub fn all_over_hosts()
 }
 
 /// Each world has a shadow: for each of its moments and each automatic ticket, a list of the world's steps from the
-/// opening state. After them each member may have written the records that it may have written by the entries, and
-/// the one that its turn writes next; each release is that of an entry; each round was opened and each answer given
-/// at a reading that an entry took; each message that an entry sent states a fact; and the ticket is held at each
-/// member that holds it.
+/// opening state. After these steps, each member may have written the records that it may have written by the
+/// entries, and the record that its turn writes next. Each release is the release of an entry. Each round was opened,
+/// and each answer given, at a reading that an entry took. Each message that an entry sent states a fact. A member
+/// that holds the ticket according to the entries holds it in the state after these steps.
 pub fn worlds_have_shadows()
     ensures { WorldsHaveShadows }
 {}
 
-/// The shadow of a later moment continues that of an earlier one: each release in the further steps is that of an
-/// entry between the two, and if all sessions are of version 2, so is each start among the steps.
+/// The shadow of a later moment continues the shadow of an earlier one. Each release in the further steps is the
+/// release of an entry between the two moments. If all sessions are of version 2, each start among the steps is of
+/// version 2.
 pub fn shadows_grow()
     ensures { ShadowsGrow }
 {}
 
-/// Leases are distinguished by their terms, whatever clocks do, if each start is of version 2: two gained leases of one
-/// term are of one member, a lease that is asked for later has a greater term, and so has one that a member gains
-/// after it went down. The same holds in each world whose clocks rise. In such a world a member that reports
-/// a term has gained a lease of it, in either version.
+/// The terms of leases distinguish them, whatever clocks do, if each start is of version 2. Two gained leases with
+/// the same term belong to one member. A lease that is asked for later has a greater term, and so has a lease that a
+/// member gains after it went down. The same holds in each world whose clocks rise. In such a world, a member that
+/// reports a term has gained a lease of that term, in either version.
 pub fn fencing()
     ensures terms { TermsAreOfOneMember }
     ensures askers { LaterAskersHaveLaterTerms }

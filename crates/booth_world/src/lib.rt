@@ -1,4 +1,4 @@
-//! Laws over every schedule of one ticket: no clock runs here, and no message is sent.
+//! Laws over every schedule of one ticket. No clock runs here, and no message is sent.
 #![tactic(auto)]
 
 pub mod examples;

@@ -73,8 +73,8 @@ fn sixteen_members(rt: HostRuntime) {
 
 #[test]
 fn handlers_prerequisites_and_tickets_by_hand(rt: HostRuntime) {
-    // Clients ask for each ticket once, at the second site: the prerequisite does not hold, the ticket by hand is
-    // granted, and the handler never tells its end.
+    // Clients ask for each ticket once, at the second site: the prerequisite does not hold, the manual ticket is
+    // granted, and the handler never reports its end.
     let gained = Summary {
         gains: 1,
         greatest_term: 1,
