@@ -1,6 +1,6 @@
--- A fence for PostgreSQL: a write that shows a smaller term of a ticket than an earlier one is refused.
+-- A fence for PostgreSQL: it refuses a write that shows a smaller term of a ticket than an earlier write.
 --
--- Each session shows its ticket and its term as settings. For a program that uses libpq, no line of it changes:
+-- Each session shows its ticket and its term as settings. A program that uses libpq needs no change:
 --     PGOPTIONS="-c booth.ticket=$BOOTH_TICKET -c booth.term=$BOOTH_TICKET_TERM" PROGRAM
 --
 -- Load the file once, and then have each table that the service writes ask the fence:
@@ -12,8 +12,8 @@ CREATE TABLE fence (
     term bigint NOT NULL CHECK (term BETWEEN 1 AND 4294967295)
 );
 
--- Remembers a greater term, and raises for a smaller one. The row stays locked until the transaction ends: so no
--- greater term can come between this comparison and the commit.
+-- Remembers a greater term, and raises an error for a smaller one. The row stays locked until the transaction ends, so
+-- no greater term can be stored between this comparison and the commit.
 CREATE FUNCTION pass_fence(shown_ticket text, shown_term bigint) RETURNS void LANGUAGE plpgsql AS $$
 DECLARE
     greatest_term bigint;

@@ -21,7 +21,7 @@ import threading
 from http.server import BaseHTTPRequestHandler, ThreadingHTTPServer
 from typing import Callable, Dict, Optional, Tuple
 
-# what a ticket and an object may be called: both become names of files
+# the allowed names of tickets and objects, which become names of files
 NAME = re.compile(r"[A-Za-z0-9_-][A-Za-z0-9_.-]{0,62}")
 # terms have 32 bits; a holder's is never 0
 TERM = re.compile(r"[0-9]{1,10}")
@@ -29,7 +29,7 @@ MOST_BYTES = 1 << 20
 
 
 class Refused(Exception):
-    """The write is refused: the status, and the line that says why."""
+    """The request is refused; `status` is the HTTP status, and the text is the cause."""
 
     def __init__(self, status: int, why: str) -> None:
         super().__init__(why)
@@ -64,7 +64,7 @@ class Store:
         for folder in (self.objects, self.terms):
             os.makedirs(folder, exist_ok=True)
         for ticket in os.listdir(self.terms):
-            # (a name with a point more is a file that a crash has left half written)
+            # (a file with the ending .new was left incomplete by a crash)
             if not ticket.endswith(".new"):
                 with open(os.path.join(self.terms, ticket), encoding="ascii") as file:
                     self.greatest[ticket] = int(file.read())
@@ -104,7 +104,7 @@ class Store:
 
 
 def as_shown(ticket: Optional[str], term: Optional[str]) -> Tuple[str, int]:
-    """Returns the ticket and the term that a write shows. The term 0 is no holder's."""
+    """Returns the ticket and the term that a write shows. No holder has the term 0."""
     if ticket is None or NAME.fullmatch(ticket) is None or ticket.endswith(".new"):
         raise Refused(400, f"bad Booth-Ticket: {ticket!r}")
     if term is None or TERM.fullmatch(term) is None or not 0 < int(term) < 1 << 32:
@@ -116,25 +116,25 @@ class Handler(BaseHTTPRequestHandler):
     """One request to the store of the server."""
 
     protocol_version = "HTTP/1.1"
-    # (a client that stands still holds a thread no longer)
+    # (a client that hangs occupies a thread no longer than this, in seconds)
     timeout = 60
 
     def answer(self, work: Callable[[], bytes]) -> None:
-        """Does the work of a request, and answers with what it returns or with why it is refused."""
+        """Does the work of a request, and answers with its result or with the cause of a refusal."""
         try:
             status, body = 200, work()
         except Refused as why:
             status, body = why.status, f"{why}\n".encode()
         except OSError as why:
             status, body = 500, f"the store failed: {why}\n".encode()
-        with contextlib.suppress(ConnectionError):  # (the client may be gone)
+        with contextlib.suppress(ConnectionError):  # (the client may have closed the connection)
             self.send_response(status)
             self.send_header("Content-Length", str(len(body)))
             self.end_headers()
             self.wfile.write(body)
 
     def written(self) -> int:
-        """Reads what is written, writes it, and returns the number of the write."""
+        """Reads the body of a request, writes it, and returns the number of the write."""
         length = self.headers.get("Content-Length", "")
         if not length.isdigit() or int(length) > MOST_BYTES:
             self.close_connection = True
@@ -159,7 +159,7 @@ class Handler(BaseHTTPRequestHandler):
 
 
 def main() -> None:
-    """Serves until it is ended."""
+    """Serves until a signal ends it."""
     parser = argparse.ArgumentParser(description="A store that refuses the writes of a ticket's old holder.")
     parser.add_argument("--unfenced", action="store_true", help="accept writes without a term too")
     parser.add_argument("directory", metavar="DIRECTORY")

@@ -15,7 +15,7 @@ LIST, MORE = int.from_bytes(b"CLst", "big"), int.from_bytes(b"More", "big")
 
 
 def received(link, count):
-    """The next bytes of a stream, so many, however the network cuts them."""
+    """Returns the next `count` bytes of a stream, wherever the network splits it."""
     came = b""
     while len(came) < count:
         more = link.recv(count - len(came))

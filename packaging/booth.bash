@@ -1,7 +1,7 @@
 # Completion in bash for boothd, booth, geostore, booth-follow, booth-status, booth-record, booth-service, booth-setup,
 # booth-switchover, booth-pacemaker and booth-lease-guard.
 
-# the file that -c names on this command line
+# prints the path of the configuration that -c names on this command line
 _booth_conf() {
   local i conf=booth
   for ((i = 1; i < ${#words[@]} - 1; i++)); do
@@ -11,7 +11,7 @@ _booth_conf() {
   printf '%s\n' "$conf"
 }
 
-# the values of these keys in that file, without quotes and comments
+# prints the values of these keys in the configuration, without quotes and comments
 _booth_values() {
   local line key value keys=" $* "
   while IFS= read -r line; do
@@ -22,8 +22,8 @@ _booth_values() {
   done 2>/dev/null <"$(_booth_conf)"
 }
 
-# The lines of a list that begin with the word, as a shell reads them. What stands there comes from a file, so nothing of it is
-# expanded, neither here, as compgen -W would, nor once it is on the command line.
+# Offers the lines of a list that begin with the word, quoted for the shell. The lines come from a file, so the shell
+# must not expand them: not here, as compgen -W would, and not later on the command line.
 _booth_reply() {
   local each
   COMPREPLY=()
@@ -34,7 +34,7 @@ _booth_reply() {
   done <<<"$1"
 }
 
-# the files and directories that begin with the word, a slash after a directory
+# offers the files and directories that begin with the word, with a slash after a directory
 _booth_files() {
   local each slash
   while IFS= read -r each; do
@@ -45,7 +45,7 @@ _booth_files() {
   done < <(compgen "$@")
 }
 
-# the configurations in /etc/booth by their names, and files and directories
+# offers the names of the configurations in /etc/booth, and files and directories
 _booth_configurations() {
   local names
   names=$(cd /etc/booth 2>/dev/null && for f in *.conf; do [[ -e $f ]] && printf '%s\n' "${f%.conf}"; done)
@@ -54,7 +54,7 @@ _booth_configurations() {
   _booth_files -d -- "$1"
 }
 
-# What is offered for a word of booth-status and of booth-record.
+# Completes a word of booth-status or booth-record.
 _booth_offer_tool() {
   local word=${words[cword]} before=${words[cword - 1]} program=${1##*/}
   local options=$'-c\n--conf\n'
@@ -77,22 +77,22 @@ _booth_offer_tool() {
   fi
 }
 
-# What is offered for a word of booth-follow: a ticket, and behind it a program.
+# Completes a word of booth-follow: a ticket, and then a program.
 _booth_offer_follow() {
   local i plain=0 word=${words[cword]} before=${words[cword - 1]}
   case $before in
     -c) _booth_configurations "$word"; return ;;
     -s) _booth_reply "$(_booth_values site)" "$word"; return ;;
-    -d | -e) _booth_files -f -- "$word"; return ;;
+    -d) _booth_files -f -- "$word"; return ;;
     -m | -k) return ;;
   esac
   if [[ $word == -* ]]; then
-    _booth_reply $'-c\n-s\n-d\n-e\n-m\n-k\n--help\n--version' "$word"
+    _booth_reply $'-c\n-s\n-d\n-m\n-k\n--help\n--version' "$word"
     return
   fi
   for ((i = 1; i < cword; i++)); do
     case ${words[i]} in
-      -[csdemk]) ((i++)) ;;
+      -[csdmk]) ((i++)) ;;
       -*) ;;
       *) ((plain++)) ;;
     esac
@@ -103,7 +103,7 @@ _booth_offer_follow() {
   esac
 }
 
-# What is offered for a word of booth-service: a command, and behind it a ticket of the cluster booth.
+# Completes a word of booth-service: a command, and then a ticket of the cluster booth.
 _booth_offer_service() {
   local word=${words[cword]}
   if [[ $word == -* ]]; then
@@ -115,7 +115,7 @@ _booth_offer_service() {
   fi
 }
 
-# What is offered for a word of booth-setup: a command, its options, and the bundle of a join.
+# Completes a word of booth-setup: a command, its options, and the bundle of a join.
 _booth_offer_setup() {
   local word=${words[cword]} before=${words[cword - 1]} options
   options=$'--postgresql\n--keep-records\n--root\n-n\n--dry-run\n-h\n--help\n-V\n--version'
@@ -139,7 +139,7 @@ _booth_offer_setup() {
   fi
 }
 
-# What is offered for a word of booth-switchover: a ticket, and behind it a site.
+# Completes a word of booth-switchover: a ticket, and then a site.
 _booth_offer_switchover() {
   local i plain=0 word=${words[cword]} before=${words[cword - 1]}
   case $before in
@@ -164,7 +164,7 @@ _booth_offer_switchover() {
   esac
 }
 
-# What is offered for a word of booth-pacemaker: a command, and behind it a ticket and resources of the cluster.
+# Completes a word of booth-pacemaker: a command, and then a ticket and resources of the cluster.
 _booth_offer_pacemaker() {
   local i plain=0 word=${words[cword]} before=${words[cword - 1]} options=$'-c\n--conf\n-n\n--dry-run\n'
   case $before in
@@ -193,12 +193,12 @@ _booth_offer_pacemaker() {
   esac
 }
 
-# the resources of this node's cluster
+# prints the resources of this node's cluster
 _booth_resources() {
   timeout -s KILL 3 crm_resource --list-raw 2>/dev/null
 }
 
-# What is offered for a word of booth-lease-guard.
+# Completes a word of booth-lease-guard.
 _booth_offer_guard() {
   local word=${words[cword]}
   if [[ ${words[cword - 1]} == --cib ]]; then
@@ -208,7 +208,7 @@ _booth_offer_guard() {
   fi
 }
 
-# What the next word of a move is, by the words between its command and the cursor.
+# Finds out what the next word of a move is, from the words between its command and the cursor.
 _booth_next_of_move() {
   local i plain=0
   for ((i = 2; i < cword; i++)); do
@@ -223,7 +223,7 @@ _booth_next_of_move() {
   ((plain == 0)) && printf ticket || printf site
 }
 
-# What is offered for the word before the cursor, by the words of the line in `words` and the number of this one.
+# Completes the word before the cursor, from the words of the line in `words` and the number of this word.
 _booth_offer() {
   local word=${words[cword]} before=${words[cword - 1]} program=${1##*/}
   local command=${words[1]} commands options
@@ -232,7 +232,7 @@ _booth_offer() {
     geostore) commands=$'set\nget\ndelete\nlist' ;;
     *) commands=$'list\nshow\npeers\nstatus\ngrant\nrevoke\nmove' ;;
   esac
-  # `booth` passes a leading `client` over
+  # `booth` ignores a leading `client`
   [[ $program == booth && $command == client ]] && command=${words[2]}
   case $program:$command in
     boothd:daemon) options=$'-c\n-s\n-l\n-d\n-n\n--help\n--version' ;;
@@ -262,7 +262,7 @@ _booth_offer() {
   elif [[ $program:$command == boothd:audit ]]; then
     _booth_files -f -- "$word"
   elif [[ $program:$command == booth:move ]]; then
-    # (first a ticket, and then a site; one that stands before the cursor is a ticket)
+    # (first a ticket, and then a site; a word before the cursor is a ticket)
     _booth_reply "$(_booth_values "$(_booth_next_of_move)")" "$word"
   elif [[ $program:$command == booth:show || $program:$command == booth:grant || $program:$command == booth:revoke ]]; then
     _booth_reply "$(_booth_values ticket)" "$word"
@@ -273,7 +273,7 @@ _booth_offer() {
 
 _booth_complete() {
   local words=("${COMP_WORDS[@]}") cword=$COMP_CWORD
-  # (bash parts a word at a colon, as an IPv6 address has, and bash-completion has what joins it again)
+  # (bash splits a word at a colon, for example in an IPv6 address; bash-completion has a function that joins it again)
   declare -F _get_comp_words_by_ref >/dev/null && _get_comp_words_by_ref -n : -w words -i cword
   COMPREPLY=()
   case ${1##*/} in
@@ -286,7 +286,7 @@ _booth_complete() {
     booth-lease-guard) _booth_offer_guard ;;
     *) _booth_offer "$1" ;;
   esac
-  # one goes on after a directory
+  # no blank is added after a directory
   [[ ${#COMPREPLY[@]} -eq 1 && ${COMPREPLY[0]} == */ ]] && compopt -o nospace 2>/dev/null
   declare -F __ltrim_colon_completions >/dev/null && __ltrim_colon_completions "${words[cword]}"
   return 0

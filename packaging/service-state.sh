@@ -1,36 +1,36 @@
-# The state of a service that follows its ticket, for the shell: follow-service, booth-service and handler-follow read
-# this file, and say before which `ticket` they mean. booth-follow(8) lists the files and keys. Times are in hundredths
-# of a second since the boot.
+# The state of a service that follows its ticket, for the shell: follow-service, booth-service and handler-follow set
+# `ticket` and then read this file. booth-follow(8) lists the files and keys. Times are in hundredths of a second since
+# the boot.
 #
-# BOOTH_FOLLOW_RUN names another folder than /run/booth-follow, for tests. Root reads it too: it comes from whoever runs
-# the program, as PATH does, since nothing runs one of these with rights that its caller has not.
-# shellcheck shell=sh disable=SC2034,SC2154 # (who reads this file sets `ticket`, and uses what it sets)
+# BOOTH_FOLLOW_RUN names another folder than /run/booth-follow, for tests. Root's runs read it too. This is safe, as for
+# PATH: nothing runs one of these programs with more rights than its caller has.
+# shellcheck shell=sh disable=SC2034,SC2154 # (the program that reads this file sets `ticket`, and uses the variables)
 run=${BOOTH_FOLLOW_RUN:-/run/booth-follow}
 state=$run/$ticket.state end=$run/$ticket.end paused=$run/$ticket.paused
 
-# Whether files of the folder can have the ticket's name.
+# Succeeds if files of the folder can have the ticket's name.
 has_file_name() {
   case $ticket in '' | .* | */*) return 1 ;; esac
 }
 
-# Whether this is a whole number. (The shell reads one that begins with 0 as octal.)
+# Succeeds for a whole number without leading zeros, since the shell reads a number that begins with 0 as octal.
 is_number() {
   case $1 in '' | *[!0-9]* | 0?* | ???????????????????*) return 1 ;; esac
 }
 
-# The variable `result` is a number of seconds in hundredths; 0 where it is none.
+# Sets `result` to a number of seconds in hundredths, or to 0 if the text is not a number.
 hundredths() {
   case $1 in *.[0-9][0-9]) part=${1#*.} ;; *) part=00 ;; esac
   result=0
   ! is_number "${1%.*}" || result=$((${1%.*} * 100 + 1$part - 100))
 }
 
-# Hundredths of a second as seconds.
+# Prints hundredths of a second as seconds.
 seconds() {
   printf '%d.%02d' $(($1 / 100)) $(($1 % 100))
 }
 
-# The variable `now` is the time since the boot.
+# Sets `now` to the time since the boot.
 look_at_clock() {
   read -r up _ </proc/uptime
   hundredths "$up"
@@ -56,7 +56,7 @@ load() {
   done <"$state"
 }
 
-# Puts standard input into a file under a new name, and then in its place.
+# Replaces a file by standard input: writes a new file and renames it.
 put() {
   new=$run/.$ticket.new.$$
   cat >"$new" && mv -f "$new" "$1" && return
@@ -80,8 +80,8 @@ status=$last_status
 END
 }
 
-# Changes the state by this function, one run at a time: a renewal runs beside a start or a stop. What ends a service
-# waits for no run that holds the lock for long.
+# Changes the state with a function, under a lock, since a renewal runs at the same time as a start or a stop. It waits
+# at most 3 seconds for the lock, so that a run that hangs does not delay the end of a service.
 change() {
   {
     flock -w 3 9
@@ -91,7 +91,7 @@ change() {
   } 9>>"$run/.$ticket.lock"
 }
 
-# The service is this from now on.
+# Sets the state of the service, which begins now.
 become() {
   [ "$service" != "$1" ] || return 0
   look_at_clock

@@ -1,14 +1,14 @@
-# The switch of a service that follows its ticket, for the shell: timers of systemd that run `follow-service .. switch`,
-# which kills the service before the lease ends. follow-service reads this file, and says before what each name here
-# stands for.
-# shellcheck shell=sh disable=SC2034,SC2154 # (who reads this file sets what it uses, and uses what it sets)
+# The switch of a service that follows its ticket, for the shell: systemd timers that run `follow-service .. switch`,
+# which kills the service before the lease ends. follow-service sets the variables that are used here, and then reads
+# this file.
+# shellcheck shell=sh disable=SC2034,SC2154 # (follow-service sets the variables that this file uses)
 
 limited() {
   timeout -s KILL "$@" 9>&-
 }
 
-# The variable `prefix` is how the names of this ticket's timers begin. (A hyphen is escaped, so no other ticket's begin
-# so.)
+# Sets `prefix` to the beginning of the names of this ticket's timers. (A hyphen in a ticket's name is escaped, so the
+# timers of no other ticket begin with it.)
 name_timers() {
   [ -z "${prefix:-}" ] || return 0
   case $ticket in
@@ -26,16 +26,15 @@ armed_timers() {
     done
 }
 
-# Takes the timers that are listed on standard input away.
+# Removes the timers that are listed on standard input.
 disarm() {
   while read -r unit; do
-    [ -z "$unit" ] || limited "$CALL_LIMIT" systemctl stop "$unit" || say 4 "cannot take $unit away"
+    [ -z "$unit" ] || limited "$CALL_LIMIT" systemctl stop "$unit" || say 4 "cannot remove the timer $unit"
   done
 }
 
-# The variable `monotonic` is the clock of systemd's timers, in milliseconds: it stands still while the machine sleeps,
-# which the time since the boot does not. Where the system does not tell it, the machine is taken for one that never
-# slept.
+# Sets `monotonic` to the clock of systemd's timers, in milliseconds. Unlike the time since the boot, it stands still
+# while the machine sleeps. If the system does not show this clock, the machine is assumed never to have slept.
 look_at_monotonic() {
   look_at_clock
   monotonic=$((now * 10)) told=''
@@ -45,7 +44,7 @@ look_at_monotonic() {
   ! is_number "$told" || monotonic=$((told / 1000000))
 }
 
-# The variable `up_since` is when systemd began, in microseconds of that clock: one answer holds for a boot.
+# Sets `up_since` to the start of systemd, in microseconds of that clock. It is read once in a boot.
 look_at_systemd() {
   up_since=''
   if [ -r "$run/.up_since" ]; then
@@ -57,9 +56,9 @@ look_at_systemd() {
   fi
 }
 
-# Arms a timer of this name that runs the switch after so many milliseconds. The time counts from systemd's own start,
-# and again from now: a daemon-reload has what counts from now begin anew. The later times are for a first one that
-# comes within a reload, and is lost.
+# Arms a timer of this name, which runs the switch after so many milliseconds. The timer has a time from now and times
+# from the start of systemd, because a daemon-reload restarts the time from now. The later times are for the case that
+# the first one falls into a reload and is lost.
 arm() {
   name=$1 after=$2
   shift 2
@@ -76,13 +75,13 @@ arm() {
     -- "$self" "$ticket" "$@" switch "$BOOTH_TICKET_EXPIRES" </dev/null
 }
 
-# The variable `armed` is the end in the file, 0 where there is none.
+# Sets `armed` to the end in the file, or to 0 if there is none.
 look_at_end() {
   armed=0
   if [ -r "$end" ] && read -r line <"$end" && is_number "$line"; then armed=$line; fi
 }
 
-# Whether a timer stands behind the end in the file. (A renewal beside this may put another one in its place.)
+# Succeeds if there is a timer for the end in the file. (A renewal at the same time may replace the end.)
 is_armed() {
   look_at_end
   while [ "$armed" -gt 0 ]; do

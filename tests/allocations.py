@@ -1,5 +1,5 @@
 #!/usr/bin/env python3
-"""Refuses each allocation of a daemon in turn, and compares what becomes of it with a stored table.
+"""Refuses each allocation of a daemon in turn, and compares the end of each run with a stored table.
 
 Run it as `python3 tests/allocations.py [TRIALS]`, TRIALS being the proved program that the gate leaves at
 crates/trials/out/trials. It runs `boothd daemon` over a host in memory that stores nothing (`trials play runs`), once
@@ -79,13 +79,17 @@ def how_it_ended(printed: str, status: int) -> str:
 
 
 def of_the_daemon(ends: List[str]) -> List[str]:
-    """Returns what becomes of the daemon's own allocations: from the first whose refusal ends it to the last."""
+    """Returns how runs end when one of the daemon's own allocations is refused, from the first that ends the run to the
+    last.
+    """
     its = [place for place, end in enumerate(ends) if end == OUT_OF_MEMORY]
     return ends[its[0] : its[-1] + 1] if its else []
 
 
 def table_of(ends: List[str]) -> List[str]:
-    """Returns the lines of a table: from which allocation to which, and how the run ends."""
+    """Returns the lines of a table: the first and the last allocation of a range, and how the run ends if one is
+    refused.
+    """
     lines, first = [], 1
     for end, group in itertools.groupby(ends):
         last = first + len(list(group)) - 1
@@ -101,7 +105,7 @@ def stored() -> List[str]:
 
 
 def built(folder: str) -> Optional[str]:
-    """Returns the path of the library that refuses, or None if there is no C compiler."""
+    """Returns the path of the library that refuses allocations, or None if there is no C compiler."""
     path = f"{folder}/refusing.so"
     words = ["cc", "-O1", "-shared", "-fPIC", "-fno-builtin", "-o", path, f"{TOP}/tests/refusing.c"]
     try:
@@ -112,7 +116,7 @@ def built(folder: str) -> Optional[str]:
 
 
 def main(words: List[str]) -> int:
-    """Makes the runs, prints their table if it is another one, and returns the status."""
+    """Makes the runs, prints their table if it differs from the stored one, and returns the status."""
     program = os.path.abspath(words[0] if words else PROGRAM)
     with scratch("booth-allocations-") as folder:
         shim = built(folder)

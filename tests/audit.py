@@ -1,5 +1,5 @@
 #!/usr/bin/env python3
-"""Holds `boothd audit` to journals that real clusters wrote: whole, changed line by line, cut, joined, and forged.
+"""Checks `boothd audit` with journals that real clusters wrote: whole, changed by line, cut, joined, and forged.
 
 Run it as `python3 tests/audit.py [--every-byte] [BOOTHD]`, by default what `make build` leaves. It takes half a minute,
 prints a line for each check, ends all that it started, and has the status 1 if a check failed. If boothd is not
@@ -78,7 +78,7 @@ BY_HAND_DUE = (
 
 
 def the_rule_is_as_by_hand():
-    """the rule on changed lines says of a small journal what was worked out manually"""
+    """the rule for changed lines gives the results for a small journal that were worked out manually"""
     lines = [word.replace("_", " ") for word in BY_HAND.split()]
     for make, stay, found_later in BY_HAND_DUE:
         dues = {change.line: journal_changes.form(change.text) for change in make(lines)}
@@ -131,7 +131,7 @@ def whole_journals_pass(good):
 
 
 def some_of_the_journals(good):
-    """journals pass in any order; if one is missing, who heard it is named; and none is taken twice"""
+    """journals pass in any order; if one is missing, the member that heard it is named; no journal is used twice"""
     for places in itertools.permutations(range(len(good.paths))):
         for count in range(1, len(places) + 1):
             paths, texts = ([each[place] for place in places[:count]] for each in (good.paths, good.texts))
@@ -147,7 +147,7 @@ def some_of_the_journals(good):
 
 
 def what_is_no_journal_is_said(good):
-    """what cannot be read is said, a text that has no line passes, and one of another kind is no journal"""
+    """an unreadable file is reported, a text without lines passes, and another text is not a journal"""
     texts = {"empty": b"", "torn": b"now", "other": b"now\n1\nticket\n", "large": b""}
     paths = {name: os.path.join(good.folder, name) for name in texts}
     for name, text in texts.items():
@@ -175,7 +175,7 @@ def what_is_no_journal_is_said(good):
 
 
 def another_key_is_found(good):
-    """by a file with another key, or without one, a journal is refused at its first send"""
+    """with a configuration that has another key or none, a journal is refused at its first send"""
     with open(good.conf, encoding="ascii") as file:
         text = file.read()
     other = os.path.join(good.folder, "other.key")
@@ -192,7 +192,7 @@ def another_key_is_found(good):
 
 
 def rotated_files_are_joined(good):
-    """files of one member pass where they are joined as docs/AUDIT.md does it, and are refused in another order"""
+    """files of one member pass if they are joined as docs/AUDIT.md says, and are refused in another order"""
     entries, lines = journal_changes.entries_of(good.texts[1]), journal_file.lines_of(good.texts[1])
     starts = [entry.line - 1 for place, entry in enumerate(entries) if journal_changes.is_start(entries, place)]
     require(len(starts) == SESSIONS, f"it started {len(starts)} times")
@@ -215,7 +215,7 @@ def rotated_files_are_joined(good):
 
 
 def audit_of(good, place, text):
-    """What is said of the journals with this one in the place of another, and their paths."""
+    """The audit's output for the journals with this one in place of another, and their paths."""
     folder = os.path.join(good.folder, f"changed-{threading.get_ident()}")
     os.makedirs(folder, exist_ok=True)
     paths = [*good.paths]
@@ -226,7 +226,7 @@ def audit_of(good, place, text):
 
 
 def whole_due(good, place, text):
-    """What an audit says where each of the journals is one: a fault, or what it prints."""
+    """The due result of an audit if each of the journals is whole: a fault, or the printed lines."""
     texts = [*good.texts]
     texts[place] = text
     unsent = journal_changes.first_unsent(good.roster, texts)
@@ -242,14 +242,14 @@ def due_of(good, place, change):
 
 
 def fits(good, place, change, due, told):
-    """Whether what was told of a change, which is a fault or what was printed, is what is due."""
+    """Whether the audit of a changed journal, which is a fault or the printed lines, is the due one."""
     if isinstance(told, tuple) and told[0] == place and due.allows(*told[1:]):
         return True
     return due.may_pass and told == whole_due(good, place, change.text)
 
 
 def judge_change(good, work):
-    """What a change was, and what is wrong with what the audit says of it, or nothing."""
+    """Returns which change was made, and what is wrong with the audit's result, or nothing."""
     place, change = work
     due = due_of(good, place, change)
     found, paths = audit_of(good, place, change.text)
@@ -265,7 +265,7 @@ def count_of(outcomes):
 
 
 def judged_all(good, works, judge):
-    """The outcomes of all these, many at once."""
+    """The outcomes of all these changes, many at once."""
     with concurrent.futures.ThreadPoolExecutor(AT_ONCE) as pool:
         outcomes = list(pool.map(functools.partial(judge, good), works))
     wrong = [why for _, why in outcomes if why is not None]
@@ -279,43 +279,43 @@ def changes_are_judged(make, good):
 
 
 def each_line_left_out(good):
-    """of journals with a line left out each is refused at its line, or is one still"""
+    """if a line is left out of a journal, the journal is refused at that line, or is still valid"""
     return changes_are_judged(journal_changes.left_out, good)
 
 
 def each_line_doubled(good):
-    """of journals with a line doubled each is refused at its line, or is one still"""
+    """if a line of a journal is doubled, the journal is refused at that line, or is still valid"""
     return changes_are_judged(journal_changes.doubled, good)
 
 
 def each_line_swapped(good):
-    """of journals with a line swapped with the next each is refused at its line, or is one still"""
+    """if a line of a journal is swapped with the next, the journal is refused at that line, or is still valid"""
     return changes_are_judged(journal_changes.swapped, good)
 
 
 def each_call_left_out(good):
-    """of journals with a call and its answer left out each is refused there, or is one still"""
+    """if a call and its answer are left out of a journal, the journal is refused there, or is still valid"""
     return changes_are_judged(journal_changes.calls_left_out, good)
 
 
 def each_call_doubled(good):
-    """of journals with a call and its answer doubled each is refused there, or is one still"""
+    """if a call and its answer are doubled in a journal, the journal is refused there, or is still valid"""
     return changes_are_judged(journal_changes.calls_doubled, good)
 
 
 def each_call_swapped(good):
-    """of journals with a call and its answer swapped with the next each is refused there, or is one still"""
+    """if a call and its answer are swapped with the next, the journal is refused there, or is still valid"""
     return changes_are_judged(journal_changes.calls_swapped, good)
 
 
 def each_digit_changed(good):
-    """of journals with a digit changed each is refused, or is one still"""
+    """if a digit of a journal is changed, the journal is refused, or is still valid"""
     chance = random.Random(SEED)
     return changes_are_judged(lambda lines: journal_changes.with_a_digit(lines, chance, DIGITS), good)
 
 
 def judge_cut(good, work):
-    """The same of a journal that is cut."""
+    """Returns the same of a journal that is cut."""
     place, size, due = work
     found, paths = audit_of(good, place, good.texts[place][:size])
     if found.told(paths) == due:
@@ -324,7 +324,9 @@ def judge_cut(good, work):
 
 
 def cuts_of(good, place, within):
-    """Where a journal is cut: within each line as this says, and behind the last; each with what is due."""
+    """The places at which a journal is cut: within each line as this says, and after the last; each with the due
+    result.
+    """
     size, due = 0, whole_due(good, place, b"")
     for line in good.texts[place].splitlines(keepends=True):
         yield from ((place, size + more, due) for more in within(line))
@@ -339,13 +341,13 @@ def judged_cuts(good, within):
 
 
 def cut_anywhere(good):
-    """a journal that is cut is one, of the lines that are whole; who heard what it then lacks is named"""
+    """a cut journal passes as the journal of its whole lines; a member that heard a missing message is named"""
     chance = random.Random(SEED)
     return judged_cuts(good, lambda line: {0, chance.randrange(len(line)), len(line) - 1})
 
 
 def cut_at_every_byte(good):
-    """a journal that is cut at any byte is one, of the lines that are whole"""
+    """a journal that is cut at any byte passes as the journal of its whole lines"""
     return judged_cuts(good, lambda line: range(len(line)))
 
 
@@ -392,7 +394,7 @@ def in_folder():
 
 
 def checked_over_good(boothd, checks):
-    """The results of these checks over one cluster's journals, or of what could not be had."""
+    """The results of these checks over the journals of one cluster; or why there are no such journals."""
     with in_folder() as folder:
         made = []
 

@@ -1,4 +1,4 @@
-"""What `boothd audit` says of journals that tell of an incident, and of a long one, for tests/audit.py.
+"""Checks `boothd audit` with journals of an incident, and with a long journal, for tests/audit.py.
 
 It is imported by tests/audit.py, and not run by itself. Each check is given the program and a folder of its own.
 """
@@ -54,7 +54,7 @@ sys.exit(status)
 
 
 def line_of(path, holds):
-    """The entry of a journal that is the first, of those from the last on, for which this holds."""
+    """The first entry of a journal, from the last start on, for which this holds."""
     return next(entry for entry in reversed(journal_file.read(path)) if holds(entry))
 
 
@@ -64,7 +64,7 @@ def names(found, paths, place, line, fault):
 
 
 def another_member_in_the_file(boothd, folder):
-    """a member whose file has another arbitrator is found, at the first send to it"""
+    """a member whose file has another arbitrator is found at the first send to it"""
     with cluster_in(boothd, folder) as (cluster, _):
         two, arbitrator = cluster.members[1:]
         other = os.path.join(folder, "other.conf")
@@ -85,7 +85,7 @@ def another_member_in_the_file(boothd, folder):
 
 
 def other_times_in_the_file(boothd, folder):
-    """a member whose file has other times is found, at its first keep or before"""
+    """a member whose file has other times is found at its first keep or earlier"""
     with cluster_in(boothd, folder) as (cluster, forward):
         one, two, _ = cluster.members
         other = os.path.join(folder, "other.conf")
@@ -105,7 +105,7 @@ def other_times_in_the_file(boothd, folder):
 
 
 def a_record_that_is_not_the_last(boothd, folder):
-    """a record that was put back from a copy is found, and one that was removed"""
+    """a record that was restored from a copy is found, and so is a record that was removed"""
     with cluster_in(boothd, folder) as (cluster, forward):
         one, two, arbitrator = cluster.members
         cluster.start()
@@ -130,7 +130,7 @@ def a_record_that_is_not_the_last(boothd, folder):
 
 
 def a_frame_that_nobody_sent(boothd, folder):
-    """a message that was made with the key is found, and none that was made without"""
+    """a forged message that was made with the key is found; one that was made without it has no effect"""
     with cluster_in(boothd, folder) as (cluster, _):
         one, two, _ = cluster.members
         cluster.start()
@@ -150,7 +150,7 @@ def a_frame_that_nobody_sent(boothd, folder):
 
 
 def kills_within_keeps_leave_journals(boothd, folder):
-    """the journal of a daemon that was killed at any moment passes, and keeps that were cut have no answer there"""
+    """the journal of a daemon that was killed at any moment passes; an interrupted keep has no answer in it"""
     chance, place = random.Random(SEED), os.path.join(folder, "cluster")
     os.makedirs(place)
     with AuditedCluster(boothd, place, own_addresses(), times=TIMES) as cluster:
@@ -182,7 +182,7 @@ def kills_within_keeps_leave_journals(boothd, folder):
 
 
 def list_turn(reading, number, address):
-    """The lines of a turn in which a client is told that nobody holds the ticket."""
+    """The lines of a turn in which a client is answered that nobody holds the ticket."""
     request = frames.sealed(KEY, "CLst", request=number, **frames.clock_fields(reading))
     clock = frames.Head(**frames.clock_fields(reading))
     reply = frames.reply_due("CLst", number, address, b"%s none 0\n" % TICKET, KEY, clock=clock)
@@ -191,7 +191,8 @@ def list_turn(reading, number, address):
 
 
 def long_journal(begin, address):
-    """The whole turns of a journal, and then quiet ones and lists, ten a second, up to so many lines."""
+    """The whole turns of a journal, followed by turns without an arrival and ten lists a second, up to this many lines.
+    """
     lines = journal_file.lines_of(begin)
     lines = lines[: len(lines) - 1 - lines[::-1].index("next")]
     reading = max(int(line) for line in lines if line.isdigit())
@@ -207,7 +208,7 @@ def long_journal(begin, address):
 
 
 def run_measured(words, folder):
-    """What a run left, its processor time in seconds, and its greatest memory in bytes."""
+    """The outcome of a run, its processor time in seconds, and its greatest memory in bytes."""
     path = os.path.join(folder, "measured")
     # (a program begins with the greatest memory of the one that started it: this one is large, and that one small)
     starter = [sys.executable, "-IS", "-c", MEASURES, path, *words]
@@ -218,7 +219,7 @@ def run_measured(words, folder):
 
 
 def a_long_journal_is_quick(boothd, folder):
-    """a journal of a million lines passes, at the marks of time and memory"""
+    """a journal of a million lines passes within the limits of time and memory"""
     with cluster_in(boothd, folder) as (cluster, _):
         arbitrator = cluster.members[2]
         arbitrator.start(boothd, cluster.conf)

@@ -1,4 +1,4 @@
-"""Clusters whose members write journals, and what `boothd audit` says of these once the members are killed.
+"""Clusters whose members write journals, and the output of `boothd audit` about these after the members were killed.
 
 It is imported by the programs in tests/, and not run by itself.
 """
@@ -54,11 +54,11 @@ int clock_gettime(clockid_t clock, struct timespec *time)
 
 
 class Misjudged(Exception):
-    """An audit says something else than it must, or a cluster's members did."""
+    """An audit gave another result than it must, or a cluster's members acted wrongly."""
 
 
 class LeftOut(Exception):
-    """This machine does not let a check do what it wants to."""
+    """This machine does not allow what a check needs."""
 
 
 def require(holds, why):
@@ -67,7 +67,7 @@ def require(holds, why):
 
 
 class Audit(NamedTuple):
-    """What a run of the auditor left: its status, and what it printed and said."""
+    """The outcome of a run of the auditor: its status, its standard output and its standard error."""
 
     status: int
     printed: str
@@ -77,7 +77,7 @@ class Audit(NamedTuple):
         return self.status == 0 and not self.said
 
     def fault(self, paths):
-        """The place of the journal that is refused, the line or None, and the fault; or None if it says none."""
+        """The place of the refused journal, the line or None, and the fault; or None if there is no fault."""
         for place, path in enumerate(paths):
             begin = f"boothd: {path}: "
             if self.status != 1 or self.printed or not self.said.startswith(begin) or not self.said.endswith("\n"):
@@ -91,12 +91,12 @@ class Audit(NamedTuple):
         return None
 
     def told(self, paths):
-        """What is told of the journals: a fault, or else what is printed of ones that pass; or None."""
+        """The result of the audit: a fault, or the printed lines if the journals pass; or None."""
         return self.printed if self.passes() else self.fault(paths)
 
 
 def can_audit(program):
-    """Whether this program has an auditor."""
+    """Whether this program has the command `audit`."""
     if program is None or not os.access(program, os.X_OK):
         return False
     done = subprocess.run([program, "audit", "--help"], capture_output=True, timeout=SECONDS_OF_AUDIT)
@@ -104,7 +104,7 @@ def can_audit(program):
 
 
 def audit(program, conf, paths):
-    """What the auditor says of these journals."""
+    """The auditor's result for these journals."""
     words = [program, "audit", "-c", conf, *paths]
     done = subprocess.run(words, stdin=subprocess.DEVNULL, capture_output=True, text=True, timeout=SECONDS_OF_AUDIT)
     return Audit(done.returncode, done.stdout, done.stderr)
@@ -112,7 +112,7 @@ def audit(program, conf, paths):
 
 @contextlib.contextmanager
 def clocks(folder):
-    """A function that puts the clocks of all programs that are started in the block so many seconds ahead."""
+    """A function that sets the clocks of all programs that are started in the block this many seconds ahead."""
     if shutil.which("cc") is None:
         raise LeftOut("there is no cc, so no clock can be put forward")
     source, library, shift = (os.path.join(folder, name) for name in ("clocks.c", "clocks.so", "clocks"))
@@ -136,7 +136,7 @@ def clocks(folder):
 
 
 def holds_and_gives_back(member, ticket):
-    """The member is granted the ticket, and gives it back."""
+    """The member is granted the ticket, and releases it."""
     name = ticket.decode()
     taken = wait_for(lambda: member.about("CGnt", ticket) in ("ok", "Asyn"), PATIENCE)
     require(taken, f"no grant of {name} is taken")
@@ -147,10 +147,9 @@ def holds_and_gives_back(member, ticket):
 
 
 def live_through(cluster):
-    """Has each member keep a record of each automatic ticket, by the rules, and then ends all: so they answer at once.
-
-    The clocks are behind at first, and are put forward over the silence of a first start. Once this is done they are
-    right, and no promise from then runs any more.
+    """Has each member write a record of each automatic ticket, by the rules, and then ends all members, so that they
+    answer at once when they start again. The clocks are behind at first, and are set ahead over the silence of a first
+    start. Afterwards they are right, and no promise from that time is in force.
     """
     silent = math.ceil(cluster.times.abstention()) + MARGIN
     keys = [member.key for member in cluster.members]
@@ -170,9 +169,8 @@ def live_through(cluster):
 
 
 class AuditedCluster(Cluster):
-    """A cluster whose members write journals. If its program has an auditor, that is to let them pass.
-
-    What `remember` gives other clusters no journal says was kept. So the members of this one live through their first
+    """A cluster whose members write journals. If its program can audit, the audit must let these journals pass. In
+    other clusters `remember` writes records that no journal has. So the members of this cluster go through their first
     start, if they can.
     """
 
@@ -199,7 +197,7 @@ class AuditedCluster(Cluster):
         return Roster(members, (*self.tickets, *self.manual), self.key)
 
     def of_one_file(self):
-        """The members that had one configuration all along, by that one; and how many had several."""
+        """The audit of the members that had one configuration all the time, and how many members had several."""
         groups, several = {}, 0
         for member in self.members:
             if len(member.confs) == 1 and os.path.exists(member.journal):
@@ -208,7 +206,7 @@ class AuditedCluster(Cluster):
         return groups, several
 
     def judged(self, refused=None):
-        """A sentence on what the audits said of the journals, with the fault that they must find, if they do."""
+        """A sentence about the results of the audits, with the fault that they must find, if there is one."""
         if not self.has_auditor:
             return "not checked, since boothd has no auditor: what the journals say"
         groups, several = self.of_one_file()
@@ -218,7 +216,7 @@ class AuditedCluster(Cluster):
         return f"journals: {'; '.join(told) or 'none'}{left}"
 
     def judged_by(self, conf, members, has_others, refused):
-        """The same of the members that had this configuration."""
+        """The same for the members that had this configuration."""
         paths = [member.journal for member in members]
         found = audit(self.program, conf, paths)
         if found.passes():
@@ -241,7 +239,7 @@ def content(path):
 
 
 def shown_at(paths, fault):
-    """What the lines are at a fault, for whoever reads of it."""
+    """The lines around a fault, for the reader of a report."""
     if fault is None or fault[1] is None:
         return ""
     lines = journal_file.lines_of(content(paths[fault[0]]))
@@ -252,7 +250,7 @@ def shown_at(paths, fault):
 
 
 class Journals(NamedTuple):
-    """A cluster's file, what its journals are judged by, where they stand, and what they say."""
+    """A cluster's file, what its journals are judged by, their paths, and their texts."""
 
     program: str
     folder: str
@@ -267,7 +265,7 @@ class Journals(NamedTuple):
 
 @contextlib.contextmanager
 def cluster_in(boothd, folder, **more):
-    """A cluster with a key, whose clocks are behind, and a function that puts them forward by so many seconds."""
+    """A cluster with a key whose clocks are behind, and a function that sets them ahead by this many seconds."""
     addresses = own_addresses()
     with AuditedCluster(boothd, folder, addresses, times=TIMES, key=KEY, **more) as cluster, clocks(folder) as put:
         shift = [-BEHIND]
@@ -294,7 +292,7 @@ def is_renewed(member, forward):
 
 
 def ended(cluster, *members):
-    """The journals of these members, or else of all, which are killed."""
+    """The journals of these members, or else of all members, which are killed first."""
     members = members or cluster.members
     for member in members:
         member.kill()

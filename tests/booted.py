@@ -1,4 +1,4 @@
-"""Machines that systemd boots: each a root file system of its own over one image, on a network of their own.
+"""Machines that systemd boots: each has its own root file system over one image, and all share a network.
 
 It is imported by tests/machines.py and tests/clusters.py, and not run by itself. Machines are booted by systemd-nspawn
 as root. They are on a bridge in a network namespace that is made for them, so nothing that they send leaves this
@@ -45,7 +45,7 @@ HAS_BOOT_ID = f"[Service]\nBindReadOnlyPaths={KEPT_BOOT_ID}:{BOOT_ID}\n"
 
 
 class NotBooted(Exception):
-    """A machine did not boot, or what it takes is missing."""
+    """A machine did not boot, or something that it needs is missing."""
 
 
 class NoImage(NotBooted):
@@ -65,7 +65,7 @@ class Image(NamedTuple):
 
     @property
     def path(self) -> str:
-        """Returns where the image is."""
+        """Returns the path of the image."""
         return f"{FOLDER}/{self.name}"
 
 
@@ -75,7 +75,7 @@ NEEDRESTART = Image("needrestart", POSTGRESQL.packages, ("needrestart",))
 
 
 def missing(image: Image = POSTGRESQL) -> List[str]:
-    """Returns what is missing to boot machines over an image here."""
+    """Returns what is missing here to boot machines over an image."""
     lacks = [name for name in NEEDED if shutil.which(name) is None]
     if not os.path.isdir(image.path) and shutil.which("debootstrap") is None:
         lacks.append("debootstrap")
@@ -89,7 +89,7 @@ def missing(image: Image = POSTGRESQL) -> List[str]:
 
 
 def make_image(image: Image = POSTGRESQL) -> None:
-    """Makes an image, unless it is there."""
+    """Makes an image, unless it exists."""
     if os.path.isdir(image.path):
         return
     os.makedirs(FOLDER, exist_ok=True)
@@ -123,7 +123,7 @@ def _log_command(words: List[str], log: IO[bytes]) -> None:
 
 
 def _install(root: str, packages: Tuple[str, ...], log: IO[bytes]) -> None:
-    """Installs packages in an image whose services do not start meanwhile."""
+    """Installs packages in an image, without starting their services."""
     policy = f"{root}/usr/sbin/policy-rc.d"
     with open(policy, "w", encoding="ascii") as file:
         file.write("#!/bin/sh\nexit 101\n")
@@ -134,7 +134,7 @@ def _install(root: str, packages: Tuple[str, ...], log: IO[bytes]) -> None:
 
 
 class Network:
-    """A bridge in a network namespace, which machines are on."""
+    """A bridge in a network namespace, to which machines are connected."""
 
     def __init__(self, name: str) -> None:
         self.name = name
@@ -155,9 +155,8 @@ class Network:
 
 
 class Machine:
-    """A machine, which may be booted, cut off, killed and booted again. What it wrote to its disk stays.
-
-    Before a boot `bridge` may name another bridge of the network, and `options` more options of systemd-nspawn.
+    """A machine, which can be booted, disconnected, killed and booted again. What it wrote to its disk stays. Before a
+    boot `bridge` may name another bridge of the network, and `options` additional options of systemd-nspawn.
     """
 
     def __init__(self, network: Network, folder: str, name: str, address: str, image: Image = POSTGRESQL) -> None:
@@ -179,14 +178,14 @@ class Machine:
         self.enable("systemd-networkd.service")
 
     def write(self, path: str, text: str, mode: int = 0o644) -> None:
-        """Writes a file of the machine, whether or not it runs."""
+        """Writes a file of the machine, which need not run."""
         os.makedirs(os.path.dirname(self.root + path), exist_ok=True)
         with open(self.root + path, "w", encoding="utf-8") as file:
             file.write(text)
         os.chmod(self.root + path, mode)
 
     def remove(self, path: str) -> None:
-        """Removes a file of the machine, if it is there."""
+        """Removes a file of the machine, if it exists."""
         with contextlib.suppress(FileNotFoundError):
             os.remove(self.root + path)
 
@@ -198,7 +197,9 @@ class Machine:
             os.symlink(f"/lib/systemd/system/{unit}", f"{wants}/{unit}")
 
     def give_boot_id(self, *units: str) -> None:
-        """Has units see the id of the machine's own boot, whatever they are protected by. It takes the next boot."""
+        """Lets units read the id of the machine's own boot, even if they are protected from other files. This needs the
+        next boot.
+        """
         self.write("/etc/systemd/system/own-boot-id.service", KEEPS_BOOT_ID)
         wants = f"{self.root}/etc/systemd/system/sysinit.target.wants"
         os.makedirs(wants, exist_ok=True)
@@ -239,7 +240,9 @@ class Machine:
         return self.run("systemctl", "is-system-running").stdout.strip() in (b"running", b"degraded")
 
     def _groups(self) -> List[str]:
-        """Returns the paths of the machine's own control groups, apart from which machines would share their units'."""
+        """Returns the paths of the machine's own control groups: without these, machines would share their units'
+        groups.
+        """
         return [f"{at}/{self.network.name}-{self.name}" for at in GROUPS if os.path.exists(f"{at}/cgroup.procs")]
 
     def _enter_groups(self) -> None:
@@ -250,14 +253,14 @@ class Machine:
                 file.write(str(os.getpid()))
 
     def _remove_groups(self) -> None:
-        """Removes the machine's control groups, which nothing is in any more."""
+        """Removes the machine's control groups, which are empty by then."""
         for group in self._groups():
             for at, _, _ in os.walk(group, topdown=False):
                 with contextlib.suppress(OSError):
                     os.rmdir(at)
 
     def host_pid(self, pid: str) -> str:
-        """Returns the number that a process of the machine has on the host."""
+        """Returns the process id on the host of a process of the machine."""
         own = os.readlink(f"/proc/{self.leader}/ns/pid")
         for each in os.listdir("/proc"):
             with contextlib.suppress(OSError):
@@ -269,7 +272,7 @@ class Machine:
 
     @contextlib.contextmanager
     def without_processes(self, pid: str) -> Iterator[None]:
-        """Has a process of the machine start no others for a while."""
+        """Lets a process of the machine start no other processes for a while."""
         if not os.path.exists(f"{PROCESSES}/cgroup.procs"):
             raise NotBooted(f"there is no {PROCESSES} here")
         group = f"{PROCESSES}/{self.network.name}-{self.name}"
@@ -284,7 +287,7 @@ class Machine:
                 file.write("max")
 
     def _find_leader(self) -> bool:
-        """Looks for the first process of the machine."""
+        """Finds the first process of the machine."""
         assert self.process is not None
         with open(f"/proc/{self.process.pid}/task/{self.process.pid}/children", encoding="ascii") as file:
             children = file.read().split()
@@ -309,7 +312,7 @@ class Machine:
         )
 
     def _entering(self, words: Iterable[str]) -> List[str]:
-        """Returns the command that runs these words in the machine."""
+        """Returns the command that runs these words inside the machine."""
         return ["nsenter", "-t", str(self.leader), "-a", "--", *words]
 
     def is_up(self) -> bool:
@@ -317,7 +320,7 @@ class Machine:
         return self.process is not None and self.process.poll() is None
 
     def read(self, path: str) -> str:
-        """Returns what a file on its disk holds, and nothing if it is missing."""
+        """Returns the content of a file on its disk, or an empty text if the file is missing."""
         try:
             with open(self.root + path, encoding="utf-8", errors="replace") as file:
                 return file.read()
@@ -325,7 +328,7 @@ class Machine:
             return ""
 
     def must(self, *words: str, timeout: float = SECONDS_OF_A_COMMAND) -> str:
-        """Runs a command that has to succeed, and returns what it printed."""
+        """Runs a command that must succeed, and returns what it printed."""
         done = self.run(*words, timeout=timeout)
         if done.returncode != 0:
             said = (done.stderr or done.stdout).decode(errors="replace").strip()
@@ -333,7 +336,7 @@ class Machine:
         return done.stdout.decode(errors="replace")
 
     def cut(self, is_cut: bool = True) -> None:
-        """Takes its cable out, or puts it in again. It stays out through boots."""
+        """Disconnects its cable, or connects it again. A disconnected cable stays so through boots."""
         self.is_cut = is_cut
         if self.is_up():
             self.network.ip("link", "set", f"vb-{self.name}", "down" if is_cut else "up")
@@ -348,7 +351,7 @@ class Machine:
         self._remove_groups()
 
     def close(self) -> None:
-        """Ends it, and forgets its disk's mount."""
+        """Ends the machine, and unmounts its disk."""
         self.lose_power()
         subprocess.run(["umount", "-l", self.root], check=False)
 
@@ -357,7 +360,7 @@ class Machine:
 def machines(
     name: str, folder: str, addresses: Dict[str, str], image: Image = POSTGRESQL
 ) -> Iterator[Dict[str, Machine]]:
-    """Gives machines of these names and addresses, which are not booted yet, on a network of this name."""
+    """Yields machines with these names and addresses, not booted yet, on a network with this name."""
     make_image(image)
     made: Dict[str, Machine] = {}
     with Network(name) as network:

@@ -34,12 +34,12 @@ MOST = 0xFFFFFFFF
 
 
 def hexed(data: bytes) -> str:
-    """Returns bytes as the driver has them: in hexadecimal, or `-` if there are none."""
+    """Returns bytes in the driver's form: in hexadecimal, or `-` if there are none."""
     return data.hex() or "-"
 
 
 def parted(line: str, separator: str) -> Tuple[str, str]:
-    """Returns what stands before and behind the first of these separators."""
+    """Returns the texts before and after the first of these separators."""
     before, found, behind = line.partition(separator)
     if not found:
         raise Trouble(f"{line!r} has no {separator!r}")
@@ -67,7 +67,7 @@ def number_of(word: str, most: int = MOST) -> int:
 
 
 def body_of(text: str, numbers: List[str]) -> bytes:
-    """Returns the body of a frame, from what stands behind its six numbers."""
+    """Returns the body of a frame, from the words after its six numbers."""
     kind, _, rest = text.partition(" ")
     if kind == "=":
         return rest.replace("/", "\n").encode()
@@ -82,7 +82,7 @@ def body_of(text: str, numbers: List[str]) -> bytes:
 
 
 def frame_of(text: str, millis: int, key: Optional[bytes] = None) -> bytes:
-    """Returns the frame of this text with this clock, sealed by the key if there is one."""
+    """Returns the frame of this text with this clock, sealed with the key if there is one."""
     if text.startswith("#"):
         return bytes.fromhex(text[1:])
     words = text.split(" ")
@@ -97,18 +97,18 @@ def frame_of(text: str, millis: int, key: Optional[bytes] = None) -> bytes:
 
 
 def split_off(text: str, word: str) -> Tuple[str, List[str]]:
-    """Returns what stands before this word, and the words behind it, if any."""
+    """Returns the text before this word, and the words after it, if there are any."""
     before, _, behind = text.partition(f" {word} ")
     return before, behind.split(" ") if behind else []
 
 
 def member_word(word: str) -> str:
-    """Returns a member of a record by its id."""
+    """Returns the word for a member of a record, by the member's id."""
     return str(number_of(word))
 
 
 def record_of(text: str) -> str:
-    """Returns a record as the driver has it."""
+    """Returns a record in the driver's form."""
     version, text = (1, text[6:]) if text.startswith("first ") else (2, text)
     text, abstain = split_off(text, "abstain")
     text, promise = split_off(text, "promise")
@@ -123,7 +123,7 @@ def record_of(text: str) -> str:
 
 
 def said_record(words: List[str]) -> str:
-    """Returns a record of the driver as a story says it."""
+    """Returns a record of the driver in the form of a story."""
     version, term, lease_term, until, bound, to, promised, end, abstain = words
     names = {member_word(member): member for member in MEMBERS}
     text = f"{'first ' if version == '1' else ''}{term}"
@@ -134,7 +134,7 @@ def said_record(words: List[str]) -> str:
 
 
 def call_of(line: str, millis: int, key: Optional[bytes]) -> str:
-    """Returns the call of a story's line, in a turn of this clock, as the driver prints it."""
+    """Returns the call in a story's line, in a turn with this clock, in the form that the driver prints."""
     said, failed = (line[:-7], "failed") if line.endswith(" failed") else (line, "ok")
     kind, rest = parted(said, " ")
     if kind == "send":
@@ -151,7 +151,7 @@ def call_of(line: str, millis: int, key: Optional[bytes]) -> str:
 
 
 def said_body(letters: str, body: bytes) -> str:
-    """Returns the body of a frame as a story says it."""
+    """Returns the body of a frame in the form of a story."""
     form = frames.BODY_OF.get(letters)
     texts = [part.rstrip(b"\0").decode(errors="replace") for part in (body[:64], body[64:128], body[128:])]
     if form == frames.TEXT:
@@ -165,7 +165,7 @@ def said_body(letters: str, body: bytes) -> str:
 
 
 def name_of(number: int) -> str:
-    """Returns a number as a story says it."""
+    """Returns a number in the form of a story."""
     names = {frames.NO_ONE: "none", **{number_of(member): member for member in MEMBERS}}
     spelled = number.to_bytes(4, "big")
     letters = spelled.decode() if 0x41 <= spelled[0] <= 0x5A and spelled.isascii() else str(number)
@@ -173,7 +173,7 @@ def name_of(number: int) -> str:
 
 
 def said_frame(data: bytes) -> str:
-    """Returns a frame as a story says it, without its clock and its seal."""
+    """Returns a frame in the form of a story, without its clock and its seal."""
     if len(data) < frames.HEAD_BYTES:
         return f"# {data.hex()}"
     head = frames.Head.read(data)
@@ -184,7 +184,7 @@ def said_frame(data: bytes) -> str:
 
 
 def said(call: str) -> str:
-    """Returns a call that the driver printed as a story says it, if it is one of a turn."""
+    """Returns a call that the driver printed in the form of a story, if it is a call of a turn."""
     kind, *words = call.split(" ")
     failed = " failed" if words and words[-1] == "failed" else ""
     if kind == "send":

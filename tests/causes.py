@@ -1,9 +1,9 @@
 #!/usr/bin/env python3
-"""Holds the built programs to the lines that they print of a refusal: which refusal it is, and why.
+"""Checks the lines that the built programs print about a refusal: the refusal and its cause.
 
-Run it as `python3 tests/causes.py [FOLDER [WORD]]`, FOLDER having the programs, which is out/ if it is left out; with
-WORD only the rows with it in their sentences run. It prints a line for each file of tests/rows/causes/, and has the
-status 1 if a row is another one. If the programs are not built it checks nothing, with status 0.
+Run it as `python3 tests/causes.py [FOLDER [WORD]]`, FOLDER having the programs, which is out/ if it is left out;
+with WORD only the rows with it in their sentences run. It prints a line for each file of tests/rows/causes/, and
+has the status 1 if a row differs. If the programs are not built it checks nothing, with status 0.
 
 A file has groups of rows below a sentence, which begins with `* `. In a group:
 
@@ -60,7 +60,7 @@ class Malformed(Exception):
 
 
 class Group:
-    """What stands above runs: files, the environment, and what a member answers."""
+    """The lines above runs: files, the environment, and the answers of a member."""
 
     def __init__(self, sentence: str) -> None:
         self.sentence = sentence
@@ -71,7 +71,7 @@ class Group:
 
 
 class Row(NamedTuple):
-    """A run, the number of its line, and the lines that are wanted of it."""
+    """A run, the number of its line, and the lines that it must print."""
 
     line: int
     group: Group
@@ -110,7 +110,7 @@ def rows_of(text: str) -> List[Row]:
 
 
 class Member:
-    """A member in a `with` block that answers each request of a client in one way."""
+    """A member, in a `with` block, that answers every request of a client in the same way."""
 
     def __init__(self, address: str, result: str, holder: Optional[str], seconds: int) -> None:
         self.address, self.seconds = address, seconds
@@ -140,7 +140,7 @@ class Member:
         return body
 
     def serve(self) -> None:
-        """Answers until an empty datagram comes."""
+        """Answers requests until an empty datagram arrives."""
         while True:
             request, asker = self.socket.recvfrom(frames.FRAME_BYTES + 1)
             if not request:
@@ -153,7 +153,9 @@ class Member:
 
 
 def keep_clock(folder: str) -> None:
-    """Writes the clock that a daemon of this boot would keep: its version, its offset, a reading, and the boot's id."""
+    """Writes the clock file that a daemon of this boot would write: its version, its offset, a reading, and the boot's
+    id.
+    """
     with open("/proc/sys/kernel/random/boot_id", "rb") as file:
         boot = file.read(36)
     offset = int((time.time() - time.clock_gettime(time.CLOCK_BOOTTIME)) * 1000)
@@ -174,7 +176,7 @@ class Room:
         keep_clock(folder)
 
     def filled(self, text: str) -> str:
-        """Returns a text with addresses and paths in their places."""
+        """Replaces the names of addresses and paths in a text."""
         for name, value in self.names.items():
             text = text.replace("{%s}" % name, value)
         return text
@@ -219,7 +221,7 @@ class Room:
 
 
 def check(path: str, room: Room, word: str) -> bool:
-    """Runs the rows of a file, prints what became of them, and returns whether all are as they stand there."""
+    """Runs the rows of a file, prints the results, and returns whether all runs printed what their rows have."""
     with open(path, encoding="utf-8") as file:
         rows = [row for row in rows_of(file.read()) if word in row.group.sentence]
     faults = [fault for fault in map(room.fault, rows) if fault is not None]

@@ -1,4 +1,4 @@
-"""Clusters whose file changes from member to member, while a ticket is held that it leaves as it is.
+"""Clusters whose file changes from member to member, while a ticket that does not change is held.
 
 It is imported by tests/cluster.py, and not run by itself.
 """
@@ -13,7 +13,9 @@ ADDED = b"comes-and-goes"
 
 
 def takes(cluster, name, tickets):
-    """Writes a file with these tickets, and starts one member after another with it. No lease of the other is lost."""
+    """Writes a file with these tickets, and restarts one member after another with it. The other ticket's lease is not
+    lost.
+    """
     cluster.tickets = tickets
     cluster.conf = cluster.file(name, cluster.key)
     one, two, arbitrator = cluster.members
@@ -24,13 +26,13 @@ def takes(cluster, name, tickets):
 
 
 def lists_it(member, ticket):
-    """Whether the member lists this ticket at all."""
+    """Whether the member lists this ticket."""
     return any(line.split(b" ")[0] == ticket for line in member.ask("CLst").body.splitlines())
 
 
 @story
 def a_ticket_comes_and_goes(cluster):
-    """a cluster that gets a ticket, grants it, revokes it and loses it, member by member, while another one is held"""
+    """a ticket is added to a cluster, granted, revoked and removed, member by member, while another ticket is held"""
     one = cluster.members[0]
     cluster.remember()
     cluster.start()

@@ -1,4 +1,4 @@
-"""What booth-status --check says of configurations: the program's verdict, and what a test wrote into them.
+"""Checks booth-status --check: the verdict of the program, and the problems that a test wrote into a configuration.
 
 It is imported by tests/status.py, and not run by itself.
 """
@@ -30,7 +30,7 @@ def key_in(folder, content=KEY, mode=0o600):
 
 
 class Checked:
-    """Checks texts with a boothd of this folder: a program that says what a test wants, or the real one."""
+    """Checks texts with a boothd of this folder: a program that prints what a test needs, or the real program."""
 
     def __init__(self, folder, says="boothd: $5 is not a member\nboothd: members of $3: ..."):
         self.path = os.path.join(folder, "checked.conf")
@@ -41,7 +41,7 @@ class Checked:
         os.chmod(f"{self.programs}/boothd", 0o755)
 
     def of(self, text, *words, programs=None):
-        """The document of a check of this text."""
+        """The JSON document of a check of this text."""
         with open(self.path, "w", encoding="ascii") as file:
             file.write(text)
         os.environ["PATH"], before = f"{programs or self.programs}:/usr/bin:/bin", os.environ["PATH"]
@@ -51,7 +51,9 @@ class Checked:
             os.environ["PATH"] = before
 
     def kinds(self, text, *words, **more):
-        """Severity, kind and ticket or address of each problem, but those of a user that this machine has not."""
+        """Severity, kind, and ticket or address of each problem, except those of a user that this machine does not
+        have.
+        """
         told = self.of(text, *words, **more)
         found = {(severity, kind, ticket or member) for severity, kind, member, _, ticket in problems_of(told)}
         return {each for each in found if each[1] != "key-owner"}
@@ -76,7 +78,7 @@ def a_file_without_faults(folder):
 
 @story
 def the_verdict_of_the_program(folder):
-    """what boothd refuses is told in its words, and where there is no boothd that is said"""
+    """refusals of boothd are printed with its words; if boothd is missing, this is reported"""
     text = f"{PLAIN}authfile = {key_in(folder)}\n{TICKET}"
     told = Checked(folder, says="boothd: ./x.conf: line 7: repeated\nboothd: once alone").of(text)
     require_same((told["status"], first_text(told)), (2, "./x.conf: line 7: repeated; once alone"))
@@ -102,7 +104,7 @@ def the_verdict_of_the_program(folder):
 
 @story
 def what_is_in_the_file(folder):
-    """defaults that are none, addresses that do not meet, a port that is too low, and times that leave no room"""
+    """wrong defaults, addresses of different families, a port that is too low, and times that leave no room"""
     checked, key = Checked(folder), f"authfile = {key_in(folder)}\n"
     many = "".join(f"ticket = t{number}\nexpire = 12\ntimeout = 1\nretries = 3\n" for number in range(64))
     handler, short = "before-acquire-handler = /bin/true\n", "timeout = 1\nretries = 3\n"
@@ -146,7 +148,7 @@ def what_is_in_the_file(folder):
 
 
 def owned_by_another(folder, checked):
-    """Whether the daemon's user may read the key, and who else may; here that user is one that each machine has."""
+    """Whether the daemon's user may read the key, and who else may; here that user is one that every machine has."""
     user, other = pwd.getpwnam("nobody"), pwd.getpwnam("daemon")
     path = key_in(folder)
     before, key_file.DAEMON = key_file.DAEMON, user.pw_name
@@ -170,7 +172,7 @@ def owned_by_another(folder, checked):
 
 @story
 def the_file_of_the_key(folder):
-    """the key's file is there, has a key, and is for the daemon's user alone"""
+    """the key's file exists, has a key, and can be read only by the daemon's user"""
     checked = Checked(folder)
     daemon = next((each for each in pwd.getpwall() if each.pw_name == "booth"), None)
     if os.geteuid() == ROOT:
@@ -203,7 +205,7 @@ def the_file_of_the_key(folder):
 
 @story
 def the_members_of_the_file(folder):
-    """with --members it tells who does not answer, and whose clock is further than maxtimeskew from this machine's"""
+    """--members reports who does not answer, and whose clock differs from this machine's by more than maxtimeskew"""
     checked = Checked(folder)
     path = key_in(folder)
     for authfile, key, severity in ((f"authfile = {path}\n", KEY, "critical"), ("", None, "warning")):
@@ -223,7 +225,7 @@ def the_members_of_the_file(folder):
 
 @story
 def what_follows_a_ticket_here(folder):
-    """what follows a ticket here outlives a restart of daemon and follower, and its unit does not start by itself"""
+    """a service here survives a restart of daemon and follower, and its unit does not start by itself"""
     for name in ("booth", "booth-follow"):
         with open(f"{TOP}/packaging/{name}@.service", encoding="utf-8") as file:
             seconds = re.search(r"^RestartSec=(\d+)$", file.read(), re.M)

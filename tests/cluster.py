@@ -1,13 +1,13 @@
 #!/usr/bin/env python3
-"""Holds a cluster of three real boothd on loopback to the lease rules: grants, renewals, failover.
+"""Checks that a cluster of three real boothd on loopback follows the lease rules: grants, renewals, failover.
 
-Run it as `python3 tests/cluster.py [BOOTHD BOOTH GEOSTORE]`, which are what `make build` leaves where they are
-left out. It takes a minute and a half, prints a line for each check, ends all that it started, and has the status 1
-if a check failed. If a program is not built it checks nothing, with status 0.
+Run it as `python3 tests/cluster.py [BOOTHD BOOTH GEOSTORE]`, by default those that `make build` leaves. It takes a
+minute and a half, prints a line for each check, ends all that it started, and has the status 1 if a check failed.
+If a program is not built it checks nothing, with status 0.
 
 What an operator does is done by booth and geostore, at each member: their status and each text that they print or
 say are held to what they must be. The stories of handlers and of tickets that are granted manually stand in
-handler_stories.py, those of members that are killed and started anew in promise_stories.py, that of the log in
+handler_stories.py, those of members that are killed and restarted in promise_stories.py, that of the log in
 log_stories.py, that of a file that changes in change_stories.py, that of a ticket that is shown in show_stories.py, and
 those of moves in move_stories.py.
 
@@ -152,7 +152,7 @@ def two_sites_and_an_arbitrator(cluster):
 
 @story
 def clients_that_wait(cluster):
-    """a cluster of which one site runs alone at first"""
+    """a cluster in which one site runs alone at first"""
     one = cluster.members[0]
     cluster.remember()
     cluster.start(0)
@@ -172,7 +172,7 @@ def clients_that_wait(cluster):
 
 @story
 def a_directory_that_is_gone(cluster):
-    """a cluster in which one site's records cannot be written"""
+    """a cluster in which the records of one site cannot be written"""
     one, two, _ = cluster.members
     cluster.remember()
     cluster.start()
@@ -191,7 +191,7 @@ def a_directory_that_is_gone(cluster):
 
 @story
 def a_member_with_another_key(cluster):
-    """a cluster with a key, in which one member has another"""
+    """a cluster with a key, in which one member has another key"""
     one, two, arbitrator = cluster.members
     arbitrator.key = OTHER_KEY
     cluster.remember()
@@ -212,7 +212,7 @@ def a_member_with_another_key(cluster):
 
 @story
 def attributes_that_are_waited_for(cluster):
-    """a cluster whose sites acquire if an attribute says so, and are granted if another does not forbid it"""
+    """a cluster whose sites acquire a ticket if an attribute allows it, and are granted it unless another forbids it"""
     times = cluster.times
     one, two, arbitrator = cluster.members
     cluster.remember()
@@ -275,7 +275,7 @@ def attributes_that_are_waited_for(cluster):
 
 
 def has_ipv6():
-    """Whether one can listen at ::1 here."""
+    """Whether a program can listen at ::1 here."""
     try:
         with socket.socket(socket.AF_INET6, socket.SOCK_DGRAM) as listener:
             listener.bind(("::1", 0))
@@ -286,7 +286,7 @@ def has_ipv6():
 
 @story
 def a_site_by_ipv6(cluster):
-    """a cluster of a site by IPv6, and a site and an arbitrator by IPv4"""
+    """a cluster of a site with an IPv6 address, and a site and an arbitrator with IPv4 addresses"""
     if not has_ipv6():
         wait_for(lambda: cluster.watch.looks, PATIENCE)
         passed("not checked, since this machine has no IPv6: members of both families")
@@ -323,7 +323,7 @@ attr-prereq = "manual maintenance ne yes"
 
 
 def made(function, folder, program, client, geostore):
-    """The cluster that a story is about, by its name."""
+    """The cluster that a story needs, by its name."""
     key = KEY if "key" in function.__name__ else None
     addresses = own_addresses()
     places = [next(addresses) for _ in range(3)]
@@ -340,7 +340,7 @@ def made(function, folder, program, client, geostore):
 
 
 def tell(function, cluster):
-    """Tells a story, and prints its lines."""
+    """Runs a story, and prints its lines."""
     function(cluster)
     wrong = cluster.watch.wrong
     require(not wrong, f"two held at one moment: {wrong[:3]}")
@@ -351,7 +351,7 @@ def tell(function, cluster):
 
 
 def outcome(place, programs):
-    """Whether the story at this place of the list passes, in a cluster of its own, and the lines that it printed."""
+    """Whether the story at this place of the list passes in its own cluster, and the lines that it printed."""
     function, printed, passes = stories[place], io.StringIO(), False
     with contextlib.redirect_stdout(printed), scratch("booth-cluster-") as folder:
         try:
@@ -365,7 +365,7 @@ def outcome(place, programs):
 
 
 def run(*programs):
-    """Runs the stories, some side by side: most of their time they wait. Says how many failed."""
+    """Runs the stories, some at the same time, since most of their time is waiting. Prints how many failed."""
     failed, started = 0, time.monotonic()
     # (each process has addresses of its own, and at its end ends what it started)
     with multiprocessing.get_context("fork").Pool(SIDE_BY_SIDE) as pool:

@@ -24,14 +24,14 @@ SECONDS_TO_BUILD = 60
 
 
 def step(node: Machine, seconds: int) -> None:
-    """Sets the wall clock of a node, as its units see it, so many seconds from the true one."""
+    """Sets the wall clock of a node, as seen by its units, this many seconds from the true time."""
     # (a reader sees the old text or the new one)
     node.write(f"{CLOCK}.new", f"{seconds:+d}\n")
     os.rename(f"{node.root}{CLOCK}.new", node.root + CLOCK)
 
 
 def build(node: Machine) -> None:
-    """Puts the library into a node. Raises `Unlike` if it cannot be built."""
+    """Copies the library into a node. Raises `Unlike` if it cannot be built."""
     words = [COMPILER, "-O2", "-shared", "-fPIC", "-o", node.root + LIBRARY, f"{HERE}/cluster_clock.c"]
     done = subprocess.run(words, capture_output=True, timeout=SECONDS_TO_BUILD, check=False)
     if done.returncode != 0:
@@ -40,7 +40,7 @@ def build(node: Machine) -> None:
 
 @contextlib.contextmanager
 def own_clock(run: Run, node: Machine, seconds: int = 0) -> Iterator[None]:
-    """Gives a node a wall clock of its own for a while, so far from the true one. It boots before and after."""
+    """Gives a node its own wall clock for a while, this far from the true time. The node boots before and after."""
     paths = [f"/etc/systemd/system/{unit}.d/zz-clock.conf" for unit in UNITS]
     build(node)
     step(node, seconds)

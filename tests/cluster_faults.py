@@ -1,4 +1,4 @@
-"""Faults of a site that are brought about and taken away again.
+"""Faults of a site that a test causes and ends again.
 
 It is imported by tests/cluster_scenarios.py, and not run by itself.
 """
@@ -26,17 +26,17 @@ class Run(NamedTuple):
         return self.set_up.place(self.world, self.site, service_with_daemon)
 
     def await_phase(self) -> None:
-        """Waits for the phase of the renewal in which the fault comes."""
+        """Waits for the part of the renewal's period at which the fault is injected."""
         self.world.await_phase(self.site)
 
     def watch(self) -> None:
-        """Watches what comes of the fault."""
+        """Watches the effects of the fault."""
         self.world.watch()
 
 
 @contextlib.contextmanager
 def cut_off(run: Run) -> Iterator[None]:
-    """Cuts a site from the others for a while."""
+    """Disconnects a site from the others for a while."""
     run.world.network.cut_site(run.site.name, True)
     try:
         yield
@@ -46,7 +46,7 @@ def cut_off(run: Run) -> Iterator[None]:
 
 @contextlib.contextmanager
 def apart(site: Site) -> Iterator[None]:
-    """Has the nodes of a site not reach one another for a while. The others reach both."""
+    """Disconnects the nodes of a site from one another for a while. The other machines reach both."""
     for node in site.nodes:
         node.must("ip", "route", "add", "blackhole", f"{site.other(node).address}/32")
     try:
@@ -58,7 +58,7 @@ def apart(site: Site) -> Iterator[None]:
 
 @contextlib.contextmanager
 def fencing(run: Run) -> Iterator[None]:
-    """Has the cluster of a site fence nodes for a while."""
+    """Gives the cluster of a site a fencing device for a while."""
     words = ["crm_attribute", "--type", "crm_config", "--name", "stonith-enabled", "--update"]
     run.site.must(*words, "true")
     run.world.await_that("the strip is ready", lambda: "strip" in getattr(run.site.look(), "runs", {}))
@@ -73,7 +73,7 @@ def fencing(run: Run) -> Iterator[None]:
 
 @contextlib.contextmanager
 def fault_file(run: Run, name: str, text: str = "") -> Iterator[None]:
-    """Has the service's agent do something else at a site for a while."""
+    """Changes what the service's agent does at a site for a while."""
     for node in run.site.nodes:
         node.write(f"{FAULTS}/{name}", text)
     try:
@@ -85,7 +85,7 @@ def fault_file(run: Run, name: str, text: str = "") -> Iterator[None]:
 
 @contextlib.contextmanager
 def hanging(run: Run, command: str) -> Iterator[None]:
-    """Has a command hang at the nodes of a site for a while."""
+    """Lets a command hang at the nodes of a site for a while."""
     for node in run.site.nodes:
         os.rename(f"{node.root}/usr/sbin/{command}", f"{node.root}/usr/sbin/{command}.kept")
         node.write(f"/usr/sbin/{command}", HANGING, 0o755)
@@ -98,7 +98,7 @@ def hanging(run: Run, command: str) -> Iterator[None]:
 
 @contextlib.contextmanager
 def no_start(run: Run, *units: str) -> Iterator[None]:
-    """Has units not start at the nodes of a site for a while."""
+    """Prevents units from starting at the nodes of a site for a while."""
     for node in run.site.nodes:
         node.must("systemctl", "mask", "--runtime", *units)
     try:
@@ -112,7 +112,7 @@ def no_start(run: Run, *units: str) -> Iterator[None]:
 
 @contextlib.contextmanager
 def standing_still(run: Run) -> Iterator[None]:
-    """Stops all of Pacemaker at a site (SIGSTOP) for a while, and then its nodes lose their power."""
+    """Stops all processes of Pacemaker at a site (SIGSTOP) for a while; then its nodes lose their power."""
     for node in run.site.nodes:
         node.run("killall", "-q", "-STOP", *PACEMAKER)
     try:
@@ -122,14 +122,14 @@ def standing_still(run: Run) -> Iterator[None]:
 
 
 def again(run: Run, nodes: List[Machine]) -> None:
-    """Has nodes lose their power and boot."""
+    """Cuts the power of nodes, and boots them."""
     for node in nodes:
         node.lose_power()
     run.world.boot(nodes)
 
 
 def kill_unit(node: Machine, *units: str) -> None:
-    """Kills the first process of each unit, all of them at once."""
+    """Kills the first process of each of these units, all at once."""
     numbers = [node.must("systemctl", "show", "-P", "MainPID", unit).strip() for unit in units]
     if "0" in numbers:
         raise Unlike(f"{node.name}: one of {', '.join(units)} does not run")

@@ -1,4 +1,4 @@
-"""What booth-status shows of real clusters: each line, field and sample held to what is arranged and on the disks.
+"""Checks the output of booth-status about real clusters: each line, field and sample against the records on disk.
 
 It is imported by tests/status.py, and not run by itself. All clusters start at once, from records of version 2.
 """
@@ -47,7 +47,7 @@ HELD_LINE = "OK: 3 of 3 members answer, 1 of 2 tickets are held"
 
 
 class Clusters:
-    """All of them, started, and killed when the `with` block ends."""
+    """All clusters: started when the `with` block begins, and killed when it ends."""
 
     def __init__(self, program):
         self.program = program
@@ -96,7 +96,7 @@ def addresses_of(cluster):
 
 
 def three_that_just_started(clusters):
-    """three members that just started hold nothing, which is no fault if the ticket may be free"""
+    """three members that just started hold nothing, which is not a fault if the ticket may be free"""
     cluster = clusters.plain
     one, two, third = addresses_of(cluster)
     told = shows(["-c", cluster.path], warning("free", ticket=NAME))
@@ -120,7 +120,7 @@ def three_that_just_started(clusters):
 
 
 def a_wrong_key_at_one_member(clusters):
-    """a member with another key is silent, and the others' counters rise; one with none is told as such"""
+    """a member with another key is silent, and the others' counters rise; a member without a key is reported as such"""
     cluster = clusters.wrong
     one, two, third = cluster.members
     state, short = f"{cluster.folder}/state", ("-t", "0.8", "-f", NAME)
@@ -143,7 +143,7 @@ def a_wrong_key_at_one_member(clusters):
     told = shows(look, silent, *(warning("dropped", member.address) for member in (one, two)), state=state)
     text = next(each["text"] for each in told["problems"] if each["kind"] == "dropped")
     more = told["members"][0]["dropped"]["badmac"] - before[one.address]
-    require(text == f"{one.address}: dropped more since the last look: badmac {more}", text)
+    require(text == f"{one.address}: dropped datagrams since the last look: badmac {more}", text)
     silent = [warning("silent", member.address) for member in (one, two)]
     shows(("-c", f"{cluster.folder}/other.conf", *short), critical("no-majority"), *silent)
     third.kill()
@@ -159,16 +159,16 @@ def a_wrong_key_at_one_member(clusters):
 
 
 def members_with_different_files(clusters):
-    """a member with another file is told, with what it has more"""
+    """a member with another file is reported, with its additional ticket"""
     cluster = clusters.other
     third = cluster.members[2].address
     told = shows(["-c", cluster.path, "-f", NAME], critical("other-file", third))
-    text = f"{third}: runs another configuration: it has ticket more more"
+    text = f"{third}: runs another configuration: it has the additional ticket more"
     require_same((first_text(told), told["status"]), (text, 2))
 
 
 def two_clusters_that_hold(clusters):
-    """two further clusters in which the first site holds the ticket, and all is well until a way of each is cut"""
+    """two further clusters in which the first site holds the ticket; there is no problem until a link of each is cut"""
     for cluster in (clusters.deaf, clusters.mute):
         grants(cluster, 0, SECONDS_TO_BE_SO)
         shows(["-c", cluster.path])
@@ -182,7 +182,7 @@ def two_clusters_that_hold(clusters):
 
 
 def by_ipv6(clusters):
-    """a site by IPv6 that is a majority by itself is granted the ticket and shown"""
+    """a site with an IPv6 address that is a majority alone is granted the ticket and shown"""
     if not clusters.has_v6:
         return "not checked: this machine has no IPv6"
     with socket.socket(socket.AF_INET6, socket.SOCK_DGRAM) as asker:
@@ -198,7 +198,7 @@ def by_ipv6(clusters):
 
 
 def a_ticket_that_is_held(clusters):
-    """a ticket that is held is shown with the end on the holder's disk, in the table, the document and the metrics"""
+    """a held ticket is shown with the end on the holder's disk, in the table, the document and the metrics"""
     grants(clusters.plain, 0, SECONDS_TO_BE_SO)
     in_time(lambda: is_shown_as_held(clusters.plain))
 
@@ -230,7 +230,7 @@ def date(seconds):
 
 
 def row_of_member(place, member, row):
-    """The row of a member that is well."""
+    """The row of a member without problems."""
     require_same(row[:3], [str(place + 1), member.role, member.address])
     require(re.fullmatch(r"\d+\.\d ms", row[3]) and re.fullmatch(r"[+-]0\.[0-4] s", row[4]), f"{row}")
     require_same((row[5 + place], row[8:]), ("-", ["-", "-"]))
@@ -238,7 +238,7 @@ def row_of_member(place, member, row):
 
 
 def counts_between(member, found, samples, early, late):
-    """What is told of a member's counters lies between what it told before and after."""
+    """Each printed counter of a member lies between the values that the member printed before and after."""
     require_same((found["dropped"], early[0]), (dict(zip(FAULTS, early[0])), late[0]))
     for peer in found["peers"]:
         other = peer["address"]
@@ -250,7 +250,7 @@ def counts_between(member, found, samples, early, late):
 
 
 def records_of_a_cluster(clusters):
-    """booth-record prints the record files of a running cluster, with the holder's lease, and that it runs"""
+    """booth-record prints the record files of a running cluster, with the holder's lease, and that it is in force"""
     cluster = clusters.plain
     one = cluster.members[0]
     require_same(one.about("CGnt", MANUAL), "ok")
@@ -263,15 +263,15 @@ def records_are_printed(cluster, one):
     require(ran.status == 0 and not ran.said, str(ran))
     of_one, of_manual = ran.printed.split("\n\n")
     ends = [f"{date(each.until)}.{round(each.until * 1000) % 1000:03} UTC" for each in (before, one.record())]
-    form = f"^lease +of term {before.term}, until (.*)\n +by this machine's clock it runs [0-8] s more$"
+    form = f"^lease +of term {before.term}, until (.*)\n +by this machine's clock it runs for [0-8] s more$"
     found = re.search(form, of_one, re.M)
     require(found and found[1] in ends and f"ticket    {NAME}\n" in of_one, f"{of_one}, and not {ends}")
-    lease = "lease     of term 1, until no end, as that of a manual ticket\n          by this machine's clock it runs\n"
+    lease = "lease     of term 1, until no end, as for a manual ticket\n          by this machine's clock it runs\n"
     require(f"ticket    {BY_HAND}\n" in of_manual and lease in of_manual, of_manual)
 
 
 def two_owners_of_a_manual_ticket(clusters):
-    """a manual ticket that was forced to a second site has two owners, which is critical"""
+    """a manual ticket that was granted with force at a second site has two owners, which is critical"""
     cluster = clusters.plain
     one, two, third = cluster.members
     require_same(one.about("CGnt", MANUAL), "ok")
@@ -295,7 +295,7 @@ def two_owners_of_a_manual_ticket(clusters):
 
 
 def a_member_that_stopped_or_started(clusters):
-    """a member that is stopped is silent, one that ended has no daemon, and one that was started anew is told"""
+    """a stopped member is silent, an ended one has no daemon, and a restarted one is reported"""
     cluster = clusters.plain
     one, two, third = cluster.members
     state = f"{cluster.folder}/state"
@@ -305,7 +305,7 @@ def a_member_that_stopped_or_started(clusters):
     def is_silent():
         ran = run_apart("booth-status", "-b", *look)
         require(ran.status == 1 and ran.took < 0.8 + SECONDS_OF_PYTHON, str(ran))
-        form = f"BOOTH WARNING: {third.address}: is silent, and ({one.address}|{two.address}) heard it \\d+ s ago\\n"
+        form = f"BOOTH WARNING: {third.address}: is silent; ({one.address}|{two.address}) heard from it \\d+ s ago\\n"
         require(re.fullmatch(form, ran.printed), ran.printed)
 
     def is_not_there():
@@ -331,7 +331,7 @@ def a_member_that_stopped_or_started(clusters):
 
 
 def a_cut_link_of_a_holder(clusters):
-    """a holder that hears no answer, and a member that does not hear a holder, are told once a lease has passed"""
+    """a holder without answers, and a member that hears no holder, are reported after a lease's time"""
     one, _, third = clusters.deaf.members
     owner, _, cut_off = clusters.mute.members
     if clusters.uncut:
@@ -347,7 +347,7 @@ def a_cut_link_of_a_holder(clusters):
     def told_as_one_way():
         told = document(*deaf)
         require_problems(told, warning("one-way", one.address, third.address))
-        form = f"{one.address}: hears nothing of {third.address} \\(for \\d+ s\\), which heard it \\d s ago"
+        form = f"{one.address}: receives nothing from {third.address} \\(for \\d+ s\\), which heard from it \\d s ago"
         require(re.fullmatch(form, first_text(told)), first_text(told))
 
     def heard_long_ago():
@@ -364,7 +364,7 @@ def a_cut_link_of_a_holder(clusters):
 
 
 def the_way_that_a_takeover_needs(clusters):
-    """a way between two that hold nothing, which failed at a start, is told though the holder renews"""
+    """if the link between two members that hold nothing failed at a start, it is reported although the holder renews"""
     cluster = clusters.deaf
     one, two, third = cluster.members
     try:
@@ -373,7 +373,8 @@ def the_way_that_a_takeover_needs(clusters):
             third.start(cluster.program, cluster.conf)
             told = shows(["-c", cluster.path], warning("one-way", third.address, two.address))
             text = first_text(told)
-            form = f"{third.address}: hears nothing of {two.address} \\(since it started\\), which heard it \\d+ s ago"
+            form = f"{third.address}: receives nothing from {two.address} \\(since it started\\)"
+            form += ", which heard from it \\d+ s ago"
             require(re.fullmatch(form, text), text)
             last = lambda: tables_of(status("-c", cluster.path).printed)[1][2][7]
             in_time(lambda: require_same(last(), "never"))
@@ -386,7 +387,7 @@ def the_way_that_a_takeover_needs(clusters):
 
 
 def a_service_without_its_ticket(clusters):
-    """a holder whose service is stopped is critical, and so is a ticket that was held and was revoked"""
+    """a holder whose service is stopped is critical, and so is a ticket that was held and then revoked"""
     cluster = clusters.mute
     one = cluster.members[0]
     look, state = ["-c", cluster.path], f"{cluster.folder}/state"
@@ -399,11 +400,11 @@ def a_service_without_its_ticket(clusters):
         shows(look, critical("service-down", one.address, ticket=NAME), state=state)
         require_same(one.about("CRvk"), "ok")
         told = shows(look, critical("free", ticket=NAME), state=state)
-    require_same(first_text(told), f"{NAME}: nobody holds it, and {one.address} gave it back")
+    require_same(first_text(told), f"{NAME}: nobody holds it, and {one.address} released it")
 
 
 def a_takeover(clusters):
-    """of a holder that ended it is told when its ticket is free and who is next, and that site takes it over then"""
+    """after the holder's end it shows when the ticket is free and which site is next, which takes it over then"""
     cluster = clusters.mute
     one, two, _ = cluster.members
     look, state = ["-c", cluster.path, "-t", "0.8"], f"{cluster.folder}/state"
@@ -434,7 +435,7 @@ def a_takeover(clusters):
 
 
 def nobody_held_twice(clusters):
-    """no automatic ticket was held at two sites at one moment meanwhile"""
+    """no automatic ticket was held at two sites at the same moment during these stories"""
     for cluster in (clusters.plain, clusters.deaf, clusters.mute):
         require_same(cluster.watch.wrong[:3], [])
 
@@ -458,7 +459,7 @@ STORIES = (
 
 
 def looks(program, folder):
-    """Each story over the clusters, in turn, with what it left out."""
+    """Each story over the clusters, one after another, with what it left out."""
     clusters = Clusters(program)
     with clusters.started(folder):
         for story in STORIES:

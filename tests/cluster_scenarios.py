@@ -1,4 +1,4 @@
-"""Faults of sites that are Pacemaker clusters, each with what must come of it.
+"""Faults of sites that are Pacemaker clusters, each with its expected effect.
 
 It is imported by tests/clusters.py, and not run by itself. A scenario begins with a service that runs at the site which
 holds the ticket. It prepares its fault, waits for a phase of the renewal, brings the fault about, watches what comes of
@@ -33,9 +33,8 @@ Story = Callable[[Run], Optional[str]]
 
 
 class Scenario(NamedTuple):
-    """A fault with its name, whether the gate runs it, and for how long the service may run nowhere at most.
-
-    It may need a program of this machine.
+    """A fault with its name, whether the gate runs it, and the longest time for which the service may run nowhere. It
+    may need a program of this machine.
     """
 
     name: str
@@ -45,7 +44,7 @@ class Scenario(NamedTuple):
     program: str
 
     def title(self) -> str:
-        """Returns what the scenario is, in words."""
+        """Returns a description of the scenario."""
         return (self.story.__doc__ or "").strip().rstrip(".")
 
 
@@ -53,7 +52,7 @@ SCENARIOS: Dict[str, Scenario] = {}
 
 
 def scenario(most_without: float, gate: bool = False, program: str = "") -> Callable[[Story], Story]:
-    """Makes a function a scenario, by the name of it."""
+    """Makes a function a scenario, with the function's name."""
 
     def add(story: Story) -> Story:
         name = story.__name__.replace("_", "-")
@@ -148,7 +147,7 @@ def site_dies(run: Run) -> Optional[str]:
 
 @scenario(LONG)
 def daemon_does_not_start(run: Run) -> Optional[str]:
-    """The daemon is killed, and starts at no node of the site."""
+    """The daemon is killed, and fails to start at each node of the site."""
     node = run.place()
     run.await_phase()
     with no_start(run, DAEMON):
@@ -159,7 +158,7 @@ def daemon_does_not_start(run: Run) -> Optional[str]:
 
 @scenario(LONG)
 def follower_does_not_start(run: Run) -> Optional[str]:
-    """The follower is killed, and starts at no node of the site."""
+    """The follower is killed, and fails to start at each node of the site."""
     node = run.place()
     run.await_phase()
     with no_start(run, FOLLOWER):
@@ -170,7 +169,7 @@ def follower_does_not_start(run: Run) -> Optional[str]:
 
 @scenario(LONG)
 def hanging_ticket_command(run: Run) -> Optional[str]:
-    """crm_ticket hangs at the site, which is then cut from the others."""
+    """crm_ticket hangs at the site, which is then disconnected from the others."""
     run.place()
     run.await_phase()
     with hanging(run, "crm_ticket"), cut_off(run):
@@ -180,7 +179,7 @@ def hanging_ticket_command(run: Run) -> Optional[str]:
 
 @scenario(LONG)
 def hanging_change_command(run: Run) -> Optional[str]:
-    """cibadmin hangs at the site, which is then cut from the others."""
+    """cibadmin hangs at the site, which is then disconnected from the others."""
     run.place()
     run.await_phase()
     with hanging(run, "cibadmin"), cut_off(run):
@@ -190,7 +189,7 @@ def hanging_change_command(run: Run) -> Optional[str]:
 
 @scenario(LONG)
 def pacemaker_stands_still(run: Run) -> Optional[str]:
-    """All of Pacemaker is stopped at the site (SIGSTOP), which is then cut from the others."""
+    """All processes of Pacemaker are stopped at the site (SIGSTOP), which is then disconnected from the others."""
     run.place()
     run.await_phase()
     with cut_off(run), standing_still(run):
@@ -216,7 +215,7 @@ def pacemaker_is_stopped(run: Run) -> Optional[str]:
 
 @scenario(LONG, gate=True)
 def site_is_cut(run: Run) -> Optional[str]:
-    """The site is cut from the others."""
+    """The site is disconnected from the others."""
     run.place()
     run.await_phase()
     with cut_off(run):
@@ -226,7 +225,7 @@ def site_is_cut(run: Run) -> Optional[str]:
 
 @scenario(LONG)
 def each_node_alone(run: Run) -> Optional[str]:
-    """Each node of the site is cut from all others."""
+    """Each node of the site is disconnected from all others."""
     run.place()
     run.await_phase()
     for node in run.site.nodes:
@@ -241,7 +240,7 @@ def each_node_alone(run: Run) -> Optional[str]:
 
 @scenario(SHORT)
 def nodes_apart_with_fencing(run: Run) -> Optional[str]:
-    """The nodes of the site lose one another, both start the daemon, and fencing ends one of them."""
+    """The nodes of the site lose contact with each other, both start the daemon, and fencing ends one of them."""
     run.place()
     with fencing(run):
         run.await_phase()
@@ -252,7 +251,7 @@ def nodes_apart_with_fencing(run: Run) -> Optional[str]:
 
 @scenario(LONG)
 def slow_start_and_cut(run: Run) -> Optional[str]:
-    """Another resource begins a start of 90 s, and then the site is cut from the others."""
+    """Another resource begins a start of 90 s; then the site is disconnected from the others."""
     run.place()
     run.await_phase()
     role = ["crm_resource", "--resource", "slow", "--meta", "--set-parameter", "target-role", "--parameter-value"]
@@ -268,7 +267,7 @@ def slow_start_and_cut(run: Run) -> Optional[str]:
 
 @scenario(LONG)
 def hanging_stop_and_cut(run: Run) -> Optional[str]:
-    """The site is cut from the others, and the service's stop hangs."""
+    """The site is disconnected from the others, and the service's stop hangs."""
     run.place()
     run.await_phase()
     with fault_file(run, "hanging-stop"), cut_off(run):
@@ -278,7 +277,7 @@ def hanging_stop_and_cut(run: Run) -> Optional[str]:
 
 @scenario(LONG)
 def decider_dies_at_the_end(run: Run) -> Optional[str]:
-    """The site is cut from the others, and the node that decides dies 1.5 s before the service's end."""
+    """The site is disconnected from the others, and the node that is the DC dies 1.5 s before the service's end."""
     look = run.site.look()
     if look is None:
         raise Unlike(f"the cluster of {run.site.name} does not answer")
@@ -296,7 +295,7 @@ def decider_dies_at_the_end(run: Run) -> Optional[str]:
 
 @scenario(LONG, program=COMPILER)
 def wall_clock_steps(run: Run) -> Optional[str]:
-    """The wall clock of the service's node steps 60 s back, as all programs there see it, and the site is cut."""
+    """The wall clock of the service's node steps back by 60 s for all programs, and the site is disconnected."""
     node = run.place()
     with own_clock(run, node):
         run.set_up.place_daemon(run.world, run.site, node)
@@ -310,7 +309,7 @@ def wall_clock_steps(run: Run) -> Optional[str]:
 
 @scenario(LONG, program=COMPILER)
 def late_clock_and_cut(run: Run) -> Optional[str]:
-    """The clock of a node is 40 s behind, and the site is cut as the other node, with daemon and service, dies."""
+    """A node's clock is 40 s behind; the site is disconnected when the other node, with daemon and service, dies."""
     node = run.place()
     with own_clock(run, run.site.other(node), -40):
         run.set_up.place_daemon(run.world, run.site, node)
@@ -325,7 +324,7 @@ def late_clock_and_cut(run: Run) -> Optional[str]:
 
 @scenario(LONG, program=COMPILER)
 def clocks_step_back_and_cut(run: Run) -> Optional[str]:
-    """The clocks of both nodes step 40 s back, and the site is cut as the node of daemon and service dies."""
+    """The clocks of both nodes step back by 40 s; the site is disconnected when the node of daemon and service dies."""
     node = run.place()
     with own_clock(run, node), own_clock(run, run.site.other(node)):
         run.set_up.place_daemon(run.world, run.site, node)

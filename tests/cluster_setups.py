@@ -110,14 +110,14 @@ class SetUp:
         raise NotImplementedError
 
     def prepare(self, world: World) -> None:
-        """Does what machines need before their first boot."""
+        """Prepares machines before their first boot."""
 
     def begin(self, world: World) -> None:
-        """Starts Booth's members, and puts the service of each site under the ticket."""
+        """Starts Booth's members, and makes the service of each site depend on the ticket."""
         raise NotImplementedError
 
     def daemon_node(self, site: Site) -> Machine:
-        """Returns the node that has the site's daemon."""
+        """Returns the node at which the site's daemon runs."""
         raise NotImplementedError
 
     def place_daemon(self, world: World, site: Site, node: Machine) -> None:
@@ -125,22 +125,24 @@ class SetUp:
         raise NotImplementedError
 
     def end(self, world: World, site: Site) -> float:
-        """Returns the moment of the wall clock at which the site's cluster ends the service without a renewal."""
+        """Returns the moment, by the wall clock, at which the site's cluster ends the service if the lease is not
+        renewed.
+        """
         raise NotImplementedError
 
     def move(self, world: World, site: Site) -> None:
-        """Moves the ticket from a site to the other one, as an operator does."""
+        """Moves the ticket from one site to the other, as an operator does."""
         node = self.daemon_node(site)
         node.must("booth-switchover", TICKET, world.other(site).address, timeout=120)
 
     def restart(self, node: Machine, units: Sequence[str]) -> None:
-        """Starts units of a node again that could not start, if systemd starts them."""
+        """Restarts units of a node that could not start, if systemd starts them."""
         raise NotImplementedError
 
     # ---- what all have
 
     def set_up(self, world: World) -> None:
-        """Boots the machines and sets everything up, up to a site that runs the service."""
+        """Boots the machines and sets everything up, until a site runs the service."""
         self.prepare(world)
         world.boot(world.machines.values())
         world.at_each(world.machines.values(), self.install)
@@ -168,7 +170,9 @@ class SetUp:
         machine.write("/etc/booth/booth.conf", CONF.format(a=addresses["a"], b=addresses["b"], **values))
 
     def is_settled(self, world: World) -> bool:
-        """Returns whether all is up, one site holds the ticket for all members, and it alone runs the service."""
+        """Returns whether everything runs, all members list one site as the holder, and only that site runs the
+        service.
+        """
         if not all(machine.is_up() for machine in world.machines.values()):
             return False
         holder = world.holder()
@@ -178,7 +182,9 @@ class SetUp:
         return all(is_whole(site) for site in world.sites) and all(world.leader(at) == holder.address for at in members)
 
     def settle(self, world: World, limit: float = PATIENCE) -> Site:
-        """Waits until a site holds the ticket and runs the service, grants a ticket that nobody has, and returns it."""
+        """Waits until a site holds the ticket and runs the service, and returns the site. Grants a ticket that nobody
+        holds.
+        """
         end, tidied = time.monotonic() + limit, time.monotonic() - 5
         while not self.is_settled(world):
             world.wait(0.5)
@@ -193,12 +199,12 @@ class SetUp:
         return holder
 
     def settle_at(self, world: World, site: Site) -> None:
-        """Waits until all is whole, with the ticket at this site."""
+        """Waits until everything runs, with the ticket at this site."""
         if self.settle(world) is not site:
             raise Unlike(f"the ticket is not at {site.name} any more")
 
     def tidy(self, world: World) -> None:
-        """Forgets failed actions, and grants a ticket that nobody has."""
+        """Clears failed actions, and grants a ticket that nobody holds."""
         for site in world.sites:
             for node in site.up()[:1]:
                 node.run("timeout", "-s", "KILL", "10", "crm_resource", "--cleanup")
@@ -206,14 +212,14 @@ class SetUp:
             world.third.run("timeout", "5", "booth", "grant", "-w", "-s", world.sites[0].address, TICKET)
 
     def state(self, world: World) -> str:
-        """Returns what is so, in a line."""
+        """Returns a description of the state in one line."""
         said = [f"{name} is off" for name, machine in world.machines.items() if not machine.is_up()]
         for site in world.sites:
             said.append(f"{site.name} lists {world.leader(site.address) or 'nothing'}, {site.look()}")
         return "; ".join(said)
 
     def place(self, world: World, site: Site, service_with_daemon: bool) -> Machine:
-        """Has the service of a site run at the node of its daemon, or at the other one, and returns the daemon's."""
+        """Runs the service of a site at the node of its daemon, or at the other node, and returns the daemon's node."""
         node = self.daemon_node(site)
         place(world, site, SERVICE, AGENT, node if service_with_daemon else site.other(node))
         return node
@@ -253,7 +259,9 @@ class OneNode(SetUp):
 
 
 class Packaged(SetUp):
-    """A site as `booth-pacemaker setup` sets it up: the daemon moves, and the cluster and each node know the end."""
+    """A site as `booth-pacemaker setup` sets it up: the daemon can move, and the cluster and each node know the lease's
+    end.
+    """
 
     name = "package"
 
@@ -287,14 +295,14 @@ class Packaged(SetUp):
         place(world, site, DAEMON_GROUP, DAEMON_RESOURCE, node)
 
     def end(self, world: World, site: Site) -> float:
-        """(As the file of the CIB at a node has it, which is the one with the latest end.)"""
+        """(This is the end in the CIB file of a node, which has the latest end.)"""
         ends = [end for node in site.up() for end in RULE_END.findall(node.read("/var/lib/pacemaker/cib/cib.xml"))]
         if not ends:
             raise Unlike(f"the CIB of {site.name} has no end of {TICKET}")
         return float(calendar.timegm(time.strptime(max(ends), "%Y-%m-%d %H:%M:%SZ")))
 
     def restart(self, node: Machine, units: Sequence[str]) -> None:
-        """(Only the cluster starts them.)"""
+        """(Only the cluster starts these units.)"""
 
 
 SET_UPS: Dict[str, Type[SetUp]] = {each.name: each for each in (Packaged, OneNode)}
@@ -316,18 +324,20 @@ def lease_end(world: World, site: Site) -> float:
 
 
 def is_whole(site: Site) -> bool:
-    """Returns whether both nodes of a site are in its cluster, and one of them decides."""
+    """Returns whether both nodes of a site are in its cluster, and one of them is the DC."""
     look = site.look()
     return look is not None and look.has_quorum and len(look.online) == len(site.nodes) and bool(look.dc)
 
 
 def await_cluster(world: World, site: Site) -> None:
-    """Waits until the nodes of a site are a cluster."""
+    """Waits until the nodes of a site form a cluster."""
     world.await_that(f"site {site.name} is a cluster", lambda: is_whole(site))
 
 
 def configure(site: Site) -> None:
-    """Writes what a site's cluster runs: an address, the service, a slow resource that is stopped, a fencing device."""
+    """Writes the resources of a site's cluster: an address, the service, a slow resource that is stopped, a fencing
+    device.
+    """
     site.must("crm_attribute", "--type", "crm_config", "--name", "stonith-enabled", "--update", "false")
     site.must("cibadmin", "--modify", "--allow-create", "--scope", "configuration", "--xml-text", DEFAULTS_XML)
     # (the second one is fenced later, so only the first one ends if they lose one another)
@@ -336,7 +346,7 @@ def configure(site: Site) -> None:
 
 
 def place(world: World, site: Site, name: str, inner: str, node: Machine) -> None:
-    """Moves a resource of a site to a node, and has it stay there until something happens."""
+    """Moves a resource of a site to a node, where it stays until a fault."""
 
     def prefer(score: int) -> None:
         words = f'<rsc_location id="prefer-{name}" rsc="{name}" node="{node.name}" score="{score}"/>'
@@ -355,7 +365,7 @@ def place(world: World, site: Site, name: str, inner: str, node: Machine) -> Non
 
 
 def grant(world: World, site: Site, limit: float) -> None:
-    """Grants the ticket to a site, and waits until that runs the service."""
+    """Grants the ticket to a site, and waits until the site runs the service."""
     end = time.monotonic() + limit
     while world.third.run("timeout", "10", "booth", "grant", "-w", "-s", site.address, TICKET).returncode != 0:
         if time.monotonic() > end:

@@ -30,7 +30,7 @@ ADDRESSES = {"a1": "10.78.0.11", "a2": "10.78.0.12", "b1": "10.78.0.21", "b2": "
 # what moves between the nodes of a site, with its daemon
 FLOATING = {"a": "10.78.0.10", "b": "10.78.0.20"}
 TICKET = "db8"
-# (on a machine that does much else, nothing is done in its time with less)
+# (on a busy machine, nothing is done in its time with less)
 EXPIRE = int(os.environ.get("BOOTH_CLUSTERS_EXPIRE", "30"))
 RENEWAL, AFTER = EXPIRE // 3, int(os.environ.get("BOOTH_CLUSTERS_ACQUIRE_AFTER", "5"))
 TOKEN_MS = 3000
@@ -84,11 +84,11 @@ WantedBy=multi-user.target
 
 
 class Unlike(Exception):
-    """What was to come did not come; the text says what."""
+    """An expected event did not happen; the text describes it."""
 
 
 class Sites(Network):
-    """A bridge for each site, on a cable to the bridge of all."""
+    """A bridge for each site, connected by a cable to the bridge of all sites."""
 
     def __enter__(self) -> "Sites":
         super().__enter__()
@@ -101,13 +101,14 @@ class Sites(Network):
         return self
 
     def cut_site(self, site: str, is_cut: bool) -> None:
-        """Takes a site's cable to the others out, or puts it in again."""
+        """Disconnects the cable between a site and the others, or connects it again."""
         self.ip("link", "set", f"up-{site}", "down" if is_cut else "up")
 
 
 class Look(NamedTuple):
-    """What a node says of its cluster: who is there, which node decides, where each resource runs, which tickets are
-    granted."""
+    """A node's view of its cluster: its members, which node is the DC, where each resource runs, which tickets are
+    granted.
+    """
 
     online: Set[str]
     dc: str
@@ -117,7 +118,7 @@ class Look(NamedTuple):
 
 
 def look_of(text: bytes) -> Look:
-    """Returns what `crm_mon --output-as=xml` printed."""
+    """Returns the view that `crm_mon --output-as=xml` printed."""
     top = Xml.fromstring(text)
     dc = top.find("summary/current_dc")
     runs = {
@@ -135,7 +136,7 @@ def look_of(text: bytes) -> Look:
 
 
 class Site:
-    """A site: its name, its nodes, and the address by which its daemon is a member."""
+    """A site: its name, its nodes, and the address of its daemon as a member."""
 
     def __init__(self, name: str, nodes: List[Machine], address: str) -> None:
         self.name, self.nodes, self.address = name, nodes, address
@@ -145,7 +146,7 @@ class Site:
         return [node for node in self.nodes if node.is_up()]
 
     def node(self, name: str) -> Machine:
-        """Returns the node of a name."""
+        """Returns the node with a name."""
         return next(node for node in self.nodes if node.name == name)
 
     def other(self, node: Machine) -> Machine:
@@ -153,7 +154,7 @@ class Site:
         return self.nodes[1] if node is self.nodes[0] else self.nodes[0]
 
     def look(self, at: Optional[Machine] = None) -> Optional[Look]:
-        """Returns what a node says of its cluster, and nothing if it does not answer."""
+        """Returns a node's view of its cluster, or nothing if the node does not answer."""
         for node in [at] if at else self.up():
             done = node.run("timeout", "-s", "KILL", "5", "crm_mon", "-1", "--output-as=xml")
             if done.returncode == 0:
@@ -161,15 +162,15 @@ class Site:
         return None
 
     def runs(self) -> bool:
-        """Returns whether a writer runs at the site."""
+        """Returns whether any writer runs at the site."""
         return any(cluster_writers.runs(node, kind) for node in self.nodes for kind in cluster_writers.KINDS)
 
     def serves(self) -> bool:
-        """Returns whether each writer runs at the site."""
+        """Returns whether every writer runs at the site."""
         return all(any(cluster_writers.runs(node, kind) for node in self.nodes) for kind in cluster_writers.KINDS)
 
     def must(self, *words: str) -> str:
-        """Runs a command at a node that runs, and returns what it printed."""
+        """Runs a command that must succeed at a running node, and returns what it printed."""
         up = self.up()
         if not up:
             raise NotBooted(f"no node of site {self.name} runs")
@@ -177,7 +178,7 @@ class Site:
 
 
 class World:
-    """The machines. Whatever waits lets the power strips do what they were asked for meanwhile."""
+    """The machines. Every function that waits also lets the power strips carry out their requests."""
 
     def __init__(self, network: Sites, machines: Dict[str, Machine], folder: str, addresses: Dict[str, str]) -> None:
         self.network, self.machines, self.folder = network, machines, folder
@@ -199,7 +200,7 @@ class World:
     # ---- power
 
     def tend(self) -> None:
-        """Boots machines that boot again, and does what power strips were asked for."""
+        """Boots machines that are due to boot, and carries out the requests to power strips."""
         for machine in self.machines.values():
             if machine.process is not None and machine.process.poll() == BOOTS_AGAIN:
                 machine.lose_power()
@@ -213,7 +214,7 @@ class World:
                 self.strip(request)
 
     def strip(self, request: str) -> None:
-        """Does what a power strip was asked for."""
+        """Carries out the request to a power strip."""
         name = os.path.basename(request)[: -len(".request")]
         with open(request, encoding="ascii") as file:
             action = file.read().strip()
@@ -226,13 +227,13 @@ class World:
             file.write(action)
 
     def kill(self, machine: Machine) -> None:
-        """Has a machine lose its power for good, until it is booted."""
+        """Cuts the power of a machine until it is booted again."""
         self.dead.add(machine.name)
         self.boots_at.pop(machine.name, None)
         machine.lose_power()
 
     def boot(self, machines: Collection[Machine]) -> None:
-        """Boots machines at once, and waits until they have started."""
+        """Boots machines at the same time, and waits until they have started."""
         self.dead -= {machine.name for machine in machines}
         booting = [machine for machine in machines if not machine.is_up()]
         for machine in booting:
@@ -242,7 +243,7 @@ class World:
             self.await_that(f"{machine.name} has booted", machine.is_booted)
 
     def reset(self) -> None:
-        """Has all machines lose their power and boot, with no cable out."""
+        """Cuts the power of all machines and boots them, with all cables connected."""
         self.boots_at.clear()
         for machine in self.machines.values():
             machine.lose_power()
@@ -261,7 +262,8 @@ class World:
             time.sleep(min(0.1, max(0.0, end - time.monotonic())))
 
     def await_that(self, what: str, check: Callable[[], object], limit: float = PATIENCE) -> float:
-        """Waits until something is so, and returns how long it took. Raises `Unlike` if it does not come."""
+        """Waits until a condition holds, and returns how long this took. Raises `Unlike` if it does not come to hold.
+        """
         began, limit = time.monotonic(), limit * self.slowness
         while not check():
             if time.monotonic() - began > limit:
@@ -270,7 +272,7 @@ class World:
         return time.monotonic() - began
 
     def see_how_slow(self) -> None:
-        """Sees how long looks at the clusters take, which tells how much else this machine does."""
+        """Measures how long looks at the clusters take, which shows how busy this machine is."""
         took = []
         for site in [*self.sites, *self.sites, *self.sites]:
             began = time.monotonic()
@@ -279,14 +281,14 @@ class World:
         self.slowness = min(MOST_SLOWNESS, max(1.0, sorted(took)[len(took) // 2] / SECONDS_OF_A_LOOK))
 
     def at_each(self, machines: Iterable[Machine], work: Callable[[Machine], object]) -> None:
-        """Does the same at several machines at once."""
+        """Runs the same function for several machines at the same time."""
         with ThreadPoolExecutor() as pool:
             list(pool.map(work, machines))
 
     # ---- the ticket
 
     def listed(self, address: str) -> Dict[str, str]:
-        """Returns what a daemon says of the ticket, as the arbitrator hears it."""
+        """Returns a daemon's line about the ticket, as the arbitrator receives it."""
         done = self.third.run("timeout", "3", "booth", "list", "-s", address)
         for line in done.stdout.decode(errors="replace").splitlines():
             if line.startswith(f"ticket: {TICKET},"):
@@ -294,11 +296,11 @@ class World:
         return {}
 
     def leader(self, address: str) -> str:
-        """Returns whom a daemon lists as the holder: an address, `none`, or nothing if it does not answer."""
+        """Returns the holder that a daemon lists: an address, `none`, or nothing if the daemon does not answer."""
         return self.listed(address).get("leader", "").strip().lower()
 
     def holder(self) -> Optional[Site]:
-        """Returns the site that lists itself as the holder, and whose service runs, or nothing."""
+        """Returns the site that lists itself as the holder and whose service runs, or nothing."""
         for site in self.sites:
             if site.serves() and self.leader(site.address) == site.address:
                 return site
@@ -311,7 +313,7 @@ class World:
         self.await_that("a renewal", lambda: self.listed(site.address).get("expires") not in (None, before), limit)
 
     def await_phase(self, site: Site) -> None:
-        """Waits until a part of the time between two renewals has passed since one. What comes next is the fault."""
+        """Waits until a part of the time between two renewals has passed since the last one. The fault comes next."""
         self.await_renewal(site)
         self.wait(self.phase * RENEWAL)
         if not site.serves() or self.other(site).runs() or self.leader(site.address) != site.address:
@@ -320,7 +322,9 @@ class World:
         self.is_faulty = True
 
     def watch(self, least: float = EXPIRE + AFTER + 5, most: float = 2 * EXPIRE + 20) -> None:
-        """Watches what comes of a fault: at least so long, and then until the service has run at one site alone."""
+        """Watches the effects of a fault: for at least this long, and then until the service has run at exactly one
+        site.
+        """
         self.watched = time.monotonic()
         alone = 0.0
         while self.watched < self.began + most and (self.watched < self.began + least or alone < 5):
@@ -332,7 +336,7 @@ class World:
 
 
 def raise_instances() -> None:
-    """Lets more than three machines have a first process that watches files."""
+    """Raises the system's limit, so that more than three machines can have a first process that watches files."""
     with open(INSTANCES, encoding="ascii") as file:
         allowed = int(file.read())
     if allowed < MOST_INSTANCES:
@@ -341,7 +345,7 @@ def raise_instances() -> None:
 
 
 def prepare(machine: Machine, site: Optional[str]) -> None:
-    """Writes what a machine has before its first boot."""
+    """Writes the files that a machine has before its first boot."""
     machine.write("/etc/systemd/network/10-host0.network", "[Match]\nName=host0\n[Link]\nUnmanaged=yes\n")
     machine.write("/etc/systemd/system/own-address.service", ADDRESS_UNIT.format(address=machine.address))
     # (else a daemon takes the clock that another machine's kept for its own)
@@ -377,7 +381,7 @@ def prepare(machine: Machine, site: Optional[str]) -> None:
 
 
 def mask(machine: Machine, unit: str) -> None:
-    """Has systemd never start a unit of a machine that does not run yet."""
+    """Masks a unit of a machine that does not run yet, so that systemd never starts it."""
     path = f"{machine.root}/etc/systemd/system/{unit}"
     os.makedirs(os.path.dirname(path), exist_ok=True)
     with contextlib.suppress(FileNotFoundError):
@@ -387,7 +391,7 @@ def mask(machine: Machine, unit: str) -> None:
 
 @contextlib.contextmanager
 def worlds(folder: str, addresses: Dict[str, str]) -> Iterator[World]:
-    """Gives the five machines, which are prepared and not booted yet, with the addresses of the sites' daemons."""
+    """Yields the five machines, prepared and not booted yet, with the addresses of the sites' daemons."""
     raise_instances()
     sites = {node: site for site, nodes in NODES.items() for node in nodes}
     made: Dict[str, Machine] = {}

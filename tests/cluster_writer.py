@@ -1,5 +1,5 @@
 #!/usr/bin/env python3
-"""Is the service of a ticket: notes each 100 ms that it runs, until it is ended. It runs inside a machine.
+"""The service of a ticket: notes every 100 ms that it runs, until it is ended. It runs inside a machine.
 
 tests/cluster_world.py puts it there, and an agent and a unit run it as `cluster_writer.py LOG`. A line of the log is a
 moment, in seconds of the clock that all machines here share, which no step of a wall clock touches.

@@ -1,4 +1,4 @@
-"""What the services of a ticket noted at the nodes of two sites: when it ran where, at two sites, and nowhere.
+"""The notes of a ticket's services at the nodes of two sites: when the service ran where, at two sites, and nowhere.
 
 It is imported by tests/clusters.py, and not run by itself. A service is a writer (tests/cluster_writer.py) that an
 agent or a unit runs. A ticket has one of each.
@@ -20,7 +20,7 @@ Spell = Tuple[float, float]
 
 
 class Figures(NamedTuple):
-    """For how long the service ran at two sites, nowhere and at two nodes of a site, and whether it did to the end."""
+    """For how long the service ran at two sites, nowhere, and at two nodes of a site; and whether it ran at the end."""
 
     at_two: float
     at_two_to_the_end: bool
@@ -30,12 +30,12 @@ class Figures(NamedTuple):
 
 
 def log_of(kind: str) -> str:
-    """Returns where the writer of a kind notes that it runs."""
+    """Returns the path of the log in which the writer of a kind notes that it runs."""
     return f"/var/log/booth-test-{kind}.log"
 
 
 def moments(machine: Machine, kind: str) -> List[float]:
-    """Returns when the writer of a kind ran at a machine, in the order of its lines."""
+    """Returns the moments at which the writer of a kind ran at a machine, in the order of its lines."""
     # (the last line may be half written, and one at the loss of power too)
     found = []
     for line in machine.read(log_of(kind)).split("\n")[:-1]:
@@ -58,7 +58,7 @@ def runs(machine: Machine, kind: str) -> bool:
 
 
 def spells(times: List[float]) -> List[Spell]:
-    """Returns from when to when a writer ran."""
+    """Returns the periods in which a writer ran."""
     found: List[Spell] = []
     for each in times:
         if found and each - found[-1][1] < SECONDS_OF_A_GAP:
@@ -69,7 +69,7 @@ def spells(times: List[float]) -> List[Spell]:
 
 
 def joined(many: Iterable[Spell]) -> List[Spell]:
-    """Returns spells that cover the same moments, in order, no two of which meet."""
+    """Returns periods that cover the same moments, in order, no two of which overlap or touch."""
     found: List[Spell] = []
     for begin, end in sorted(many):
         if found and begin <= found[-1][1]:
@@ -80,30 +80,32 @@ def joined(many: Iterable[Spell]) -> List[Spell]:
 
 
 def common(one: List[Spell], other: List[Spell]) -> List[Spell]:
-    """Returns the spells that two have in common."""
+    """Returns the periods that are common to both."""
     both = [(max(a[0], b[0]), min(a[1], b[1])) for a in one for b in other]
     return joined(each for each in both if each[0] < each[1])
 
 
 def within(many: Iterable[Spell], begin: float, end: float) -> List[Spell]:
-    """Returns what of these spells is between two moments."""
+    """Returns the parts of these periods that lie between two moments."""
     return common(joined(many), [(begin, end)])
 
 
 def seconds(many: Iterable[Spell]) -> float:
-    """Returns how long these spells are together."""
+    """Returns the total length of these periods in seconds."""
     return sum(end - begin for begin, end in many)
 
 
 def longest_gap(many: List[Spell], begin: float, end: float) -> Spell:
-    """Returns the longest spell between two moments that these do not cover."""
+    """Returns the longest period between two moments that these do not cover."""
     edges = [begin, *(edge for each in within(many, begin, end) for edge in each), end]
     gaps = [(edges[at], edges[at + 1]) for at in range(0, len(edges), 2)]
     return max(gaps, key=lambda each: each[1] - each[0])
 
 
 def figures(sites: List[List[Machine]], begin: float, watched: float, end: float) -> Figures:
-    """Returns what ran between `begin` and `end`, and nowhere between `begin` and `watched`."""
+    """Returns the figures of the writers between `begin` and `end`; time without a service is counted from `begin` to
+    `watched`.
+    """
     ran = {
         (at, machine.name, kind): spells(moments(machine, kind))
         for at, site in enumerate(sites)
@@ -129,7 +131,7 @@ def figures(sites: List[List[Machine]], begin: float, watched: float, end: float
 
 
 def at_two_nodes(ran: Dict[Tuple[int, str, str], List[Spell]]) -> List[List[Spell]]:
-    """Returns when a writer ran at two nodes of one site."""
+    """Returns the periods in which a writer ran at two nodes of one site."""
     keys = sorted(ran)
     pairs = [
         (one, other) for one in keys for other in keys if one[1] < other[1] and (one[0], one[2]) == (other[0], other[2])

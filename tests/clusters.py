@@ -1,5 +1,5 @@
 #!/usr/bin/env python3
-"""Brings faults about on two real Pacemaker clusters and an arbitrator, and holds the service to one site.
+"""Causes faults in two real Pacemaker clusters and an arbitrator, and checks that the service runs at one site only.
 
 Run it as root, as `python3 tests/clusters.py [--package FILE] [--set-up NAME] [--phases N] [--gate] [--list] [--keep]
 [SCENARIO ..]`. It boots two sites of two nodes each and an arbitrator, sets them up from the package
@@ -67,7 +67,7 @@ def words(arguments: List[str]) -> argparse.Namespace:
 
 
 def package_of(options: argparse.Namespace) -> Optional[str]:
-    """Returns the package that is to be tried, or nothing if there is none."""
+    """Returns the package to test, or nothing if there is none."""
     if options.package:
         return str(options.package)
     built = sorted(glob.glob(f"{TOP}/out/booth-proved_*.deb"))
@@ -75,7 +75,7 @@ def package_of(options: argparse.Namespace) -> Optional[str]:
 
 
 class Outcome(NamedTuple):
-    """What came of a run of a scenario, and whether it went as it must."""
+    """The result of a run of a scenario, and whether it went as it must."""
 
     scenario: Scenario
     figures: Figures
@@ -83,9 +83,8 @@ class Outcome(NamedTuple):
 
 
 def run(world: World, set_up: SetUp, each: Scenario) -> Outcome:
-    """Runs a scenario, prints what came of it, and returns that.
-
-    It runs again if something failed before its fault came: then nothing of the fault was tried.
+    """Runs a scenario, prints the result, and returns it. If something failed before the fault was injected, the fault
+    was not tested: then the scenario runs again.
     """
     for tries_left in reversed(range(TRIES)):
         began = time.monotonic()
@@ -116,7 +115,7 @@ def run(world: World, set_up: SetUp, each: Scenario) -> Outcome:
 
 
 def show(world: World, each: Scenario, found: Figures, said: List[str], faults: List[str]) -> None:
-    """Prints what came of a run of a scenario."""
+    """Prints the result of a run of a scenario."""
     print(
         f"{'FAILED ' if faults else 'ok     '}{each.name} (phase {world.phase:.2f}): {spelled(found)}, "
         + ", ".join([f"watched for {world.watched - world.began:.0f} s", *said])
@@ -126,7 +125,7 @@ def show(world: World, each: Scenario, found: Figures, said: List[str], faults: 
 
 
 def tell(world: World, set_up: SetUp, each: Scenario) -> Tuple[List[str], Optional[str]]:
-    """Brings a fault about once, and returns what failed, and what the scenario says."""
+    """Injects a fault once, and returns what failed, and the scenario's text."""
     world.is_faulty = False
     world.began = world.watched = time.monotonic()
     try:
@@ -143,7 +142,7 @@ def nodes_of(world: World) -> List[List[Machine]]:
 
 
 def settled(world: World, set_up: SetUp) -> Site:
-    """Returns the site that runs the service once all is whole, after a boot of all machines if that is needed."""
+    """Returns the site that runs the service once everything runs. If needed, all machines are booted first."""
     try:
         world.boot(world.machines.values())
         return set_up.settle(world)
@@ -154,14 +153,14 @@ def settled(world: World, set_up: SetUp) -> Site:
 
 
 def spelled(found: Figures) -> str:
-    """Returns figures in words."""
+    """Returns figures as text."""
     said = f"{lasting(found.at_two, found.at_two_to_the_end)} at two sites, "
     said += f"{lasting(found.at_none, found.at_none_to_the_end)} at none"
     return said + (f", {found.at_two_nodes:.1f} s at two nodes of a site" if found.at_two_nodes > 0.2 else "")
 
 
 def lasting(seconds: float, is_to_the_end: bool) -> str:
-    """Returns a time in words, with a sign if it lasted as long as was watched."""
+    """Returns a time as text, with a sign if it lasted as long as the watch."""
     return f"{seconds:.1f} s{' ∞' if is_to_the_end else ''}"
 
 
@@ -178,7 +177,7 @@ def row(outcomes: List[Outcome]) -> str:
 
 
 def try_all(set_up: SetUp, chosen: List[Scenario], phases: int, keeps: bool) -> bool:
-    """Runs these scenarios on machines of their own, and returns whether all went as they must."""
+    """Runs these scenarios on their own machines, and returns whether all went as they must."""
     began = time.monotonic()
     rows, well, count = [], 0, len(chosen) * phases
     try:
@@ -199,7 +198,7 @@ def try_all(set_up: SetUp, chosen: List[Scenario], phases: int, keeps: bool) -> 
 
 @contextlib.contextmanager
 def set_up_world(set_up: SetUp, keeps: bool) -> Iterator[World]:
-    """Gives machines that are set up, on a second try if one of the first did not boot."""
+    """Yields machines that are set up. If one of the machines did not boot, it tries a second time."""
     for tries_left in (1, 0):
         folder = tempfile.mkdtemp(prefix="clusters-", dir=booted.FOLDER)
         try:
@@ -221,7 +220,7 @@ def set_up_world(set_up: SetUp, keeps: bool) -> Iterator[World]:
 
 
 def main(arguments: List[str]) -> int:
-    """Does what was asked for, and returns the status."""
+    """Does what the arguments ask for, and returns the status."""
     options = words(arguments)
     if options.list:
         for each in SCENARIOS.values():

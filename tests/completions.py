@@ -1,4 +1,4 @@
-"""What tests/installed.py holds the completion of packaging/booth.bash to, in a real bash.
+"""Checks the completion in packaging/booth.bash with a real bash, for tests/installed.py.
 
 It is imported by tests/installed.py, and not run by itself.
 """
@@ -70,7 +70,7 @@ def completion_offers(room):
         (("geostore", "set", "-"), ["-c", "-s", "-t", "--tcp", "--udp", "--help", "--version"]),
         (("geostore", "set", "-c", conf, "-t", "db8", ""), []),
         (("booth", "grant", "-c", f"{room}/none.conf", ""), []),
-        (("booth-follow", "-"), ["-c", "-s", "-d", "-e", "-m", "-k", "--help", "--version"]),
+        (("booth-follow", "-"), ["-c", "-s", "-d", "-m", "-k", "--help", "--version"]),
         (("booth-follow", "-c", conf, "-s", ""), ["192.0.2.10"]),
         (("booth-follow", "-c", conf, "-m", "5", "d"), ["db8"]),
         (("booth-follow", "-m", ""), []),
@@ -116,7 +116,7 @@ def completion_offers(room):
 
 
 def completion_joins_addresses(room):
-    """completion goes on behind the colons of an address, at which bash parts it"""
+    """completion continues behind the colons of an address, at which bash parts it"""
     if not shutil.which("bash") or not os.path.exists(BASH_COMPLETION):
         return "bash or bash-completion is not here"
     conf = f"{room}/v6.conf"

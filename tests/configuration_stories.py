@@ -17,7 +17,7 @@ FIRST, OLD = b"the-first-key", b"the-key-before"
 
 
 def read(folder, text):
-    """The configuration that this text says, or the refusal behind the file's name."""
+    """The configuration in this text, or the refusal without the file's name."""
     path = os.path.join(folder, "read.conf")
     with open(path, "wb") as file:
         file.write(text if isinstance(text, bytes) else text.encode("latin-1"))
@@ -35,7 +35,7 @@ def tickets_of(folder, text):
 
 @story
 def lines_and_quotes_are_read(folder):
-    """a line is read with its blanks, quotes and comment, as the page has them"""
+    """a line is read with its blanks, quotes and comment, as booth.conf(5) has them"""
     lines = ["ticket=db8", " ticket\t= db8 # a comment", 'ticket = "db8"# one', "ticket = 'db8'\r", "ticket = db8 #"]
     for line in [*lines, "# x\n\nticket=db8  "]:
         require_same(tickets_of(folder, line), [("db8", False, *TABLE)], f"{line!r}: ")
@@ -50,7 +50,7 @@ def lines_and_quotes_are_read(folder):
 
 @story
 def defaults_are_inherited(folder):
-    """a ticket has its own values, else those of __default__, else those of the page"""
+    """a ticket has its own values, otherwise those of __default__, otherwise those of booth.conf(5)"""
     defaults = "ticket = __default__\nexpire = 120\nretries = 5\nmode = manual\n"
     text = f"{defaults}ticket = one\nticket = two\nexpire = 60\nmode = auto\nrenewal-freq = 45\n"
     text += "acquire-after = 9\ntimeout = 2\nbefore-acquire-handler = /bin/true x\nweights = 1,2\nattr-prereq = 'auto a eq b'\n"
@@ -65,7 +65,7 @@ def defaults_are_inherited(folder):
 # which keys' values are looked at here: the others boothd alone judges
 @story
 def keys_are_a_ring(folder):
-    """the keys of a configuration are those of its files, with its hash, and without the first file there is none"""
+    """the ring has the keys of the configuration's files, with its hash; without the first file there is no ring"""
     paths = [os.path.join(folder, name) for name in ("first.key", "old.key")]
     for path, key in zip(paths, (FIRST, OLD)):
         with open(path, "wb") as file:
@@ -92,7 +92,7 @@ JUDGED += [b"expire", b"acquire-after", b"timeout", b"retries", b"renewal-freq"]
 
 @story
 def faults_are_told_with_their_lines(folder):
-    """what boothd refuses of the lines, keys and values that are looked at is refused with the same words"""
+    """if boothd refuses a line, key or value that this reader looks at, this reader refuses it with the same words"""
     file = refusals.FILE.replace(b"@", b"127.0.0.9")
     cases = [(file + line, "line 5: syntax") for line in refusals.SYNTAX]
     cases += [(file + line, "line 5: unknown key") for line in refusals.UNKNOWN]

@@ -1,5 +1,5 @@
 #!/usr/bin/env python3
-"""A crowd of peers over TCP that want nothing but the places of a daemon, for tests/links.py.
+"""A crowd of TCP peers that only occupy the places of a daemon, for tests/links.py.
 
 It is run as `python3 tests/crowds.py KIND ADDRESS COUNT` by the class `Crowd`, and goes on until it is ended. Each peer
 connects again as soon as the daemon has closed its connection. KIND is one of
@@ -39,21 +39,21 @@ AT_ONCE = struct.pack("ii", 1, 0)
 
 
 def frame_without_end() -> bytes:
-    """Returns a frame's head of the greatest length, and what follows it."""
+    """Returns the head of a frame with the greatest length, and the first bytes of its body."""
     head = bytearray(frames.request_now("CLst", 1, b"", None)[: frames.HEAD_BYTES])
     head[24:28] = frames.FRAME_BYTES.to_bytes(4, "big")
     return bytes(head).ljust(frames.FRAME_BYTES, b"\0")
 
 
 class Opener:
-    """Opens connections to one address, and closes them so that their ports are free at once."""
+    """Opens connections to one address, and closes them so that their ports are free immediately."""
 
     def __init__(self, address: str) -> None:
         self.address = address
         self.opened = 0
 
     def connect(self) -> Optional[socket.socket]:
-        """Returns a connection, or None if the daemon takes none."""
+        """Returns a connection, or None if the daemon accepts none."""
         peer = socket.socket(socket.AF_INET, socket.SOCK_STREAM)
         peer.settimeout(1)
         peer.setsockopt(socket.SOL_SOCKET, socket.SO_LINGER, AT_ONCE)
@@ -68,7 +68,7 @@ class Opener:
 
 
 class Senders:
-    """Connections that send a byte now and then, each opened anew when it was closed."""
+    """Connections that send a byte now and then. Each is opened again when it was closed."""
 
     def __init__(self, opener: Opener, count: int, pause: float, content: Callable[[], bytes], first: int = 1) -> None:
         self.opener, self.count, self.pause, self.content, self.first = opener, count, pause, content, first
@@ -95,13 +95,13 @@ class Senders:
         self.rest[peer] = rest[count:]
 
     def end(self, peer: socket.socket) -> None:
-        """Forgets a connection."""
+        """Removes a connection."""
         self.ready.unregister(peer)
         del self.rest[peer]
         peer.close()
 
     def hear(self, seconds: float) -> None:
-        """Opens those anew that are closed within this time."""
+        """Opens again those connections that are closed within this time."""
         for key, _ in self.ready.select(seconds):
             gone = True
             with contextlib.suppress(BlockingIOError, OSError):
@@ -115,7 +115,8 @@ class Senders:
                 return
 
     def turn(self, place: int) -> None:
-        """Sends a byte of each connection of this place of the wheel, and hears the others until the next one."""
+        """Sends a byte of each connection at this place of the wheel, and listens to the others until the next place.
+        """
         self.wheel[place] = [peer for peer in self.wheel[place] if peer in self.rest]
         for peer in self.wheel[place]:
             self.send(peer)
@@ -124,7 +125,7 @@ class Senders:
             self.hear(left)
 
     def run(self) -> Iterator[None]:
-        """Goes on for ever, and yields after each turn."""
+        """Continues forever, and yields after each turn."""
         while True:
             for place in range(len(self.wheel)):
                 self.turn(place)
@@ -132,7 +133,7 @@ class Senders:
 
 
 def silent(opener: Opener, count: int) -> Iterator[None]:
-    """Opens connections as fast as that goes, of which the last so many stay."""
+    """Opens connections as fast as possible, and keeps the last ones open, up to this many."""
     kept: List[socket.socket] = []
     while True:
         peer = opener.connect()
@@ -144,7 +145,7 @@ def silent(opener: Opener, count: int) -> Iterator[None]:
 
 
 def brief(opener: Opener) -> Iterator[None]:
-    """Opens connections as fast as that goes, and closes each."""
+    """Opens connections as fast as possible, and closes each."""
     while True:
         peer = opener.connect()
         if peer is not None:
@@ -165,7 +166,7 @@ def turns_of(kind: str, opener: Opener, count: int) -> Iterator[None]:
 
 
 class Crowd:
-    """A crowd in a process of its own, in a `with` block, from the moment on at which all are there."""
+    """A crowd in its own process, in a `with` block, which begins when all connections are open."""
 
     def __init__(self, kind: str, address: str, count: int) -> None:
         self.words = [sys.executable, os.path.abspath(__file__), kind, address, str(count)]

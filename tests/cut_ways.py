@@ -1,4 +1,4 @@
-"""Cuts a way between two running daemons: what one of them sends the other does not get, and nobody is told.
+"""Cuts the network path between two running daemons in one direction, without an error at either of them.
 
 It is imported by tests/cluster_looks.py, and not run by itself. It takes a second handle of the daemon's socket, as its
 parent may on Linux 5.6 and later, and has the kernel drop what has the other's id as `from`.
@@ -22,7 +22,7 @@ LOAD_WORD, JUMP_IF_EQUAL, RETURN = 0x20, 0x15, 0x06
 
 
 class CannotCut(Exception):
-    """This system does not let its parent have a daemon's socket."""
+    """This system does not let a parent process get its daemon's socket."""
 
 
 def sockets_of(process):
@@ -32,7 +32,7 @@ def sockets_of(process):
 
 
 def socket_of(process):
-    """A second handle of the one UDP socket of the process."""
+    """A second handle of the process's only UDP socket."""
     call = ctypes.CDLL(None, use_errno=True).syscall
     handle = call(PIDFD_OPEN, process.pid, 0)
     for number in sockets_of(process) if handle >= 0 else ():
@@ -50,7 +50,7 @@ def socket_of(process):
 
 @contextlib.contextmanager
 def cut(hearer, *senders):
-    """In this block the member gets nothing that the others send."""
+    """In this block the member receives nothing from the others."""
     numbers = [frames.member_id(sender.address) for sender in senders]
     steps = [(LOAD_WORD, 0, 0, FROM_AT)]
     steps += [(JUMP_IF_EQUAL, len(numbers) - place, 0, number) for place, number in enumerate(numbers)]

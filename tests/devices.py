@@ -1,8 +1,8 @@
 #!/usr/bin/env python3
-"""Steps the wall clock of daemons that run, has neighbours fall silent, and puts other things in the place of files.
+"""Steps the wall clock of running daemons, silences their neighbours, and replaces their files by other things.
 
 Run it as `python3 tests/devices.py [BOOTHD [TRIALS]]`, by default what `make build` and the gate leave. It takes 40
-seconds at most, prints a line for each check, ends all that it started, and has the status 1 where a check failed. What
+seconds at most, prints a line for each check, ends all that it started, and has the status 1 if a check failed. What
 this machine does not let it do, or has no program for, is left out with a line.
 
 The wall clock is stepped for the daemons alone, by a function that stands before the C library's; the machine's stays.
@@ -84,11 +84,11 @@ int statx(int folder, const char *restrict path, int flags, unsigned mask, struc
 
 
 class Wrong(Exception):
-    """The host did not what it has to."""
+    """The host did not do what it must."""
 
 
 class LeftOut(Exception):
-    """This machine does not let a check do what it wants to."""
+    """This machine does not allow what a check needs."""
 
 
 def require(holds, why):
@@ -97,7 +97,7 @@ def require(holds, why):
 
 
 def run_keeps(keeps, directory, count=0):
-    """The status of a run, what it printed and what it said."""
+    """The status of a run, its standard output and its standard error."""
     if keeps is None:
         raise LeftOut("trials is not built")
     how = {"stdin": subprocess.DEVNULL, "capture_output": True, "text": True, "timeout": SECONDS_OF_A_RUN}
@@ -106,7 +106,7 @@ def run_keeps(keeps, directory, count=0):
 
 
 def what_is_no_regular_file_is_refused(folder, keeps, **_):
-    """In a record's place and in the clock's; and a pipe that nobody writes to holds up nothing."""
+    """In the place of a record and of the clock file. A pipe that nobody writes to delays nothing."""
     directory, away = os.path.join(folder, "kinds"), os.path.join(folder, "away")
     require(run_keeps(keeps, directory, 1)[0] == 0, "a run in a new directory")
     makers = {"pipe": os.mkfifo, "directory": os.mkdir, "link": lambda path: os.symlink(away, path)}
@@ -129,7 +129,7 @@ def number_at(clock, at):
 
 
 def a_boot_takes_the_wall_clock_anew(folder, keeps, **_):
-    """By a clock file of another boot, where the wall clock is not behind what was reached."""
+    """If the clock file is of another boot, and the wall clock is not behind the time that was reached."""
     directory = os.path.join(folder, "boots")
     path = os.path.join(directory, CLOCK)
     require(run_keeps(keeps, directory)[0] == 0, "a run in a new directory")
@@ -162,7 +162,7 @@ def a_boot_takes_the_wall_clock_anew(folder, keeps, **_):
 
 
 def built_library(folder, name, text):
-    """A library of this source, whose functions stand before the C library's where LD_PRELOAD names it."""
+    """A library of this source, whose functions replace those of the C library if LD_PRELOAD names it."""
     if shutil.which("cc") is None:
         raise LeftOut("there is no cc")
     source, library = (os.path.join(folder, f"{name}.{kind}") for kind in ("c", "so"))
@@ -173,7 +173,8 @@ def built_library(folder, name, text):
 
 
 def a_pipe_in_the_place_of_a_lock_holds_up_nobody(folder, boothd, **_):
-    """Where it takes the lock's place between a look at the lock and its opening. (As root a status hung for ever.)"""
+    """If a pipe takes the lock's place between the look at the lock and its opening. (As root a status hung forever.)
+    """
     if boothd is None:
         raise LeftOut("boothd is not built")
     lock, pipe = os.path.join(folder, "lock"), os.path.join(folder, "pipe")
@@ -208,18 +209,20 @@ def wall_clock(folder):
 
 
 def said_of(member, words):
-    """The lines of a member with these words."""
+    """The lines of a member that have these words."""
     return [line for line in member.printed().decode().splitlines() if words in line]
 
 
 def is_told(line, seconds):
-    """Whether a line tells of this step, but for roundings."""
+    """Whether a line reports this step, except for rounding."""
     amount = re.search(r"is (\d+) ms", line)
     return abs(int(amount.group(1)) - 1000 * abs(seconds)) <= 2 if amount else seconds == 0
 
 
 def steps_of_the_wall_clock_do_not_touch_a_lease(folder, boothd, **_):
-    """At the holder, back and forth; its daemon renews on, tells of each step once, and nobody else holds."""
+    """The holder's clock steps back and forth; its daemon continues to renew and reports each step once, and no other
+    site holds.
+    """
     if boothd is None:
         raise LeftOut("boothd is not built")
     with wall_clock(folder) as step, Cluster(boothd, folder, own_addresses(), times=TIMES) as cluster:
@@ -260,7 +263,7 @@ def ip(*words):
 
 
 def file_of_silent_members(folder):
-    """A file of a site, a live arbitrator, and silent members, with many tickets that nobody can be granted."""
+    """A file with a site, a live arbitrator, and silent members, with many tickets that nobody can be granted."""
     lines = [f'site = "{NET}.1"', f'arbitrator = "{NET}.2"', *(f'site = "{NET}.{last}"' for last in SILENT)]
     for number in range(TICKETS):
         lines += [f'ticket = "t{number}"', *TIMES.text().splitlines()]
@@ -272,7 +275,7 @@ def file_of_silent_members(folder):
 
 @contextlib.contextmanager
 def live_member(boothd, folder, path):
-    """The arbitrator, in a network of its own, with a cable to this one."""
+    """The arbitrator, in its own network, with a cable to this one."""
     places = ["-l", f"{folder}/live.lock", "-d", f"{folder}/live"]
     words = [boothd, "daemon", "-c", path, "-s", f"{NET}.2", *places]
     # (it waits for its end of the cable)
@@ -294,7 +297,7 @@ def live_member(boothd, folder, path):
 
 
 def within_a_network(boothd, folder):
-    """What `silent_neighbours_cost_a_live_one_nothing` does, in a network that has nothing yet."""
+    """Does the work of `silent_neighbours_cost_a_live_one_nothing`, in a network that is empty so far."""
     ip("link", "set", "lo", "up")
     path = file_of_silent_members(folder)
     tickets = [b"t%d" % number for number in range(TICKETS)]
@@ -323,7 +326,7 @@ def within_a_network(boothd, folder):
 
 
 def silent_neighbours_cost_a_live_one_nothing(folder, boothd, **_):
-    """On a network whose other addresses do not answer, with a live member among them."""
+    """On a network with one live member, whose other addresses do not answer."""
     if boothd is None:
         raise LeftOut("boothd is not built")
     words = ["unshare", "-n", sys.executable, os.path.abspath(__file__), WITHIN, boothd, folder]
@@ -335,7 +338,7 @@ def silent_neighbours_cost_a_live_one_nothing(folder, boothd, **_):
 
 
 def run_within(boothd, folder):
-    """The status of a run in a network of its own."""
+    """The status of a run in its own network."""
     try:
         print(within_a_network(boothd, folder))
         return 0

@@ -1,4 +1,4 @@
-"""What documents say of files and titles, held to the tree. It is imported by tests/names.py, and not run by itself.
+"""Checks files and titles in documents against the tree. It is imported by tests/names.py, and not run by itself.
 
 The index of decisions names each section of docs/decisions/ and no other. A table of docs/HEADLINE.md says how many
 lines a file has, and how many of them are definitions: those that are neither empty nor a comment nor an import. A row
@@ -31,7 +31,7 @@ def anchor(title: str) -> str:
 
 
 def decisions(top: str) -> list[str]:
-    """What is wrong with the index of decisions, and with their titles."""
+    """The faults of the index of decisions, and of their titles."""
     wrong, there, titles = [], set(), set()
     for path in sorted(glob.glob(f"{top}/docs/decisions/*.md")):
         text, name = read(path), os.path.basename(path)[: -len(".md")]
@@ -47,7 +47,7 @@ def decisions(top: str) -> list[str]:
 
 
 def counts(top: str) -> list[str]:
-    """The files of which docs/HEADLINE.md has another number of lines or of definitions."""
+    """The files for which docs/HEADLINE.md has a wrong number of lines or of definitions."""
     wrong = []
     rows = COUNTED.findall(read(f"{top}/docs/HEADLINE.md"))
     for name, lines, definitions in rows:
@@ -63,7 +63,7 @@ def counts(top: str) -> list[str]:
 
 
 def definitions(top: str) -> list[str]:
-    """The words of docs/DEFINITIONS.md that do not stand in the files of their row."""
+    """The words of docs/DEFINITIONS.md that the files of their row do not have."""
     wrong, crate, rows = [], "", 0
     for line in read(f"{top}/docs/DEFINITIONS.md").splitlines():
         if line.startswith("## "):

@@ -35,13 +35,13 @@ OWN_SECTION = re.compile(r"\(\"([A-Z`][^\"]+)\"\)")
 
 
 def read(path: str) -> str:
-    """Returns the text of a file of the tree, and nothing if it is no text."""
+    """Returns the text of a file of the tree, or an empty text if it is not a text."""
     with open(f"{TOP}/{path}", "rb") as file:
         return file.read().decode("utf-8", errors="replace")
 
 
 def files() -> List[str]:
-    """Returns the path of each file of the tree, from its top."""
+    """Returns the path of each file of the tree, relative to its top."""
     found = []
     for folder, folders, names in os.walk(TOP):
         folders[:] = FOLDERS if folder == TOP else sorted(set(folders) - SKIPPED_FOLDERS)
@@ -50,21 +50,20 @@ def files() -> List[str]:
 
 
 def endings(paths: List[str]) -> Set[str]:
-    """Returns each ending of each path that begins at a part of it."""
+    """Returns each ending of each path that begins at a part of the path."""
     parts = (path.split("/") for path in paths)
     return {"/".join(each[at:]) for each in parts for at in range(len(each))}
 
 
 def prose(text: str) -> str:
-    """Returns a document without its blocks of commands, with each run of blanks as one blank."""
+    """Returns a document without its blocks of commands, and with each run of blanks as one blank."""
     lines = (line for line in text.splitlines() if not line.startswith("    "))
     return re.sub(r"\s+", " ", "\n".join(lines))
 
 
 def sections(path: str) -> Set[str]:
-    """Returns the headings of a document below its title.
-
-    Documents other than OPERATING.md may also name a place by words in bold, or by a word that begins a paragraph.
+    """Returns the headings of a document below its title. Outside OPERATING.md, a text may also name a place by words
+    in bold, or by a word that begins a paragraph.
     """
     text = read(path)
     found = set(re.findall(r"^##+ (?:\d+\. )?(.+)$", text, re.M))
@@ -74,7 +73,7 @@ def sections(path: str) -> Set[str]:
 
 
 def find_document(name: str, near: str, paths: Set[str]) -> str:
-    """Returns the path of the document that a text in the folder `near` names, and nothing if there is none."""
+    """Returns the path of the document that a text in the folder `near` names, or nothing if there is none."""
     for folder in (near, "docs", "crates", ""):
         path = os.path.normpath(os.path.join(folder, name))
         if path in paths:
@@ -92,7 +91,7 @@ class Tree:
         self.sections: Dict[str, Set[str]] = {path: sections(path) for path in self.documents}
 
     def link_faults(self, path: str) -> Iterator[str]:
-        """Yields the links of a document that lead nowhere."""
+        """Yields the links of a document whose target does not exist."""
         folder = os.path.dirname(path)
         for target in LINK.findall(read(path)):
             place = target.partition("#")[0]
@@ -100,7 +99,7 @@ class Tree:
                 yield f"{path}: the link {target} leads nowhere"
 
     def name_faults(self, path: str) -> Iterator[str]:
-        """Yields the files that a document or a manual page names and that are not there."""
+        """Yields the files that a document or a manual page names and that do not exist."""
         folder = os.path.dirname(path)
         for name in (NAMED_FILE if path.endswith(".md") else DOCUMENT_IN_PAGE).findall(read(path)):
             is_there = name in self.endings or os.path.normpath(os.path.join(folder, name)) in self.known
@@ -125,13 +124,13 @@ class Tree:
                 yield f"{path}: {page} has no section {section}"
 
     def own_faults(self, path: str) -> Iterator[str]:
-        """Yields the sections that a document names of itself and lacks."""
+        """Yields the sections that a document names in itself and lacks."""
         for section in OWN_SECTION.findall(prose(read(path))):
             if section not in self.sections[path]:
                 yield f"{path} has no section {section} of its own"
 
     def faults(self) -> Iterator[str]:
-        """Yields each fault of the documents, and each of a section that another text names."""
+        """Yields each fault of the documents, and each missing section that another text names."""
         for path in self.documents:
             yield from self.link_faults(path)
             yield from self.name_faults(path)

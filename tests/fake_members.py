@@ -1,4 +1,4 @@
-"""Members that are none: each answers for lists and peers what a test arranged, at an address of its own.
+"""Fake members: each answers requests for lists and peers as a test arranged, at its own address.
 
 It is imported by the stories of tests/status.py, and not run by itself. docs/PROTOCOL.md has what a member answers.
 """
@@ -11,9 +11,9 @@ import frames
 
 
 class FakeMember:
-    """Answers in a `with` block. `held` and `peers` are the lines of its two answers, or None where it gives none.
-
-    `ahead` is how far its clock is ahead of this machine's, in seconds. `meddle` makes of a right answer what is sent.
+    """Answers in a `with` block. `held` and `peers` are the lines of its two answers; with None it does not answer.
+    `ahead` is how far its clock is ahead of this machine's, in seconds. `meddle` changes a right answer into the one
+    that is sent.
     """
 
     def __init__(self, address, port, held, peers, key=None, ahead=0.0, meddle=lambda answer: [answer]):
@@ -48,7 +48,7 @@ class FakeMember:
                 self.socket.sendto(answer, asker)
 
     def answers(self, request):
-        """What is sent to who asks this."""
+        """The datagrams that are sent to the client that asks this."""
         head = frames.Head.read(request)
         letters = next(each for each in self.texts if frames.code(each) == head.cmd)
         # (a member takes what a client says only as the page has it)

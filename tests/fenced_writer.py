@@ -1,11 +1,11 @@
 #!/usr/bin/env python3
 """The service of a site for tests/fencing.py: it writes to stores all the time, with and without the term of its lease.
 
-Run it as `python3 tests/fenced_writer.py ADDRESS TICKET ANSWERS TARGET ..` with the variables that booth-follow sets. It
-ends with status 1 if they have no term. Otherwise it writes to each target ten times a second, and appends to the file
-ANSWERS a line for each write: the target, the write's number, and `ok` with the store's own number for it or `refused`
-with the reason. A target is `store:URL` or `sql:OPTIONS TABLE`, where OPTIONS are those of psql; a `!` before it leaves
-the term out.
+Run it as `python3 tests/fenced_writer.py ADDRESS TICKET ANSWERS TARGET ..` with the variables that booth-follow
+sets. It ends with status 1 if they have no term. Otherwise it writes to each target ten times a second, and appends
+to the file ANSWERS a line for each write: the target, the write's number, and `ok` with the store's own number for
+it or `refused` with the reason. A target is `store:URL` or `sql:OPTIONS TABLE`, where OPTIONS are those of psql; a
+`!` before it leaves the term out.
 """
 
 import os
@@ -57,14 +57,14 @@ def insert(options: str, lease: Lease, shown: bool, count: int) -> str:
 
 
 def write(target: str, lease: Lease, count: int) -> str:
-    """Writes once to a target, and returns the line of it."""
+    """Writes once to a target, and returns the line about this write."""
     kind, _, place = target.lstrip("!").partition(":")
     answer = {"store": put, "sql": insert}[kind](place, lease, not target.startswith("!"), count)
     return f"{target.partition(':')[0]} {count} {answer}\n"
 
 
 def main(address: str, ticket: str, answers: str, *targets: str) -> int:
-    """Writes until it is ended."""
+    """Writes until the process is ended."""
     lease = Lease(address, ticket, int(os.environ.get("BOOTH_TICKET_TERM", "0")))
     if lease.term == 0:
         print("fenced_writer.py: BOOTH_TICKET_TERM is 0", file=sys.stderr)

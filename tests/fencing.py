@@ -1,9 +1,9 @@
 #!/usr/bin/env python3
 """Holds the fences in examples/ to docs/HANDLERS.md: what a paused holder writes late is refused by its lease's term.
 
-Run it as `python3 tests/fencing.py [BOOTHD BOOTH BOOTH-FOLLOW]`, which are what `make build` leaves where they are left
-out. It takes a minute, prints a line for each check, ends all that it started, and has the status 1 if a check failed.
-If a program is not built it checks no cluster; if PostgreSQL is missing, only the store in examples/; it says so.
+Run it as `python3 tests/fencing.py [BOOTHD BOOTH BOOTH-FOLLOW]`, by default those that `make build` leaves. It
+takes a minute, prints a line for each check, ends all that it started, and has the status 1 if a check failed. If a
+program is not built it checks no cluster; if PostgreSQL is missing, only the store in examples/; it says so.
 
 The last story has two sites, whose services write to each store twice: once with the term of the lease, and once
 without it. The holder's daemon, follower and service are stopped by SIGSTOP until the other site has taken over. Then
@@ -51,7 +51,7 @@ SHOWN = [
 
 
 def store_refuses(folder: str) -> None:
-    """the store takes a term that is no smaller than each earlier one of the ticket, also after a restart"""
+    """the store accepts a term that is no smaller than each earlier one of the ticket, also after a restart"""
     with Store(folder) as store:
         for ticket, term, status in SHOWN:
             answer = store.ask("PUT", "register", f"{ticket} {term}", ticket=ticket, term=term)
@@ -66,7 +66,7 @@ def store_refuses(folder: str) -> None:
 
 
 def postgres_refuses(server: Postgres) -> None:
-    """PostgreSQL takes a term that is no smaller than each earlier one of the ticket, for every kind of write"""
+    """PostgreSQL accepts a term that is no smaller than each earlier one of the ticket, for every kind of write"""
     insert = "INSERT INTO fenced (site, count) VALUES ('one', {})"
     for count, (term, is_taken) in enumerate([("3", True), ("3", True), ("5", True), ("4", False), ("5", True)]):
         status, printed = server.run("-c", insert.format(count), ticket="db8", term=term)
@@ -89,7 +89,7 @@ def postgres_refuses(server: Postgres) -> None:
 
 
 class Line(NamedTuple):
-    """A write of a service: its number, whether the store took it, and the store's number for it or the reason."""
+    """A write of a service: its number, whether the store accepted it, and the store's number for it or the reason."""
 
     count: int
     is_taken: bool
@@ -115,7 +115,7 @@ class Scene:
         return [Line(int(count), word == "ok", text) for kind, count, word, text in rows if kind == target]
 
     def await_writes(self, member: Member, targets: List[str], more: int = 1) -> None:
-        """Waits until a site's service has had so many more answers from each target."""
+        """Waits until a site's service has had this many more answers from each target."""
         before = {target: len(self.lines(member, target)) for target in targets}
         has_more = lambda: all(len(self.lines(member, target)) >= before[target] + more for target in targets)
         need(wait_for(has_more, PATIENCE), f"the service of {member.address} does not write: {self.services.said()}")
@@ -129,7 +129,8 @@ class Scene:
 
 
 def pauses(scene: Scene, targets: List[str]) -> float:
-    """Pauses the holder until the other site writes, lets its service go on, and returns when the other one began."""
+    """Pauses the holder until the other site writes, lets its service continue, and returns when the other one began.
+    """
     one, two = scene.one, scene.two
     service = scene.services.process(one)
     need(service is not None, "the holder's service does not run")
@@ -148,7 +149,7 @@ def pauses(scene: Scene, targets: List[str]) -> float:
 
 
 def order_in(scene: Scene, target: str) -> List[str]:
-    """Returns the site of each write that a target took, in the order in which it took them."""
+    """Returns the site of each write that a target accepted, in the order in which it accepted them."""
     taken = [
         (int(line.text), member.address)
         for member in (scene.one, scene.two)
@@ -159,7 +160,8 @@ def order_in(scene: Scene, target: str) -> List[str]:
 
 
 def is_kept(scene: Scene, store: Store, server: Optional[Postgres]) -> None:
-    """Sees that the stores have what the new holder was told is written, and nothing of the old one behind it."""
+    """Checks that the stores have every write that the new holder had confirmed, and no later write of the old holder.
+    """
     two = scene.two.address
     last = store.ask("GET", "fenced").text
     need(last.startswith(f"{two} "), f"the store has {last!r}")
@@ -174,7 +176,7 @@ def is_kept(scene: Scene, store: Store, server: Optional[Postgres]) -> None:
 
 
 def judge(scene: Scene, target: str) -> None:
-    """Holds a target to its promise: with the term no write of the old holder comes behind one of the new one."""
+    """Checks a target's promise: with the term, no write of the old holder comes after a write of the new one."""
     one, two = scene.one.address, scene.two.address
     order = order_in(scene, target)
     need(one in order and two in order, f"{target}: only these wrote: {set(order)}")
@@ -207,7 +209,7 @@ def scene_of(programs: List[str], folder: str, targets: Dict[str, str]) -> Itera
 
 
 def paused_holder(programs: List[str], folder: str, store: Store, server: Optional[Postgres]) -> None:
-    """a holder that is paused beyond its lease and then let go loses what it writes late, and the new one nothing"""
+    """if a paused holder continues after its lease, its late writes are refused, and the new holder loses none"""
     targets = {"store": f"store:{store.url('fenced')}", "!store": f"!store:{store.url('plain')}"}
     if server is not None:
         targets["sql"] = f"sql:{server.options()} fenced"
@@ -260,7 +262,7 @@ def run(programs: Optional[List[str]], folder: str) -> int:
 
 
 def main(words: List[str]) -> int:
-    """Runs the checks with these programs, or those that were built."""
+    """Runs the checks with these programs, or with those that were built."""
     end_by_signals()
     built = words if len(words) == 3 else [built_program(name) for name in ("boothd", "booth", "booth-follow")]
     programs = None if None in built else [os.path.abspath(program) for program in built]

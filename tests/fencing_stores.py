@@ -29,14 +29,14 @@ SETTINGS = "listen_addresses = ''\nfsync = off\nshared_buffers = 16MB\nunix_sock
 
 
 class Answer(NamedTuple):
-    """What the store answered: the status of HTTP, and the text."""
+    """The store's answer: the HTTP status, and the text."""
 
     status: int
     text: str
 
 
 class Store:
-    """The store in examples/ as a process of its own, in a `with` block."""
+    """The store in examples/, run in its own process in a `with` block."""
 
     def __init__(self, folder: str, *options: str) -> None:
         self.folder = folder
@@ -56,11 +56,11 @@ class Store:
         self.process.wait()
 
     def url(self, name: str) -> str:
-        """Returns the place of an object."""
+        """Returns the URL of an object."""
         return f"http://127.0.0.1:{self.port}/{name}"
 
     def ask(self, method: str, name: str, body: Optional[str] = None, **shown: str) -> Answer:
-        """Makes a request. `shown` are the ticket and the term."""
+        """Makes a request. `shown` has the ticket and the term that the request shows."""
         link = http.client.HTTPConnection("127.0.0.1", self.port, timeout=10)
         try:
             headers = {f"Booth-{word.title()}": text for word, text in shown.items()}
@@ -72,7 +72,7 @@ class Store:
 
 
 class Postgres:
-    """A server with the fence and two tables, in a `with` block, at a socket in its folder."""
+    """A server with the fence and two tables, in a `with` block. Its socket is in its folder."""
 
     def __init__(self, folder: str) -> None:
         self.folder = folder
@@ -82,12 +82,12 @@ class Postgres:
         self.is_root = os.geteuid() == 0
 
     def as_owner(self, *words: str) -> List[str]:
-        """Returns the command by which the server's owner runs this."""
+        """Returns the command that runs this as the server's owner."""
         become = ["setpriv", "--reuid", OWNER, "--regid", OWNER, "--init-groups"] if self.is_root else []
         return [*become, *words]
 
     def must(self, *words: str) -> None:
-        """Runs a program of PostgreSQL, which must succeed."""
+        """Runs a program of PostgreSQL that must succeed."""
         command = self.as_owner(f"{self.bin}/{words[0]}", *words[1:])
         streams = {"stdin": subprocess.DEVNULL, "stdout": subprocess.DEVNULL, "stderr": subprocess.PIPE}
         done = subprocess.run(command, cwd=self.folder, timeout=SECONDS_OF_A_COMMAND, check=False, **streams)
@@ -114,11 +114,11 @@ class Postgres:
         self.must("pg_ctl", "-D", self.data, "-m", "immediate", "-w", "stop")
 
     def options(self) -> str:
-        """Returns the options with which psql reaches it."""
+        """Returns the options with which psql reaches the server."""
         return f"-h {self.folder} -U fencing -d postgres"
 
     def run(self, *words: str, **shown: str) -> Tuple[int, str]:
-        """Runs psql with what its session shows, and returns its status and what it printed."""
+        """Runs psql with the term and ticket that its session shows, and returns its status and output."""
         settings = " ".join(f"-c booth.{name}={text}" for name, text in shown.items())
         env: Dict[str, str] = {**os.environ, "PGOPTIONS": settings}
         settings_of_psql = ["-v", "ON_ERROR_STOP=1", "-v", "VERBOSITY=terse"]

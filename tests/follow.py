@@ -1,9 +1,9 @@
 #!/usr/bin/env python3
 """Holds services that follow their ticket on three real boothd to it: started if it is held, stopped before it ends.
 
-Run it as `python3 tests/follow.py [BOOTHD BOOTH BOOTH-FOLLOW]`, which are what `make build` leaves where they are left
-out. It takes less than a minute, prints a line for each check, ends all that it started, and has the status 1 if a
-check failed. If a program is not built it checks nothing, with status 0.
+Run it as `python3 tests/follow.py [BOOTHD BOOTH BOOTH-FOLLOW]`, by default those that `make build` leaves. It takes
+less than a minute, prints a line for each check, ends all that it started, and has the status 1 if a check failed.
+If a program is not built it checks nothing, with status 0.
 
 The services of both sites write a line with its time into one file, ten times a second, and no two sites' lines may
 overlap.

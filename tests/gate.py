@@ -1,7 +1,7 @@
-"""What docs/PROTOCOL.md says of a datagram at a member: dropped for its first fault, or let in.
+"""Computes what a member does with a datagram according to docs/PROTOCOL.md: its first fault, or that it is accepted.
 
 It is imported by the programs in tests/, and not run by itself. It shares nothing with crates/, and
-stands beside the tables written by hand: for datagrams that nobody has read.
+stands beside the tables written manually: for datagrams that nobody has read.
 """
 
 import re
@@ -52,7 +52,7 @@ class Parts(NamedTuple):
 
 
 def split(datagram):
-    """The parts of a frame, or None where the datagram is none."""
+    """The parts of a frame, or None if the datagram is not a frame."""
     if not HEAD_BYTES <= len(datagram) <= frames.FRAME_BYTES:
         return None
     head = Head.read(datagram)
@@ -85,10 +85,7 @@ def has_form(letters, body):
 
 
 def verdict(station, datagram, seconds):
-    """The number of the datagram's first fault, or its parts where it is let in.
-
-    `seconds` is the daemon's clock.
-    """
+    """The number of the datagram's first fault, or its parts if it is accepted. `seconds` is the daemon's clock."""
     parts = split(datagram)
     if parts is None:
         return FRAME

@@ -1,4 +1,4 @@
-"""Checks of what the real host says: lines on standard error, and what the service manager is told."""
+"""Checks the lines that the real host prints on standard error, and its reports to the service manager."""
 
 import contextlib
 import os
@@ -19,13 +19,13 @@ UNRUN = f"cannot run the handler of ticket ticket-db8: {NO_FILE}\n"
 
 
 def surroundings(**variables: str) -> Dict[str, str]:
-    """Returns the environment with these variables of systemd's alone."""
+    """Returns the environment with only these variables of systemd."""
     others = {name: value for name, value in os.environ.items() if name not in OF_SYSTEMD}
     return {**others, **variables}
 
 
 def said(folder: str, journal: str) -> str:
-    """Returns what a host says of a program that is missing and of some texts. `{}` stands for its standard error."""
+    """Returns the host's lines about a missing program and about some texts. `{}` stands for its standard error."""
     path = f"{folder}/said"
     with open(path, "wb") as errors:
         own = os.fstat(errors.fileno())
@@ -40,7 +40,7 @@ def said(folder: str, journal: str) -> str:
 
 
 def a_line_begins_with_the_programs_name(folder: str) -> None:
-    """If the journal does not read it: no variable, or one that names another file, or none."""
+    """If the journal does not read the line: the variable is missing, or names another file."""
     wanted = f"boothd: {UNRUN}{''.join(TEXTS)}"
     for journal in ("", "1:2", "{}0", "{}:", "{}:1", ":", "no journal", "x" * 500):
         got = said(folder, journal)
@@ -48,14 +48,14 @@ def a_line_begins_with_the_programs_name(folder: str) -> None:
 
 
 def a_line_for_the_journal_begins_with_its_priority(folder: str) -> None:
-    """Each line of a text has it, and none has the program's name."""
+    """Each line of a text has the priority, and no line has the program's name."""
     got = said(folder, "{}")
     lines = "<3>bad site\n<3>error: one\n<3>usage: two\n<3>ends without a line feed\n"
     require(got == f"<3>{UNRUN}{lines}", repr(got))
 
 
 def a_long_line_is_cut_for_the_journal_alone(folder: str) -> None:
-    """At 1,024 bytes with its end."""
+    """It is cut at 1,024 bytes, including its line end."""
     path, text = f"{folder}/said", "x" * 120
     for is_journal in (False, True):
         with open(path, "wb") as errors:
@@ -77,11 +77,11 @@ class Manager:
         self.socket.settimeout(5)
 
     def told(self) -> str:
-        """Returns what it is told next, in five seconds."""
+        """Returns the next notification, which must arrive within five seconds."""
         return self.socket.recv(4096).decode()
 
     def all_told(self) -> List[str]:
-        """Returns what it was told, and did not take yet."""
+        """Returns the notifications that arrived and were not read yet."""
         told = []
         self.socket.settimeout(0)
         with contextlib.suppress(BlockingIOError):
@@ -93,14 +93,14 @@ class Manager:
 
 @contextlib.contextmanager
 def manager(name: str) -> Iterator[Manager]:
-    """Gives a service manager whose socket has this name. One that begins with a zero is abstract."""
+    """Yields a service manager whose socket has this name. If the name begins with a zero byte, it is abstract."""
     made = Manager(name)
     with made.socket:
         yield made
 
 
 def the_service_manager_is_told(folder: str) -> None:
-    """By a socket that is a file, and by one that has an abstract name; also of the longest path."""
+    """By a socket that is a file, and by a socket with an abstract name; also with the longest path."""
     long = f"{folder}/{'m' * (107 - len(folder) - 1)}"
     for name, variable in ((f"{folder}/m", f"{folder}/m"), (long, long), (f"\0{folder}", f"@{folder}")):
         with manager(name) as systemd, Host(folder, surroundings(NOTIFY_SOCKET=variable)) as host:
@@ -111,7 +111,7 @@ def the_service_manager_is_told(folder: str) -> None:
 
 
 def nobody_is_told_without_a_socket(folder: str) -> None:
-    """And nothing is said of that."""
+    """And no line reports that."""
     path = f"{folder}/said"
     with open(path, "wb") as errors, Host(folder, surroundings(), errors) as host:
         host.notify("READY=1")
@@ -120,7 +120,7 @@ def nobody_is_told_without_a_socket(folder: str) -> None:
 
 
 def turns_are_told_once_a_second(folder: str) -> None:
-    """Or twice in the time that the environment says, if that is more often."""
+    """Or twice within the time that the environment has, if that is more often."""
     for usec, often in (("", 1), ("60000000", 1), ("400000", 0.2)):
         with manager(f"{folder}/{usec}m") as systemd:
             names = {"NOTIFY_SOCKET": f"{folder}/{usec}m", **({"WATCHDOG_USEC": usec} if usec else {})}
@@ -134,7 +134,8 @@ def turns_are_told_once_a_second(folder: str) -> None:
 
 
 def a_service_manager_that_cannot_be_told_is_said_once(folder: str) -> None:
-    """One that is gone, one of another kind, and one that takes no more. Nobody waits for it."""
+    """A manager that ended, a socket of another kind, and a manager that reads nothing. The host never waits for them.
+    """
     rows = (
         (f"{folder}/gone", NO_FILE),
         ("vsock:2:1", "NOTIFY_SOCKET names no socket"),
@@ -153,7 +154,7 @@ def a_service_manager_that_cannot_be_told_is_said_once(folder: str) -> None:
 
 
 def a_program_has_no_socket_of_the_host(folder: str) -> None:
-    """A program of a handler has its three standard streams alone, also beside a service manager."""
+    """A handler's program has only its three standard streams, even if a service manager is notified."""
     write(f"{folder}/script", "ls /proc/self/fd | wc -l >seen\n")
     with manager(f"{folder}/m"), Host(folder, surroundings(NOTIFY_SOCKET=f"{folder}/m")) as host:
         require(host.open(), "it is not opened")
@@ -163,7 +164,9 @@ def a_program_has_no_socket_of_the_host(folder: str) -> None:
 
 
 def a_refusal_has_the_systems_words(folder: str) -> None:
-    """Of files, locks, directories of records and sockets that cannot be had. (192.0.2.1 is kept for documents.)"""
+    """For files, locks, directories of records and sockets that cannot be opened. (192.0.2.1 is reserved for
+    documents.)
+    """
     path = f"{folder}/said"
     os.mkfifo(f"{folder}/pipe")
     with open(path, "wb") as errors, Host(folder, surroundings(), errors) as host, Host(folder) as other:

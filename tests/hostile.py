@@ -1,9 +1,9 @@
 #!/usr/bin/env python3
 """Floods a daemon that holds a ticket with 1,000,000 datagrams, and stops one for longer than its lease.
 
-Run it as `python3 tests/hostile.py [BOOTHD [DATAGRAMS]]`, BOOTHD being what `make build` leaves where it is left out.
-It takes less than a minute on a machine that does nothing else, prints a line for each check with what it measured,
-ends all that it started, and has the status 1 where a check failed. Where boothd is not built it checks nothing, with
+Run it as `python3 tests/hostile.py [BOOTHD [DATAGRAMS]]`, by default the one that `make build` leaves.
+It takes less than a minute on an idle machine, prints a line for each check with what it measured,
+ends all that it started, and has the status 1 if a check failed. If boothd is not built it checks nothing, with
 status 0.
 
 Each datagram has to be counted by its fault, counted for its member, or answered, as tests/gate.py reads

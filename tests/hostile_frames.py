@@ -23,7 +23,7 @@ REASONS = [0, *map(frames.code, ("Admn", "Hndl", "Splt", "JAcq"))]
 
 
 class Foe(NamedTuple):
-    """A datagram, with what has to come of it: the counter that rises, or the member that is heard, or the answer."""
+    """A datagram with its due effect: the counter that rises, or the member that is heard, or the answer."""
 
     datagram: bytes
     counter: Optional[int] = None
@@ -42,7 +42,7 @@ class Foes:
         self.others = [address for _, address in station.others]
 
     def made(self, count):
-        """So many different ones."""
+        """Returns this many different datagrams."""
         ways = [self.whole, self.whole, self.forged, self.unsigned, self.old, self.foreign, self.flipped, self.flipped]
         ways += [self.cut, self.longer, self.overwritten]
         commands = [*BODY_OF]
@@ -54,7 +54,7 @@ class Foes:
         return foes
 
     def judged(self, datagram):
-        """The datagram with what docs/PROTOCOL.md says of it."""
+        """The datagram with its effect by docs/PROTOCOL.md."""
         found = gate.verdict(self.station, datagram, self.seconds)
         if isinstance(found, int):
             return Foe(datagram, counter=found)
@@ -71,7 +71,7 @@ class Foes:
         return {"secs": secs, "usecs": self.chance.randrange(1000) * 1000}
 
     def fields(self, letters):
-        """The fields of a head, but for the clock, and a body."""
+        """The fields of a head, except for the clock, and a body."""
         chance, ticket = self.chance, self.station.tickets[0]
         request = chance.randrange(2**31)
         if letters in MEMBERS_SAY:
@@ -98,31 +98,31 @@ class Foes:
         return attribute_body(chance.choice([ticket, ticket, b"other"]), name, value)
 
     def whole(self, letters):
-        """One with the right MAC."""
+        """A frame with the right MAC."""
         fields, body = self.fields(letters)
         return sealed(self.station.key, letters, body, **fields, **self.clock())
 
     # ---- what others make of it
 
     def forged(self, letters):
-        """One with another key's MAC, or with the MAC of another frame."""
+        """A frame with another key's MAC, or with the MAC of another frame."""
         if self.chance.random() < 0.5:
             fields, body = self.fields(letters)
             return sealed(OTHER_KEY, letters, body, **fields, **self.clock())
         return self.whole(letters)[: -frames.AUTH_BYTES] + self.whole(letters)[-frames.AUTH_BYTES :]
 
     def unsigned(self, letters):
-        """One without a MAC."""
+        """A frame without a MAC."""
         fields, body = self.fields(letters)
         return frames.frame(letters, body, **fields, **self.clock())
 
     def old(self, letters):
-        """One that was sent long ago."""
+        """A frame that was sent long ago."""
         fields, body = self.fields(letters)
         return sealed(self.station.key, letters, body, **fields, secs=self.seconds - SECONDS_OLD)
 
     def foreign(self, letters):
-        """One with the right MAC whose sender, ticket or leader may not be."""
+        """A frame with the right MAC whose sender, ticket or leader is not allowed."""
         chance = self.chance
         fields, body = self.fields(letters)
         what = chance.randrange(3)
@@ -135,7 +135,7 @@ class Foes:
         return sealed(self.station.key, letters, body, **fields, **self.clock())
 
     def flipped(self, letters):
-        """One with a bit turned over."""
+        """A frame with a flipped bit."""
         made = bytearray(self.whole(letters))
         made[self.chance.randrange(len(made))] ^= 1 << self.chance.randrange(8)
         return bytes(made)
@@ -148,13 +148,13 @@ class Foes:
         return self.whole(letters) + bytes(self.chance.choice((1, 4, 28, 76)))
 
     def overwritten(self, letters):
-        """One whose end is noise."""
+        """A frame whose end is overwritten with random bytes."""
         whole = self.whole(letters)
         keep = self.chance.randrange(len(whole))
         return whole[:keep] + self.chance.randbytes(len(whole) - keep)
 
     def oversized(self, letters):
-        """One of more bytes than a frame has, which its head may tell or not."""
+        """A datagram longer than the longest frame; its head may have this length or not."""
         length = MOST_UDP_BYTES if self.chance.random() < 0.02 else FRAME_BYTES + self.chance.randrange(1, 400)
         made = bytearray(self.whole(letters).ljust(length, b"\0"))
         if self.chance.random() < 0.5:

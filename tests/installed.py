@@ -1,9 +1,9 @@
 #!/usr/bin/env python3
-"""Holds what is installed to what the programs are: manual pages, completion, service, package.
+"""Checks that the installed files agree with the programs: manual pages, completion, service, package.
 
 Run it as `python3 tests/installed.py` after `make build`. It installs into a directory of its own and
-removes that again; it prints a line for each check, says what it had to leave out for want of a tool,
-and has the status 1 where a check failed.
+removes that again; it prints a line for each check, says what it had to leave out for lack of a tool,
+and has the status 1 if a check failed.
 """
 
 import os
@@ -52,7 +52,7 @@ SECONDS_OF_A_WALK = 120
 
 
 def installs_and_uninstalls(room):
-    """make install puts everything below DESTDIR, and make uninstall takes it away"""
+    """make install puts everything below DESTDIR, and make uninstall removes it"""
     make("install", f"DESTDIR={room}/root", "PREFIX=/usr")
     there = files_below(f"{room}/root")
     named = [f"usr/sbin/{name}" for name in (*PROGRAMS, *TOOLS, "booth-keygen")]
@@ -101,7 +101,7 @@ def installs_and_uninstalls(room):
 
 
 def texts_name_their_own_place(room):
-    """below another PREFIX the pages and documents name the documents' folder there, and the unit the program"""
+    """below another PREFIX the pages and documents name the documents there, and the unit the program there"""
     make("install", f"DESTDIR={room}/elsewhere", "PREFIX=/usr/local")
     found = {}
     for name in files_below(f"{room}/elsewhere"):
@@ -117,7 +117,7 @@ def texts_name_their_own_place(room):
 
 
 def keys_are_made_once(room):
-    """booth-keygen makes 64 bytes for their owner alone, and overwrites nothing"""
+    """booth-keygen makes 64 bytes that only their owner can read, and overwrites nothing"""
     key = f"{room}/authkey"
     done = run(f"{TOP}/packaging/booth-keygen", key)
     need(done.returncode == 0, done.stderr)
@@ -126,18 +126,18 @@ def keys_are_made_once(room):
     mode = stat.S_IMODE(os.stat(key).st_mode)
     need((len(first), mode) == (64, 0o600), f"{len(first)} bytes, mode {mode:o}")
     done = run(f"{TOP}/packaging/booth-keygen", key)
-    need(done.returncode == 1 and "is there already" in done.stderr, f"status {done.returncode}: {done.stderr}")
+    need(done.returncode == 1 and "exists already" in done.stderr, f"status {done.returncode}: {done.stderr}")
     with open(key, "rb") as file:
         need(file.read() == first, "the key was changed")
     os.symlink(f"{room}/nowhere", f"{room}/link")
     done = run(f"{TOP}/packaging/booth-keygen", f"{room}/link")
-    need(done.returncode == 1 and "is there already" in done.stderr, f"a link to nothing: {done.stderr}")
+    need(done.returncode == 1 and "exists already" in done.stderr, f"a link to nothing: {done.stderr}")
     done = run(f"{TOP}/packaging/booth-keygen", f"{room}/none/key")
-    need(done.returncode == 1 and "cannot be made" in done.stderr, f"a directory that is missing: {done.stderr}")
+    need(done.returncode == 1 and "cannot create it" in done.stderr, f"a directory that is missing: {done.stderr}")
 
 
 def keys_are_given(room):
-    """booth-keygen as root gives the key to the daemon's user, where that one is there"""
+    """booth-keygen as root makes the daemon's user the owner of the key, if that user exists"""
     # (programs in the place of these two stand for a machine that has the user, and note what they are asked)
     os.makedirs(f"{room}/stand-ins")
     for name, text in (("id", '[ "$1" = booth ] || echo 0'), ("chown", f'echo "$*" >"{room}/given"')):
@@ -151,7 +151,7 @@ def keys_are_given(room):
 
 
 def examples_are_served(room):
-    """a daemon serves each example, and that of booth.conf(5), with addresses and a key of this machine"""
+    """a daemon serves each example, and the one in booth.conf(5), with addresses and a key of this machine"""
     names = [name for name in sorted(os.listdir(f"{TOP}/examples")) if name.endswith(".conf")]
     need({"two-sites.conf", "weights.conf", "manual.conf", "booth.conf"} <= set(names), f"there are {names}")
     os.makedirs(f"{room}/examples")
@@ -172,7 +172,7 @@ def examples_are_served(room):
 
 
 def walked(text, room):
-    """Each command of the indented lines that begin with $, with the lines that it is to print."""
+    """Each command of the indented lines that begin with $, with the lines that it must print."""
     steps = []
     for line in text.splitlines():
         if line.startswith("    $ "):
@@ -214,7 +214,7 @@ def step_lines(shell):
 
 
 def first_cluster_is_as_written(room):
-    """the first cluster of docs/OPERATING.md prints what stands there"""
+    """the first cluster of docs/OPERATING.md prints the lines that the document shows"""
     # (its addresses and its port stand in the example)
     with turn("installed"):
         walked(read(f"{TOP}/docs/OPERATING.md"), room)

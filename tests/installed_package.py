@@ -1,4 +1,4 @@
-"""What tests/installed.py holds the Debian package to: what it has, that dpkg takes it, and that it serves.
+"""Checks the Debian package: its contents, its installation by dpkg, and that it works. For tests/installed.py.
 
 It is imported by tests/installed.py, and not run by itself.
 """
@@ -15,7 +15,7 @@ from shells import need, read, run
 
 
 def package_is_whole(room):
-    """the package has what is installed, runs from a scratch root, and says what it is"""
+    """the package has every installed file, runs from a scratch root, and prints its version"""
     if not shutil.which("dpkg-deb"):
         return "dpkg-deb is not here"
     # (what it is made of has its modes whatever the umask is)
@@ -46,14 +46,14 @@ def package_is_whole(room):
 
 
 def package():
-    """The path of the package that was built."""
+    """The path of the built package."""
     built = [f"{TOP}/out/{name}" for name in os.listdir(f"{TOP}/out") if re.fullmatch(r"booth-proved_.*\.deb", name)]
     need(len(built) == 1, f"out/ has the packages {built}")
     return built[0]
 
 
 def package_has_no_fault(room):
-    """the package is without an error that lintian sees"""
+    """lintian finds no error in the package"""
     if not shutil.which("lintian") or not shutil.which("dpkg-deb"):
         return "lintian or dpkg-deb is not here"
     done = run("lintian", "--fail-on", "error", "--allow-root", package())
@@ -62,7 +62,7 @@ def package_has_no_fault(room):
 
 
 def package_comes_and_goes(room):
-    """dpkg installs the package in a root of its own, its programs run there, and dpkg removes it"""
+    """dpkg installs the package in its own root, its programs run there, and dpkg removes it"""
     if not shutil.which("dpkg") or not shutil.which("dpkg-deb"):
         return "dpkg is not here"
     root = f"{room}/other-root"
@@ -94,7 +94,7 @@ def package_comes_and_goes(room):
 
 
 def asks_in(prefix, room):
-    """The daemon below this prefix serves an example, and its clients are answered."""
+    """The daemon below this prefix serves an example, and answers its clients."""
     os.makedirs(room)
     conf, address = on_loopback(f"{prefix}/share/doc/booth-proved/examples/two-sites.conf", room)
     words = [f"{prefix}/sbin/boothd", "daemon", "-c", conf, "-s", address]

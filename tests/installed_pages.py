@@ -1,4 +1,4 @@
-"""What tests/installed.py holds the manual pages to: the keys, options and texts of the programs, and their form.
+"""Checks the manual pages: the keys, options and texts of the programs, and their form. For tests/installed.py.
 
 It is imported by tests/installed.py, and not run by itself.
 """
@@ -35,7 +35,7 @@ def pages_have_all_keys(room):
 
 
 def pages_have_all_options(room):
-    """each program's page has each option that its help tells, and no other"""
+    """each program's page has each option of its help, and no other"""
     for program, commands in PROGRAMS.items():
         path = built_program(program)
         if path is None:
@@ -53,13 +53,13 @@ def pages_have_all_options(room):
 
 
 def said_in(crate, name):
-    """The texts that a file of a crate says on standard error."""
+    """The texts in a crate's file that are printed on standard error."""
     source = re.sub(r"\\\n\s*", "", read(f"{TOP}/crates/{crate}/src/{name}"))
     return {text.strip() for text in re.findall(r'b"([^"]+)"', source)}
 
 
 def pages_have_all_texts(room):
-    """each text that a program says of a refusal stands in a page"""
+    """each text with which a program refuses something is in a page"""
     daemon, clients, follower = page("boothd.8"), page("booth.8") + page("geostore.8"), page("booth-follow.8")
     refusals = said_in("booth_tools", "refusals.rt")
     need("prerequisite not met" in refusals, f"no refusal was found in the program, but {sorted(refusals)}")
@@ -82,7 +82,7 @@ def pages_have_all_texts(room):
 
 
 def pages_are_well_formed_for_mandoc(room):
-    """the manual pages are without a fault that mandoc sees"""
+    """mandoc finds no fault in the manual pages"""
     if not shutil.which("mandoc"):
         return "mandoc is not here"
     done = run("mandoc", "-T", "lint", "-W", "warning", *pages())
@@ -91,7 +91,7 @@ def pages_are_well_formed_for_mandoc(room):
 
 
 def pages_are_well_formed_for_groff(room):
-    """the manual pages are without a fault that groff sees"""
+    """groff finds no fault in the manual pages"""
     if not shutil.which("groff"):
         return "groff is not here"
     done = run("groff", "-mdoc", "-ww", "-z", *pages())

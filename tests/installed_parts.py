@@ -1,4 +1,4 @@
-"""What the checks of tests/installed.py share: what is installed, how it is put down, and a cluster on loopback.
+"""Shared parts of the checks of tests/installed.py: the installed files, their installation, and a loopback cluster.
 
 It is imported by tests/installed.py and its parts, and not run by itself.
 """
@@ -35,7 +35,7 @@ def files_below(folder):
 
 
 def on_loopback(example, room):
-    """A file as the example, with its members on loopback and a key that is there, and its first member."""
+    """A file like the example, with its members on loopback and a key that exists, and its first member."""
     text, own = read(example), own_addresses()
     members = re.findall(r"^ *(?:site|arbitrator) *= *\W?([0-9a-f.:]+)", text, re.M)
     addresses = {member: next(own) for member in members}
@@ -51,7 +51,7 @@ def on_loopback(example, room):
 
 
 def wait_until_bound(daemon, address):
-    """Waits until the daemon has its port."""
+    """Waits until the daemon has opened its port."""
     for _ in range(3000):
         need(daemon.poll() is None, f"the daemon ended with {daemon.returncode}")
         with socket.socket(socket.AF_INET, socket.SOCK_DGRAM) as other:

@@ -1,4 +1,4 @@
-"""What tests/installed.py holds the programs in Python and in the shell to: their pages, and that they run elsewhere.
+"""Checks the programs in Python and shell: their pages, and that they run from another place. For tests/installed.py.
 
 It is imported by tests/installed.py, and not run by itself. tests/status.py has what they show.
 """
@@ -38,7 +38,7 @@ def pages_have_all_options_of_tools(room):
 
 
 def run_alone(folder):
-    """The tools in this folder run with nothing of the repository, from another directory."""
+    """The tools in this folder run without the repository, from another directory."""
     for name in TOOLS:
         is_moved = not any(place in read(f"{folder}/{name}") for place in ("../tools", "\nSHARE=.\n"))
         need(is_moved, f"the installed {name} names the repository")

@@ -1,4 +1,4 @@
-"""What tests/installed.py holds the units to: that systemd takes them, how exposed they are, and how they start.
+"""Checks the units: that systemd accepts them, how exposed they are, and how they start. For tests/installed.py.
 
 It is imported by tests/installed.py, and not run by itself.
 """
@@ -16,7 +16,9 @@ MOST_EXPOSED = {"booth-follow@": 4.9, "booth@": 2.0}
 
 
 def unit_in(room, name, more=""):
-    """The path of the daemon's unit with the installed program, in a directory of this name, and these lines more."""
+    """The path of the daemon's unit with the installed program, in a directory of this name, with these additional
+    lines.
+    """
     # (the programs stand below the scratch root)
     os.makedirs(f"{room}/{name}")
     for service in SERVICES:
@@ -31,7 +33,7 @@ def unit_in(room, name, more=""):
 
 
 def drop_ins():
-    """The drop-ins that HANDLERS.md tells, and the one that is installed."""
+    """The drop-ins that HANDLERS.md shows, and the installed one."""
     text = read(f"{TOP}/docs/HANDLERS.md")
     found = re.findall(r"^ {4,}\[Service\]\n(?: {4,}.*\n)+", text, re.M)
     need(len(found) > 1, f"HANDLERS.md has the drop-ins {found}")
@@ -39,7 +41,7 @@ def drop_ins():
 
 
 def unit_is_sound(room):
-    """the unit is one that systemd takes, alone, with each drop-in of HANDLERS.md, and with that of the journal"""
+    """systemd accepts the unit alone, with each drop-in of HANDLERS.md, and with the drop-in of the journal"""
     if not shutil.which("systemd-analyze"):
         return "systemd-analyze is not here"
     for number, more in enumerate(["", *drop_ins()]):
@@ -53,7 +55,7 @@ def unit_is_sound(room):
 
 
 def unit_is_confined(room):
-    """the daemon and the follower are as little exposed as HANDLERS.md says"""
+    """the exposure of the daemon and the follower is as low as HANDLERS.md says"""
     if not shutil.which("systemd-analyze"):
         return "systemd-analyze is not here"
     unit = unit_in(room, "confined")
@@ -73,7 +75,7 @@ def unit_is_confined(room):
 
 
 def start_waits(room, conf, address, pid):
-    """What the unit's wait for the daemon ends with, of a daemon with this number."""
+    """The status of the unit's wait for the daemon, if the daemon has this process id."""
     unit = read(f"{room}/kept/usr/lib/systemd/system/booth@.service")
     found = re.search(r"^ExecStartPost=/bin/sh -c '(.*)'$", unit, re.M)
     need(found, "the unit waits for nothing")
@@ -84,7 +86,7 @@ def start_waits(room, conf, address, pid):
 
 
 def unit_waits_for_an_answer(room):
-    """the unit's start has succeeded once the daemon answers, and has failed where the daemon is gone"""
+    """the unit's start succeeds when the daemon answers, and fails if the daemon has ended"""
     os.makedirs(f"{room}/waits")
     conf, address = on_loopback(f"{TOP}/examples/two-sites.conf", f"{room}/waits")
     words = [f"{room}/kept/usr/sbin/boothd", "daemon", "-c", conf, "-s", address, "-l", f"{room}/waits/lock"]

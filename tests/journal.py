@@ -1,5 +1,5 @@
 #!/usr/bin/env python3
-"""Has daemons write journals, ends one at any moment, and puts other things in the place of the file.
+"""Has daemons write journals, kills them at any time, and puts other things in the place of the file.
 
 Run it as `python3 tests/journal.py [BOOTHD]`, by default what `make build` leaves. It takes a minute at most, prints a
 line for each check, ends all that it started, and has the status 1 if a check failed. If boothd is not built it
@@ -58,11 +58,11 @@ int fdatasync(int file)
 
 
 class Wrong(Exception):
-    """The journal is not what it must be."""
+    """The journal is not as it must be."""
 
 
 class LeftOut(Exception):
-    """This machine does not let a check do what it wants to."""
+    """This machine does not allow what a check needs."""
 
 
 def require(holds, why):
@@ -72,7 +72,7 @@ def require(holds, why):
 
 @contextlib.contextmanager
 def cluster_in(boothd, folder):
-    """A cluster whose members write journals, and may answer at once."""
+    """A cluster whose members write journals, and may answer immediately."""
     with Cluster(boothd, folder, own_addresses(), times=TIMES) as cluster:
         for member in cluster.members:
             member.journals = True
@@ -86,33 +86,33 @@ def content(path):
 
 
 def is_held(cluster):
-    """Has the first site hold the ticket."""
+    """Lets the first site get the ticket."""
     one = cluster.members[0]
     granted = one.about("CGnt")
     require(wait_for(lambda: cluster.shown_by_all() == one.address, 10), f"a grant is told {granted}: {one.printed()}")
 
 
 def spelled(digits):
-    """The record that these digits spell."""
+    """Returns the record in these digits."""
     fields = record_file.SECOND_FORM.unpack(bytes.fromhex(digits))
     return record_file.second_record(fields)
 
 
 def kept_by(entries):
-    """The records of the ticket's keeps, each with its answer."""
+    """The records that the ticket's keeps wrote, each with its answer."""
     name = TICKET.decode()
     keeps = (entry for entry in entries if entry.kind == "keep" and entry.call["ticket"] == name)
     return [(spelled(entry.call["hex"]), entry.answer) for entry in keeps]
 
 
 def record_of(member):
-    """The record that a member's file is in force with."""
+    """The record that is in force in a member's file."""
     slot = record_file.in_force(record_file.slots_in(content(member.record_path())))
     return slot and slot.record
 
 
 def starts(entries):
-    """How many starts there are: each opens its socket once."""
+    """The number of starts: each start opens its socket once."""
     return sum(entry.kind == "open" for entry in entries)
 
 
@@ -121,7 +121,9 @@ def sent_to(entries, address):
 
 
 def a_journal_says_what_a_cluster_did(folder, boothd):
-    """Each line is one; what a member heard of another that one has sent; and the last keep is what is kept."""
+    """Each line is a journal's line; each message that a member received was sent by another; and the last keep is on
+    the disk.
+    """
     with cluster_in(boothd, folder) as cluster:
         cluster.start()
         is_held(cluster)
@@ -151,7 +153,7 @@ def a_journal_says_what_a_cluster_did(folder, boothd):
 
 
 def a_start_goes_on_behind_the_last_line(folder, boothd):
-    """A journal of before is appended to; what stands behind its last line end was torn, and is cut off."""
+    """An existing journal is continued; the text after its last line end was torn, and is cut off."""
     with cluster_in(boothd, folder) as cluster:
         one = cluster.members[0]
         cluster.start(0)
@@ -171,7 +173,7 @@ def a_start_goes_on_behind_the_last_line(folder, boothd):
 
 
 def another_file_is_left_as_it_is(folder, boothd):
-    """The daemon serves without a journal, and one line says so."""
+    """The daemon serves without a journal, and one line reports this."""
     with cluster_in(boothd, folder) as cluster:
         one = cluster.members[0]
         away = os.path.join(folder, "away")
@@ -212,7 +214,8 @@ def keep_files_short():
 
 
 def a_full_disk_ends_the_journal_alone(folder, boothd):
-    """The daemon goes on, and renews; nothing more is written, and the next start cuts off the torn line."""
+    """The daemon continues to renew; nothing more is written to the journal, and the next start cuts off the torn line.
+    """
     with cluster_in(boothd, folder) as cluster:
         one = cluster.members[0]
         one.prepare = keep_files_short
@@ -235,7 +238,7 @@ def a_full_disk_ends_the_journal_alone(folder, boothd):
 
 @contextlib.contextmanager
 def slow_disk(folder):
-    """Has each sync of a file take longer, in programs that are started in the block."""
+    """Makes each sync of a file take longer, in programs that are started in the block."""
     if shutil.which("cc") is None:
         raise LeftOut("there is no cc")
     source, library = os.path.join(folder, "slow.c"), os.path.join(folder, "slow.so")
@@ -250,7 +253,7 @@ def slow_disk(folder):
 
 
 def ask_on(member, ended):
-    """Has a member grant and give back its ticket, again and again, whatever it answers."""
+    """Grants and revokes a member's ticket again and again, whatever the member answers."""
     body = frames.ticket_body(TICKET, frames.NO_ONE, 0, 0)
     with socket.socket(socket.AF_INET, socket.SOCK_DGRAM) as asker:
         number = 0
@@ -262,10 +265,9 @@ def ask_on(member, ended):
 
 
 def may_be_kept(entries):
-    """The records of which the file may have each, behind these calls; and whether the last keep was cut.
-
-    A start finds one of them, and then there is that one alone; so there is behind a keep that was done. One that failed
-    or was cut adds its record.
+    """The records that the file may have after these calls, and whether the last keep was interrupted. A start reads
+    one of these records, and from then on only that one is possible. The same holds after a keep that was done. A keep
+    that failed or was interrupted adds its record.
     """
     may, is_cut = [record_file.Record(2, 0, None)], False
     for entry in entries:
@@ -283,7 +285,7 @@ def may_be_kept(entries):
 
 
 def what_is_kept_was_said(member, kill):
-    """The record on the disk is one that the journal knows; tells whether the last keep was cut."""
+    """The record on the disk is one that the journal has. Returns whether the last keep was interrupted."""
     may, is_cut = may_be_kept(journal_file.read(member.journal))
     record = record_of(member)
     require(record in may, f"kill {kill}: {record} is kept, and not one of {may}")
@@ -291,7 +293,7 @@ def what_is_kept_was_said(member, kill):
 
 
 def a_daemon_that_is_killed_within_a_keep_has_said_it(folder, boothd):
-    """The line of a keep is there before the keep: no record is on the disk that the journal does not know."""
+    """The line of a keep is written before the keep: no record is on the disk that the journal does not have."""
     chance = random.Random(SEED)
     with slow_disk(folder), cluster_in(boothd, os.path.join(folder, "cluster")) as cluster:
         cluster.start()

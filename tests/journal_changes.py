@@ -1,4 +1,4 @@
-"""Journals of which a line or some bytes are changed, and which of these are journals still.
+"""Journals with a changed line or changed bytes, and which of them are still journals.
 
 It is imported by tests/audit.py, and not run by itself. It asks no auditor, and has few rules of the protocol: what is
 let in, as tests/gate.py reads docs/PROTOCOL.md, which reading a turn uses, and that each frame bears it.
@@ -8,7 +8,7 @@ let in, as tests/gate.py reads docs/PROTOCOL.md, which reading a turn uses, and 
 - A line left out, doubled or swapped is a journal still if only a call lost its answer, and this call is the last of
   its session: the end follows, or a start, which is `now` and then `open`, another start or the end. So it is if the
   last line is left out, if the answer before a start is, and if a start's `now` is doubled. Else the first call
-  behind it that is no `now` is not demanded there, since a start must go on by `open`.
+  behind it that is no `now` is not demanded there, since a start must continue by `open`.
 - A cut journal is one always. Others may have heard what it then does not say was sent.
 
 By whole calls, with their answers (`judged_call`): a call that is left out, doubled or swapped with the next is another
@@ -43,7 +43,7 @@ CALL = "call"
 
 
 class Roster(NamedTuple):
-    """What journals are judged by: members as (role, address), tickets, and the key."""
+    """The data by which journals are judged: members as (role, address), tickets, and the key."""
 
     members: tuple
     tickets: tuple
@@ -60,7 +60,7 @@ class Roster(NamedTuple):
 
 
 class Change(NamedTuple):
-    """A changed journal: which kind, at which line (counted from 1), and the whole text."""
+    """A changed journal: the kind of change, its line (counted from 1), and the whole text."""
 
     kind: str
     line: int
@@ -68,8 +68,8 @@ class Change(NamedTuple):
 
 
 class Due(NamedTuple):
-    """What an audit must say of a changed journal: one of these faults at a line from `first` to `last`; or, if it
-    may pass, what it says of journals.
+    """The due result of an audit of a changed journal: one of these faults at a line from `first` to `last`; or, if it
+    may pass, the lines that are printed for the journals.
     """
 
     faults: tuple = ()
@@ -78,7 +78,7 @@ class Due(NamedTuple):
     may_pass: bool = False
 
     def allows(self, line, fault):
-        """Whether this fault of the changed journal is one of them. That of a whole journal has no line."""
+        """Whether this fault of the changed journal is one of these. The fault of a whole journal has no line."""
         return fault in self.faults and (line is None or self.first <= line <= self.last)
 
 
@@ -90,7 +90,7 @@ def fault_at(line, *faults):
 
 
 class Turn(NamedTuple):
-    """A turn or a start: the place of its `next` or `now`, the reading that it uses, and the places of its deeds."""
+    """A turn or a start: the place of its `next` or `now`, the reading that it uses, and the places of its actions."""
 
     at: int
     now: int
@@ -121,7 +121,9 @@ def swapped(lines):
 
 
 def with_calls(kind, lines, put):
-    """Of each call that has an answer, as the next one has: with these lines in the place of the two."""
+    """For each call that has an answer, and is followed by another such call: the text with these lines in place of the
+    two.
+    """
     entries = entries_of(text_of(lines))
     ends = [entry.line - 1 for entry in entries] + [len(lines)] * 2
     for entry, later, begin, middle, end in zip(entries, [*entries[1:], None], ends, ends[1:], ends[2:]):
@@ -145,7 +147,7 @@ def calls_swapped(lines):
 
 
 def digit_places(line):
-    """Where a line has digits: of what is spelled in hexadecimal, each letter of it too."""
+    """The places of digits in a line, including the letters of hexadecimal digits."""
     words, places, start = line.split(" "), [], 0
     for number, word in enumerate(words):
         # (hexadecimal is the last word, or the only one; names and calls are no such)
@@ -162,7 +164,7 @@ def other_digit(line, place, chance):
 
 
 def with_a_digit(lines, chance, count=1):
-    """Of each line that has digits, so many with another in the place of one."""
+    """For each line with digits: this many texts in which one of the digits is changed."""
     for at, line in enumerate(lines):
         places = digit_places(line)
         for place in chance.sample(places, min(count, len(places))):
@@ -175,12 +177,12 @@ def with_a_digit(lines, chance, count=1):
 
 @functools.lru_cache(maxsize=16)
 def entries_of(text):
-    """The calls that a journal says. Those of a text that comes again and again are read once."""
+    """The calls in a journal. A text that is given repeatedly is read once."""
     return tuple(journal_file.entries_of(text))
 
 
 def strays_behind(entries, place):
-    """The place of the call that is not demanded behind this one, which was cut, or None: a start must follow."""
+    """The place of the call that is not required after this interrupted one, or None: only a start may follow."""
     place += 1
     while place < len(entries) and entries[place].kind == "now":
         place += 1
@@ -190,7 +192,7 @@ def strays_behind(entries, place):
 
 
 def form(text) -> Due:
-    """What is due of a text whose lines stood in a journal, by their form."""
+    """The due result for a text whose lines come from a journal, by their form."""
     try:
         entries = entries_of(text)
     except journal_file.BadLine as why:
@@ -201,7 +203,7 @@ def form(text) -> Due:
 
 
 def named(entries, line):
-    """What stands at a line: the call, or whose answer."""
+    """The kind of a line: the call, or the call whose answer it is."""
     entry = max((entry for entry in entries if entry.line <= line), key=lambda entry: entry.line)
     return entry.kind if entry.line == line else f"answer of {entry.kind}"
 
@@ -224,7 +226,7 @@ def turns_of(entries) -> List[Turn]:
 
 
 def is_whole(roster, entries, start):
-    """Whether a start opened its socket and read all records: else it is no session."""
+    """Whether a start opened its socket and read all records; otherwise it is not a session."""
     answers = [entries[place].answer for place in start.deeds[: 1 + len(roster.tickets)]]
     return len(answers) == 1 + len(roster.tickets) and None not in answers and "fail" not in answers
 
@@ -238,12 +240,12 @@ def lease_in(digits):
 
 
 def address_in(entries):
-    """The address that the starts of a journal open, or None."""
+    """The address that the starts of a journal open, or None if none opens one."""
     return next((entry.call["address"] for entry in entries if entry.kind == "open"), None)
 
 
 def holdings(roster, texts):
-    """What an audit prints of journals that pass."""
+    """The lines that an audit prints for journals that pass."""
     lines = []
     all_of = [entries_of(text) for text in texts]
     for ticket in roster.tickets:
@@ -268,7 +270,7 @@ def held_by(entry, ticket, address, reading):
 
 @functools.lru_cache(maxsize=1 << 14)
 def met(station, digits, used):
-    """What is let in of a datagram in hexadecimal, or the number of the fault for which it is dropped."""
+    """The message in a datagram in hexadecimal digits, or the number of the fault for which the datagram is dropped."""
     return gate.verdict(station, journal_file.bytes_of(digits), used // 1000)
 
 
@@ -280,7 +282,7 @@ def sends_of(roster, entries):
 
 
 def first_unsent(roster, texts):
-    """The place of the first journal that heard what no journal sends, and the line; or None."""
+    """The place of the first journal that heard a message that no journal sends, and the line; or None."""
     all_of = [entries_of(text) for text in texts]
     sent = {address_in(entries): sends_of(roster, entries) for entries in all_of}
     size = frames.AUTH_BYTES if roster.key else 0
@@ -301,14 +303,14 @@ def first_unsent(roster, texts):
 
 
 def judged_call(good, change) -> Due:
-    """What is due of the text with a call left out, doubled or swapped with the next, each with its answer."""
+    """The due result if a call is left out, doubled or swapped with the next, each with its answer."""
     due = form(change.text)
     if due != VALID:
         return due
     entries = entries_of(good)
     place = next(place for place, entry in enumerate(entries) if entry.line == change.line)
     is_last = place + 1 == len(entries) or is_start(entries, place + 1)
-    # (a reading that no turn demands begins a start, which the call behind it does not go on)
+    # (a reading that no turn demands begins a start, which the call behind it does not continue)
     return Due(("differs",), change.line, change.line + 4, may_pass=is_last or is_start(entries, place))
 
 
@@ -316,7 +318,7 @@ def judged_call(good, change) -> Due:
 
 
 def judged_digit(roster, good, changed, line) -> Due:
-    """What is due of the text with a digit changed at this line."""
+    """The due result if a digit of this line is changed."""
     due = form(changed)
     if due != VALID:
         return due
@@ -333,7 +335,7 @@ def judged_digit(roster, good, changed, line) -> Due:
 
 
 def judged_reading(before, after, line):
-    """The same if a reading of the clock is another."""
+    """The same if a reading of the clock is changed."""
     pairs = [(old, new) for old, new in zip(turns_of(before), turns_of(after)) if old.used != new.used]
     if not pairs:
         return VALID
@@ -342,7 +344,7 @@ def judged_reading(before, after, line):
 
 
 def judged_datagram(roster, before, after, place):
-    """The same if what came, or where it came from, is different."""
+    """The same if the arrived datagram, or the address that it came from, is changed."""
     old, new, line = before[place].came, after[place].came, before[place].line + 1
     either = Due(("differs", "unsent"), line, may_pass=True)
     if "hex" not in old:

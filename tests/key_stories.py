@@ -21,7 +21,7 @@ STEPS = (
 
 
 def goes_on(cluster, member, what):
-    """Whether the ticket is held, renewed, and listed at each member, after one of them made a step."""
+    """Whether the ticket is still held, renewed, and listed at each member, after one of them made a step."""
     one = cluster.members[0]
     until = one.record().until
     is_renewed = lambda: one.record().until > until

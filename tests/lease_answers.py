@@ -1,4 +1,4 @@
-"""Deeds and views of the lease rules: as the stories tell them, and as the proved driver prints them.
+"""Actions and views of the lease rules, in the form of the stories and in the form of the proved driver.
 
 It is imported by the modules that play rows, and not run by itself. A deed is `nothing`, or its parts with `, `
 between them: `keep` and a record, `say` with to whom and a message, `want`, and `told`. A view is told by some of its
@@ -18,7 +18,7 @@ ROLES = ("follower", "working", "candidate", "leader")
 
 
 class Deed(NamedTuple):
-    """What a rule gives to be done."""
+    """The action that a rule requires."""
 
     keep: Optional[Record] = None
     say: Optional[Say] = None
@@ -31,14 +31,14 @@ class Deed(NamedTuple):
 
 
 def one_of(word: str, words: Tuple[str, ...]) -> str:
-    """Returns a word that must be one of these."""
+    """Returns a word, which must be one of these."""
     if word not in words:
         raise Trouble(f"{word} is none of {words}")
     return word
 
 
 def deed(text: str) -> Deed:
-    """Returns the deed of a text."""
+    """Returns the action that a text has."""
     if text == "nothing":
         return Deed()
     made: Dict[str, object] = {}
@@ -60,7 +60,9 @@ def deed(text: str) -> Deed:
 
 
 def printed_deed(lines: List[str]) -> Deed:
-    """Returns the deed that the driver printed: a keep and what is said, if there are such, and then the rest."""
+    """Returns the action that the driver printed: first the record to write and the messages, if there are any, and
+    then the rest.
+    """
     keep, said = None, None
     lines = list(lines)
     if lines and lines[0].startswith("keep "):
@@ -101,7 +103,7 @@ def truth(word: str) -> int:
 
 
 def several(text: str, count: int) -> Tuple[Optional[int], ...]:
-    """Returns so many numbers, or so many times None for the word `none`."""
+    """Returns this many numbers, or this many times None for the word `none`."""
     if text == "none":
         return (None,) * count
     words = text.split(" ")
@@ -111,7 +113,7 @@ def several(text: str, count: int) -> Tuple[Optional[int], ...]:
 
 
 def wanted_field(name: str, text: str) -> object:
-    """Returns the value of a field that a story tells."""
+    """Returns the value that a story has for a field."""
     if name == "kept":
         return record(text)
     if name == "role":
@@ -147,7 +149,7 @@ def given_field(view: View, name: str) -> object:
 
 
 def compared_fields(view: View, text: str) -> Tuple[object, object]:
-    """Returns the fields of a view that a story tells, as they are, and as they are wanted."""
+    """Returns the fields of a view that a story names: their values, and the wanted values."""
     named = [field.partition(" ") for field in text.split(", ")]
     wanted = [f"{name} {wanted_field(name, value)}" for name, _, value in named]
     return [f"{name} {given_field(view, name)}" for name, _, _ in named], wanted

@@ -1,9 +1,9 @@
 #!/usr/bin/env python3
-"""Holds booth-lease-guard to what booth-lease-guard(8) says of it.
+"""Checks booth-lease-guard against booth-lease-guard(8).
 
-Run it as `python3 tests/lease_guard.py [WORD..]`, which tells the stories whose name has one of the words, or all. It
+Run it as `python3 tests/lease_guard.py [WORD..]`, which runs the stories whose name has one of the words, or all. It
 needs no Pacemaker and nothing that is built: stand-ins on PATH note what is called (tests/pacemaker_room.py). It takes
-less than a minute, prints a line for each story, and has the status 1 where one failed.
+less than a minute, prints a line for each story, and has the status 1 if one failed.
 """
 
 import concurrent.futures
@@ -33,7 +33,7 @@ stories: List[Story] = []
 
 
 def story(function: Story) -> Story:
-    """Adds a story to those that are told."""
+    """Adds a story to the list of stories."""
     stories.append(function)
     return function
 
@@ -54,14 +54,14 @@ def guard(room: Room, last: str = "") -> Iterator["subprocess.Popen[bytes]"]:
 
 
 def lease_begins(room: Room, seconds: float, times: str = TIMES) -> None:
-    """The guard that runs sees a lease begin whose end is so far ahead; the resource runs."""
+    """The running guard sees the begin of a lease that ends this far ahead; the resource runs."""
     room.until(lambda: "guards svc" in room.text("told"), SLACK, "the guard reads the CIB")
     room.put("svc", "0\n")
     room.cib(PRIMITIVE, ["svc"], date(seconds), times)
 
 
 def has_called(room: Room, text: str) -> bool:
-    """Whether a stand-in was called with this."""
+    """Whether a stand-in was called with these words."""
     return any(text in call for call in room.calls())
 
 
@@ -70,7 +70,7 @@ def has_called(room: Room, text: str) -> bool:
 
 @story
 def what_runs_beyond_its_end_is_stopped(room: Room) -> None:
-    """a resource that runs beyond its end is stopped by its agent, a grace after the end and not before"""
+    """a resource that runs beyond its end is stopped by its agent, a grace after the end and not earlier"""
     room.cib(PRIMITIVE, ["svc"], CLOSED, TIMES)
     with guard(room):
         lease_begins(room, 3)
@@ -84,7 +84,7 @@ def what_runs_beyond_its_end_is_stopped(room: Room) -> None:
 
 @story
 def a_renewal_leaves_it_running(room: Room) -> None:
-    """a later end in the CIB leaves a resource running, and an earlier one that a stop sets is not hurried"""
+    """a later end in the CIB leaves a resource running, and an earlier end that a stop sets gives the stop its time"""
     room.put("svc", "0\n")
     room.cib(PRIMITIVE, ["svc"], date(2), TIMES)
     with guard(room):
@@ -100,7 +100,7 @@ def a_renewal_leaves_it_running(room: Room) -> None:
 
 @story
 def each_kind_is_ended(room: Room) -> None:
-    """a unit, a template's unit, each primitive of a group and a clone are ended, and what is promoted is demoted"""
+    """a unit, a template's unit, each primitive of a group and a clone are ended, and promoted instances are demoted"""
     for resources, refs in ((UNIT, ["svc"]), (TEMPLATE, ["svc"])):
         room.put("db8.service", "active\n")
         room.cib(resources, refs, date(-1), TIMES)
@@ -155,7 +155,7 @@ def what_cannot_be_ended_resets_the_machine(room: Room) -> None:
 
 @story
 def unknown_counts_as_running(room: Room) -> None:
-    """a resource whose state cannot be told is stopped, and resets the machine if its end was ahead"""
+    """a resource whose state is unknown is stopped, and the machine is reset if the lease's end was still ahead"""
     room.put("svc", "1\n")
     room.cib(PRIMITIVE, ["svc"], date(-1), TIMES)
     with guard(room):
@@ -170,7 +170,7 @@ def unknown_counts_as_running(room: Room) -> None:
 
 @story
 def nothing_is_reset_without_a_way(room: Room) -> None:
-    """with LAST_RESORT=none the guard says that nothing more can be done, and goes on"""
+    """with LAST_RESORT=none the guard reports that it can do nothing more, and continues"""
     room.put("svc.stop.fails")
     room.cib(PRIMITIVE, ["svc"], CLOSED, TIMES)
     with guard(room, "none"):
@@ -179,7 +179,7 @@ def nothing_is_reset_without_a_way(room: Room) -> None:
         room.drop("svc.stop.fails")
         room.until(lambda: room.text("svc") == "7\n", SLACK, "it is stopped all the same")
     done = room.call("booth-lease-guard", LAST_RESORT="other")
-    need(done.status == 1 and "LAST_RESORT is none of" in done.printed, f"{done}")
+    need(done.status == 1 and "LAST_RESORT must be one of" in done.printed, f"{done}")
 
 
 # ---- the file and the clocks
@@ -187,20 +187,20 @@ def nothing_is_reset_without_a_way(room: Room) -> None:
 
 @story
 def a_file_that_cannot_be_read_leaves_the_ends(room: Room) -> None:
-    """a CIB that is torn or gone leaves the ends that are known"""
+    """if the CIB is torn or missing, the known ends stay in force"""
     room.put("svc", "0\n")
     room.cib(PRIMITIVE, ["svc"], date(3), TIMES)
     with guard(room):
         room.until(lambda: "guards svc" in room.text("told"), SLACK, "the end is read")
         room.put("cib.xml", "<cib><configuration>")
-        room.until(lambda: "it is no CIB" in room.text("told"), SLACK, "it is told")
+        room.until(lambda: "it is not a CIB" in room.text("told"), SLACK, "it is told")
         room.drop("cib.xml")
         room.until(lambda: room.text("svc") == "7\n", 4 + SLACK, "svc is stopped")
 
 
 @story
 def a_guard_that_comes_back_holds_the_same(room: Room) -> None:
-    """a guard that is killed and started again holds each end as before"""
+    """a guard that is killed and started again has each end as before"""
     room.put("svc", "0\n")
     room.cib(PRIMITIVE, ["svc"], date(4), TIMES)
     with guard(room) as first:
@@ -216,16 +216,16 @@ def a_guard_that_comes_back_holds_the_same(room: Room) -> None:
 
 @story
 def an_end_that_the_wall_clock_denies_is_closed(room: Room) -> None:
-    """an end that is over while this node's wall clock is before it is closed in the CIB"""
+    """if an end has passed while this node's wall clock is before it, the end is closed in the CIB"""
     # (a lease of these times has an end 2 s ahead at most)
     room.cib(PRIMITIVE, ["svc"], CLOSED, "expire=6 margin=4 stop=1")
     with guard(room):
         lease_begins(room, 600, "expire=6 margin=4 stop=1")
         room.until(lambda: room.end() == CLOSED, 4 + SLACK, "the end is closed")
         room.until(lambda: room.text("svc") == "7\n", SLACK, "svc is stopped")
-        closed = "this node's wall clock is before it: the CIB says so now"
+        closed = "this node's wall clock is before it: closes it in the CIB"
         room.until(lambda: closed in room.text("told"), SLACK, "it is said")
-    need("s ahead by the wall clock, and is held for 2.0 s" in room.text("told"), room.text("told"))
+    need("s ahead by the wall clock, counts for only 2.0 s" in room.text("told"), room.text("told"))
 
 
 def lease(end: float, times: str = TIMES) -> pacemaker_cib.Lease:
@@ -237,7 +237,7 @@ def lease(end: float, times: str = TIMES) -> pacemaker_cib.Lease:
 
 @story
 def ends_stand_on_the_time_since_the_boot(room: Room) -> None:
-    """an end is held from when it was read, no farther than the lease's longest, whatever the wall clock does then"""
+    """an end counts from its reading, at most the longest lease ahead, even if the wall clock is stepped then"""
     ends = Ends(f"{room.folder}/run")
     wall = 1_790_000_000.0
     ends.take([lease(wall + 10)], Now(100.0, wall), wall)
@@ -254,12 +254,12 @@ def ends_stand_on_the_time_since_the_boot(room: Room) -> None:
     ends.take([lease(wall + 12)], Now(126.0, wall + 26), wall)
     same(at(), 112.0, "an end that is over")
     told = ends.take([], Now(127.0, wall), wall)
-    same(told, ["db8: has no lease in the CIB any more, so nothing is guarded"], "gone")
+    same(told, ["db8: its lease is no longer in the CIB, so it is not guarded"], "gone")
 
 
 @story
 def the_clock_that_set_an_end_is_kept(room: Room) -> None:
-    """how far the clock that set the last end is ahead stays known through a close and a restart of the guard"""
+    """how far the clock that set the last end is ahead stays known after a close and after the guard's restart"""
     folder, key, wall = f"{room.folder}/run", "booth-lease.db8", 1_790_000_000.0
     kept = lambda: lease_holding.told_of(lease_holding.kept_in(folder)[key])
     ends = Ends(folder)
@@ -282,7 +282,7 @@ def the_clock_that_set_an_end_is_kept(room: Room) -> None:
 
 @story
 def a_file_from_before_the_boot_tells_no_end(room: Room) -> None:
-    """the first reading of a boot takes no end to come from a file of an earlier boot, whatever the wall clock says"""
+    """the first reading of a boot ignores ends in a file of an earlier boot, whatever the wall clock is"""
     wall = 1_790_000_000.0
     rows = [
         (wall - 5, 8.0, "written 5 s ago"),
@@ -301,7 +301,7 @@ def a_file_from_before_the_boot_tells_no_end(room: Room) -> None:
 
 @story
 def a_daemon_that_does_not_reach_the_cluster_is_stopped(room: Room) -> None:
-    """a daemon is stopped if the end was neither renewed nor closed when the lease was over, and no other one"""
+    """if the end was neither renewed nor closed when the lease was over, only the ticket's daemon is stopped"""
     os.makedirs(f"{room.folder}/sites/booth")
     room.put("sites/booth/tickets", "db8 mail\n")
     room.put("list", "ticket: mail, leader: none\nticket: db8, leader: 192.0.2.10, expires: 2026-12-01 02:00:00\n")
@@ -329,7 +329,7 @@ def a_daemon_that_does_not_reach_the_cluster_is_stopped(room: Room) -> None:
 
 @story
 def times_leave_room_for_the_reset(room: Room) -> None:
-    """the guard acts and resets the machine before the lease itself ends, for each margin"""
+    """with each margin, the guard acts and resets the machine before the lease itself ends"""
     for margin in range(4, 120):
         for stop in range(0, 100, 7):
             times = pacemaker_cib.Times(600, margin, stop)
@@ -356,7 +356,7 @@ def a_look_changes_nothing(room: Room) -> None:
 
 
 def outcome(told: Story) -> bool:
-    """Whether a story passes, in a room of its own."""
+    """Whether a story passes, in its own room."""
     with scratch("booth-guard-") as folder:
         begun = time.monotonic()
         try:
@@ -369,7 +369,7 @@ def outcome(told: Story) -> bool:
 
 
 def main(words: List[str]) -> int:
-    """Tells the stories, or those whose name has one of the words."""
+    """Runs the stories, or those whose name has one of the words."""
     begun = time.monotonic()
     chosen = [each for each in stories if not words or any(word in each.__name__ for word in words)]
     # (most of their time they wait)

@@ -1,4 +1,4 @@
-"""Leases that are renewed beside links over TCP and beside crowds, for tests/links.py.
+"""Leases that are renewed at the same time as links over TCP and crowds, for tests/links.py.
 
 It is imported by that, and not run by itself. Each check has a cluster of its own, and returns what it measured.
 """
@@ -16,7 +16,7 @@ from tcp_links import Busy
 
 # who wants places and asks for nothing, and how many of them, all at once
 CROWDS = (("heads", 1_000), ("silent", 300), ("brief", 10))
-# how late a thing may be on a machine that does much else
+# how late a thing may be on a busy machine
 SLACK, SECONDS_BETWEEN_LOOKS = 10, 0.05
 KEY = b"a-key-of-the-cluster"
 TIMES = Times(expire=7, timeout=1, retries=3, renewal=5)
@@ -29,7 +29,7 @@ def holds(member: Member) -> bool:
 
 
 def begin(cluster: Cluster) -> Member:
-    """Starts the cluster, and returns its first site, which holds the ticket."""
+    """Starts the cluster, and returns its first site, which is granted the ticket."""
     cluster.remember()
     cluster.start()
     one = cluster.members[0]
@@ -39,7 +39,7 @@ def begin(cluster: Cluster) -> Member:
 
 
 def the_lease_runs_beside_links(program: str) -> str:
-    """a holder keeps its lease, and another takes over, beside sixteen links that ask without a pause"""
+    """a holder keeps its lease, and another site takes over, while sixteen links send requests without a pause"""
     addresses = list(itertools.islice(own_addresses(), 10, 13))
     with scratch("booth-links-") as folder, Cluster(program, folder, addresses, TIMES, KEY) as cluster:
         one, two = begin(cluster), cluster.members[1]
@@ -60,7 +60,7 @@ def the_lease_runs_beside_links(program: str) -> str:
 
 
 def the_lease_runs_beside_crowds(program: str) -> str:
-    """a holder keeps its lease beside crowds that want places alone, and answers over UDP meanwhile"""
+    """a holder keeps its lease while crowds only occupy places, and answers over UDP at the same time"""
     addresses = list(itertools.islice(own_addresses(), 40, 43))
     with scratch("booth-links-") as folder, contextlib.ExitStack() as opened:
         cluster = opened.enter_context(Cluster(program, folder, addresses, TIMES, KEY))

@@ -1,9 +1,9 @@
 #!/usr/bin/env python3
-"""Holds the proved boothd to what docs/PROTOCOL.md says of streams, over real links on loopback.
+"""Checks the streams of the proved boothd against docs/PROTOCOL.md, over real links on loopback.
 
-Run it as `python3 tests/links.py [BOOTHD [CONNECTIONS]]`, BOOTHD being what `make build` leaves where it is left out.
+Run it as `python3 tests/links.py [BOOTHD [CONNECTIONS]]`, by default the one that `make build` leaves.
 The flood of connections ends after 15 seconds, or after so many, however long that takes. It takes a minute, prints a
-line for each check with what it measured, ends all that it started, and has the status 1 where a check failed. Where
+line for each check with what it measured, ends all that it started, and has the status 1 if a check failed. If
 boothd is not built it checks nothing, with status 0.
 """
 
@@ -33,11 +33,11 @@ LINKS = 16
 SECONDS_OF_FLOOD = 15
 # as docs/PROTOCOL.md says: how long a link keeps its place that was answered, where another peer waits for one
 SECONDS_IDLE = 2
-# who wants places and asks for nothing, how many of them, and how many asks have to be answered beside them, how soon
+# who wants places and asks for nothing, how many of them, and how many asks must be answered beside them, how soon
 CROWDS = (("slow", 16), ("slow", 1_000), ("heads", 16), ("heads", 1_000), ("garbage", 16), ("garbage", 200))
 CROWDS += (("silent", 300), ("brief", 100))
 ASKS, SECONDS_IN_A_CROWD, SECONDS_BETWEEN_ASKS = 50, 1.0, 0.02
-# how late a thing may be on a machine that does much else
+# how late a thing may be on a busy machine
 SLACK = 10
 # what a reader takes, who is slow
 BYTES_A_SECOND = 100_000
@@ -56,7 +56,7 @@ SECONDS_OF_WAIT, REQUESTS_APART = 0.1, 20
 
 
 class LongList:
-    """A daemon with 4,096 tickets, whose list is as long as it gets while leases end in this century."""
+    """A daemon with 4,096 tickets, whose list is as long as a list can be while leases end in this century."""
 
     def __init__(self, program, folder, address, other):
         self.address, self.lines = address, []
@@ -74,7 +74,7 @@ class LongList:
             raise
 
     def tell(self, names):
-        """Tells the daemon of each ticket that the other site has it, as that site would."""
+        """Sends the daemon a claim of the other site for each ticket, as that site would."""
         owner, until = frames.member_id(LONG_OWNER), int(now()) + SECONDS_HELD
         with socket.socket(socket.AF_INET, socket.SOCK_DGRAM) as teller:
             teller.connect((self.address, frames.PORT))
@@ -86,13 +86,15 @@ class LongList:
         self.lines = [(name, LONG_OWNER.encode(), until) for name in names]
 
     def is_whole(self, text):
-        """Whether the text has a line of each ticket, with its owner, until about the second that was told."""
+        """Whether the text has a line of each ticket, with its owner and an end within about a second of the claimed
+        one.
+        """
         found = [line.split(b" ") for line in text.splitlines()]
         fits = lambda line, due: line[:2] == list(due[:2]) and abs(int(line[2]) - due[2]) < 2 * SECONDS_TO_ANSWER
         return len(found) == len(self.lines) and all(map(fits, found, self.lines))
 
     def list_of(self, link, number):
-        """The text of the list that answers this request, from its parts, and how many those are."""
+        """The text of the list that answers this request, joined from its parts, and how many parts there are."""
         parts = lists.Parts()
         for count in itertools.count(1):
             part = link.reply("CLst", number)
@@ -128,7 +130,7 @@ class Scene:
 
 
 def every_cut_is_one(scene):
-    """a frame that is cut at any place is answered as a whole one is"""
+    """a frame that is cut at any place is answered like a whole one"""
     asked = [("CLst", b""), ("Peer", b""), ("CGnt", frames.ticket_body(b"no-such", frames.NO_ONE, 0, 0))]
     asked.append(("ALst", frames.attribute_body(b"no-such", b"", b"")))
     cuts = [(letters, body, cut) for letters, body in asked for cut in range(1, frames.HEAD_BYTES + len(body))]
@@ -151,12 +153,12 @@ def every_cut_is_one(scene):
 
 
 def bodies(frame):
-    """What two replies to one request have in common: the result and the body."""
+    """The common part of two replies to one request: the result and the body."""
     return frames.Head.read(frame).result, frame[frames.HEAD_BYTES :]
 
 
 def sixteen_at_once(scene):
-    """sixteen links at once are each answered, with lists in pieces of their own"""
+    """sixteen links at the same time are each answered, with lists that are cut at different places"""
     with links(LINKS, scene.address) as opened:
         asked = [[link.request() for _ in range(PARTS)] for link in opened]
         for half in (slice(0, 700), slice(700, None)):
@@ -168,7 +170,7 @@ def sixteen_at_once(scene):
 
 
 def a_slow_reader_gets_all(scene):
-    """a reader of 100 kB a second gets half a megabyte of lists whole that were asked for at once"""
+    """a reader of 100 kB a second receives half a megabyte of lists whole, all requested at once"""
     with Link(scene.address, room=8192, rate=BYTES_A_SECOND) as link:
         begun, requests = time.monotonic(), [link.request() for _ in range(PARTS)]
         link.socket.sendall(b"".join(request for _, request in requests))
@@ -179,7 +181,7 @@ def a_slow_reader_gets_all(scene):
 
 
 def long_lists(scene):
-    """a list of 29 parts comes whole over each of sixteen links at once, and to a reader of 100 kB a second meanwhile"""
+    """a list of 29 parts arrives whole over sixteen links at once, and also at a reader of 100 kB a second"""
     address, other = itertools.islice((each for each in own_addresses() if each != scene.address), 20, 22)
     long = LongList(scene.program, scene.folder, address, other)
     wrong, got = [], []
@@ -212,7 +214,7 @@ def long_lists(scene):
 
 
 def who_reads_nothing_waits(scene):
-    """who asks on and reads nothing is not read any longer, and others are served meanwhile"""
+    """a peer that continues to ask and reads nothing is no longer read, and others are served"""
     with Link(scene.address, room=4096) as deaf, Link(scene.address) as other:
         many = b"".join(deaf.request()[1] for _ in range(85))
         deaf.socket.settimeout(0.5)
@@ -230,7 +232,7 @@ def who_reads_nothing_waits(scene):
 
 
 def the_port_of_daemons_is_refused(scene):
-    """a connection from the daemons' port is closed at once, unanswered"""
+    """a connection from the daemons' port is closed immediately, without an answer"""
     local = next(address for address in own_addresses() if address != scene.address)
     with Link(scene.address, local=(local, frames.PORT)) as link:
         try:
@@ -241,7 +243,7 @@ def the_port_of_daemons_is_refused(scene):
 
 
 def who_is_idle_makes_room(scene):
-    """where sixteen links are idle, a peer that waits gets the place of the one that is idle longest"""
+    """if sixteen links are idle, a waiting peer gets the place of the one that has been idle longest"""
     with links(LINKS, scene.address) as opened:
         for link in opened:
             link.ask()
@@ -262,7 +264,9 @@ def who_is_idle_makes_room(scene):
 
 
 def asked_in_a_crowd(scene):
-    """How long a new peer waits for its answer, in seconds. It connects anew where it was closed, as a client does."""
+    """How long a new peer waits for its answer, in seconds. If its connection is closed, it connects again, as a client
+    does.
+    """
     time.sleep(SECONDS_BETWEEN_ASKS)
     begun, why = time.monotonic(), None
     while (left := begun + SECONDS_IN_A_CROWD - time.monotonic()) > 0:
@@ -277,7 +281,7 @@ def asked_in_a_crowd(scene):
 
 
 def crowds_keep_nobody_out(scene):
-    """a new peer's request is answered within a second, 50 of 50 times, beside each crowd that wants places alone"""
+    """a new peer is answered within a second, 50 of 50 times, while each kind of crowd only occupies places"""
     told = []
     for kind, count in CROWDS:
         took = []
@@ -293,7 +297,7 @@ def crowds_keep_nobody_out(scene):
 
 
 def who_was_answered_keeps_its_place(scene):
-    """a link that was answered shortly before keeps its place beside a crowd"""
+    """a link that was answered shortly before keeps its place while a crowd connects"""
     with Crowd("heads", scene.address, 200), Link(scene.address) as link:
         begun, count = time.monotonic(), 0
         while time.monotonic() < begun + 2 * SECONDS_IDLE:
@@ -304,7 +308,7 @@ def who_was_answered_keeps_its_place(scene):
 
 
 def connections_leave_nothing(scene):
-    """connections one after another leave the daemon's open files and its memory as before"""
+    """connections one after another leave the daemon's open files and memory unchanged"""
     begun, count = time.monotonic(), 0
     # (from one address alone the system would run out of ports, each of which it keeps for a while)
     sources = itertools.cycle(list(own_addresses())[100:])
@@ -324,7 +328,7 @@ def connections_leave_nothing(scene):
 
 
 def a_request_ends_the_wait(scene):
-    """a request over a link ends the wait for datagrams: it is answered long before that would end by itself"""
+    """a request over a link ends the wait for datagrams: it is answered long before the wait's own end"""
     took = []
     with Link(scene.address) as link:
         for _ in range(REQUESTS_APART):
@@ -339,7 +343,7 @@ def a_request_ends_the_wait(scene):
 
 
 def the_port_is_bound_once_and_again(scene):
-    """a daemon does not start where the TCP port is another's, and starts at once where a link of the former one was open"""
+    """a daemon does not start if the TCP port is in use, but does so at once after a daemon with open links"""
     address = next(each for each in itertools.islice(own_addresses(), 60, None) if each != scene.address)
     folder = os.path.join(scene.folder, "again")
     conf = os.path.join(scene.folder, "again.conf")
@@ -416,7 +420,7 @@ def passes(check, scene):
 
 
 def run(program, connections):
-    """Runs the checks. Says how many failed."""
+    """Runs the checks. Prints how many failed."""
     begun, passed = time.monotonic(), []
     with scratch("booth-links-") as folder:
         address, *others = list(own_addresses())[:3]

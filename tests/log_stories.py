@@ -1,4 +1,4 @@
-"""Daemons that tell their log: what each says of a grant, a takeover, a refused handler and a keep that fails.
+"""The log lines of daemons about a grant, a takeover, a refused handler and a failed write.
 
 It is imported by tests/cluster.py, and not run by itself. The lines are those of man/boothd.8, "LOG".
 """
@@ -20,24 +20,24 @@ def begins(cluster, member):
 
 
 def lease(verb, record):
-    """The line on what became of the lease of this record."""
+    """The log line about the lease of this record."""
     return f"boothd: ticket {NAME}: {verb} the lease of term {record.term} until {date(int(record.until))} UTC"
 
 
 def told_by(member, count):
-    """The lines that the member has told, once there are so many."""
+    """The lines that the member has logged, once there are this many."""
     wait_for(lambda: member.printed().count(b"\n") >= count, PATIENCE)
     return member.printed().decode().splitlines()
 
 
 def tells(member, lines):
-    """The member's whole log is these lines."""
+    """The member's whole log consists of these lines."""
     told = told_by(member, len(lines))
     require(told == lines, f"{member.address} told {told}, and not {lines}")
 
 
 def last_lease(member):
-    """The last record with a lease that a member keeps before one without."""
+    """The last record with a lease that a member writes before a record without one."""
     last = member.record()
     end = now() + PATIENCE
     while (record := member.record()).until is not None:
@@ -48,7 +48,7 @@ def last_lease(member):
 
 @story
 def a_log_with_a_handler(cluster):
-    """daemons that tell their log, and a ticket with a handler"""
+    """daemons with a log, and a ticket with a handler"""
     one, two, _ = cluster.members
     ready = "boothd: ready, tickets: 1"
     for member in cluster.members:

@@ -1,4 +1,4 @@
-"""What booth-status shows of members that answer what a test arranged: each line, field and sample of its forms.
+"""The output of booth-status about members with arranged answers: each line, field and sample in each form.
 
 It is imported by tests/status.py, and not run by itself.
 """
@@ -40,7 +40,7 @@ ADDRESSES = itertools.cycle(own_addresses())
 
 
 class Three:
-    """Two sites and an arbitrator that are arranged, with `web`, which moves by itself, and `db`, which does not."""
+    """Two sites and an arbitrator with arranged answers, with the automatic ticket `web` and the manual ticket `db`."""
 
     def __init__(self, folder, addresses=None, authfile="", skew=600, name=None, more=""):
         self.one, self.two, self.third = self.addresses = addresses or [next(ADDRESSES) for _ in range(3)]
@@ -55,7 +55,7 @@ class Three:
         return dict(zip(self.addresses, ("site", "site", "arbitrator")))
 
     def peers(self, of, dropped=NONE_DROPPED, **said):
-        """The lines of this member's answer: `said` has what it counts of the others, by their names here."""
+        """The lines of this member's answer: `said` has its counters of the others, by their names here."""
         names = {"one": self.one, "two": self.two, "third": self.third}
         lines = [dropped]
         for name, address in names.items():
@@ -84,7 +84,7 @@ def all_of(members):
 
 
 def well(three, **more):
-    """Three members among which all is well."""
+    """Three members without a problem."""
     return all_of([three.fake(address, **more) for address in three.addresses])
 
 
@@ -94,7 +94,7 @@ def date(seconds):
 
 @story
 def every_line_of_the_table(folder):
-    """the table has each member, ticket and problem as it was arranged, line by line"""
+    """the table has each arranged member, ticket and problem, line by line"""
     three = Three(folder)
     one, two, third = three.addresses
     members = [
@@ -111,6 +111,7 @@ def every_line_of_the_table(folder):
     for form, shown in moving:
         lines = [re.sub(form, shown, line) for line in lines]
     rows = [re.split(" {2,}", line) for line in lines]
+    differ = "members name different holders"
     wanted = [
         [f"{three.path} at DATE"],
         [""],
@@ -125,8 +126,8 @@ def every_line_of_the_table(folder):
         ["db", "manual", two, "-", "-", "1 3"],
         ["", one, "-", "-", "2"],
         [""],
-        ["warning", f"web: members differ on who holds it: {one} as {one}, {two} sees it; nobody as {third} sees it"],
-        ["warning", f"db: members differ on who holds it: {two} as {one}, {third} sees it; {one} as {two} sees it"],
+        ["warning", f"web: {differ}: {one} according to {one}, {two}; nobody according to {third}"],
+        ["warning", f"db: {differ}: {two} according to {one}, {third}; {one} according to {two}"],
         [""],
         ["WARNING: 3 of 3 members answer, 1 of 2 tickets are held"],
     ]
@@ -143,8 +144,9 @@ FIELDS = "version configuration time seconds status summary members site tickets
 
 
 def due_member(three, address, never, web, until):
-    """What the document has of a member, without what hangs on the moment. `never` are members of which one never heard
-    the other; `web` and `until` are what it lists of that ticket."""
+    """The due part of the document for a member, without values that depend on the moment. `never` are the members that
+    one never heard from; `web` and `until` are its list's values of that ticket.
+    """
     peers = []
     for other in three.addresses:
         if other != address:
@@ -157,7 +159,7 @@ def due_member(three, address, never, web, until):
 
 
 def without_moments(found, ahead):
-    """A member of the document, from which what hangs on the moment is taken where it is in its range."""
+    """A member of the document without the values that depend on the moment, if each is in its range."""
     require(about(found.pop("seconds_to_answer"), 0, 3), "seconds_to_answer")
     require(about(found.pop("clock_ahead_seconds"), ahead - 1, ahead + 1), "clock_ahead_seconds")
     for peer in found["peers"]:
@@ -170,7 +172,9 @@ def without_moments(found, ahead):
 
 
 def in_parts(answer):
-    """The list of this answer with a part for each line: the second first, and the first twice. Others stay."""
+    """The list of this answer with a part for each line: the second part first, and the first one twice. Other answers
+    stay.
+    """
     head = frames.Head.read(answer)
     if head.cmd != frames.code("RLst"):
         return [answer]
@@ -186,7 +190,7 @@ def in_parts(answer):
 
 @story
 def a_list_in_parts_is_one(folder):
-    """a list that comes in parts is shown as one that comes in one datagram"""
+    """a list that arrives in parts is shown like a list in one datagram"""
     three = Three(folder)
     one, two, third = three.addresses
     with all_of([three.fake(one, meddle=in_parts), three.fake(two), three.fake(third)]):
@@ -198,7 +202,7 @@ def a_list_in_parts_is_one(folder):
 
 @story
 def every_field_of_the_document(folder):
-    """the document of JSON has each field as it was arranged"""
+    """the JSON document has each arranged field"""
     three = Three(folder)
     one, two, third = three.addresses
     of_two = three.peers(two, third=(None, 0, 0, 3))
@@ -228,7 +232,7 @@ def every_field_of_the_document(folder):
 
 
 def due_samples(three, answering):
-    """The samples of two members that answer and one that does not, by their names and labels."""
+    """The due samples of two members that answer and one that does not, by their names and labels."""
     one, two, third = three.addresses
     pairs = [(each, other) for each in answering for other in three.addresses if other != each]
     due = [("booth_status", 1, {})]
@@ -249,7 +253,7 @@ def due_samples(three, answering):
 
 
 def moving_samples(three, answering):
-    """The samples that hang on the moment, with their ranges."""
+    """The samples that depend on the moment, with their ranges."""
     due = [("booth_look_time_seconds", (three.now, three.now + 30), {}), ("booth_look_seconds", (0, 3), {})]
     for each in answering:
         due.append(("booth_member_clock_ahead_seconds", (-1, 1), {"member": each}))
@@ -262,7 +266,7 @@ def moving_samples(three, answering):
 
 @story
 def every_sample_of_the_metrics(folder):
-    """the metrics have each sample as it was arranged, in a file that is written whole"""
+    """the metrics have each arranged sample, in a file that is written whole"""
     three = Three(folder)
     one, two, _ = three.addresses
     path = os.path.join(folder, "booth.prom")
@@ -284,7 +288,7 @@ def every_sample_of_the_metrics(folder):
 
 @story
 def one_line_and_its_status(folder):
-    """each form has status 0 where all is well, and the one line counts"""
+    """each form has status 0 if there is no problem, and the one line has the counts"""
     three = Three(folder)
     with well(three):
         lines = [status("-c", three.path, *words) for words in (["-b"], [], ["-j"], ["-m", "-"])]
@@ -307,7 +311,7 @@ def one_line_and_its_status(folder):
 
 @story
 def a_look_ends_in_its_time(folder):
-    """a look ends within its time whoever is silent, floods with other things, or is not there"""
+    """a look ends within its time, even if members are silent, flood it with other datagrams, or do not exist"""
     three = Three(folder)
     one, two, third = three.addresses
 
@@ -326,7 +330,7 @@ def a_look_ends_in_its_time(folder):
     silent = [warning("silent", two), warning("silent", third), warning("silent-owner", two, ticket="db")]
     require_problems(told, critical("no-majority"), *silent)
     text = next(each["text"] for each in told["problems"] if each["member"] == third)
-    require(re.fullmatch(re.escape(f"{third}: is silent, and {one} heard it ") + r"\d+ s ago", text), text)
+    require(re.fullmatch(re.escape(f"{third}: is silent; {one} heard from it ") + r"\d+ s ago", text), text)
     told = document("-c", three.path)
     require_problems(told, critical("no-majority"), *(warning("no-daemon", each) for each in three.addresses))
     require_same([each["answer"] for each in told["members"]], ["no-daemon"] * 3)
@@ -359,7 +363,7 @@ def a_lost_datagram_is_asked_for_again(folder):
 
 @story
 def what_is_no_answer_is_told(folder):
-    """an answer that is malformed or not authentic is not taken, with the cause; one of two answers is a part"""
+    """a malformed or not authentic answer is ignored, with the cause; one of two answers is a part"""
     path = os.path.join(folder, "a-key")
     with open(path, "wb") as file:
         file.write(KEY)
@@ -382,9 +386,9 @@ def what_is_no_answer_is_told(folder):
 
     cases = [
         (without_mac, "it has no MAC, so that member has no key"),
-        (other_mac, "it has not the MAC of this key"),
-        (no_number, "a line of its text is b'dropped x 0 x 0 x 0 x 0'"),
-        (lambda answer: [answer[:40]], "it has 40 bytes, fewer than 76, those without a body"),
+        (other_mac, "its MAC is not of this key"),
+        (no_number, "a line of its text has the wrong form: b'dropped x 0 x 0 x 0 x 0'"),
+        (lambda answer: [answer[:40]], "it has 40 bytes, fewer than the 76 of a reply without a body"),
         (lambda answer: [answer[:20] + b"\0\0\0\1" + answer[24:]], "its field from is 0x00000001, and not "),
     ]
     for meddle, why in cases:
@@ -402,7 +406,7 @@ def what_is_no_answer_is_told(folder):
 
 @story
 def who_holds_a_ticket_is_compared(folder):
-    """two owners, other holders and other ends are told, and ends of one lease that are rounded are not"""
+    """two owners, other holders and other ends are reported; different roundings of one lease's end are not"""
     three = Three(folder)
     one, two, third = three.addresses
 
@@ -420,23 +424,23 @@ def who_holds_a_ticket_is_compared(folder):
     require_problems(looked(held(one, one, 50), held(one, one, 52), held(one, one, 48)))
     told = looked(held(one, one, 50), held(one, one, 50), held(one, one, 20))
     require_problems(told, warning("ends-differ", ticket="web"))
-    require_same(first_text(told), f"web: its end at {third} is 30 s before that of {one}")
+    require_same(first_text(told), f"web: the end of its lease at {third} is 30 s before the end at {one}")
 
 
 @story
 def another_configuration_is_told(folder):
-    """a member with other tickets, other members or another order of them runs another configuration"""
+    """a member with other tickets, other members or another order of them is reported to have another configuration"""
     three = Three(folder)
     one, two, third = three.addresses
     held, peers = three.held(one, two), three.peers(third)
-    other_role = f"it lacks member site {two} and it has member arbitrator {two} more"
+    other_role = f"it lacks the member site {two} and it has the additional member arbitrator {two}"
     cases = [
-        (held + ["more none 0"], peers, "it has ticket more more"),
-        (held[:1], peers, "it lacks ticket db"),
-        (held[::-1], peers, "its tickets stand in another order"),
-        (held, peers[:2], f"it lacks member site {two}"),
+        (held + ["more none 0"], peers, "it has the additional ticket more"),
+        (held[:1], peers, "it lacks the ticket db"),
+        (held[::-1], peers, "its tickets are in another order"),
+        (held, peers[:2], f"it lacks the member site {two}"),
         (held, [*peers[:2], peers[2].replace("site", "arbitrator")], other_role),
-        (held, [peers[0], peers[2], peers[1]], "its members stand in another order"),
+        (held, [peers[0], peers[2], peers[1]], "its members are in another order"),
     ]
     for held_there, lines, text in cases:
         with all_of([three.fake(one), three.fake(two), three.fake(third, held_there, lines)]):

@@ -1,5 +1,5 @@
 #!/usr/bin/env python3
-"""Holds the proved boothd to docs/PROTOCOL.md over loopback, comparing replies byte for byte.
+"""Checks the proved boothd against docs/PROTOCOL.md over loopback, and compares replies byte by byte.
 
 Run it as `python3 tests/loopback.py [PROGRAM [WORD]]`, PROGRAM being what `make build` leaves if
 it is left out; with WORD only the checks with it in their sentences run. It prints a line for each
@@ -37,7 +37,7 @@ def passes(check, room):
 
 
 def run(program, word):
-    """Runs the checks that have this word in their sentences. Says how many failed."""
+    """Runs the checks whose sentence has this word. Prints how many failed."""
     chosen = [check for check in checks if word in check.__doc__]
     started = time.monotonic()
     with scratch("booth-loopback-") as folder:

@@ -1,4 +1,4 @@
-"""Faults of booted machines, each with what must come of it.
+"""Faults of booted machines, each with its expected effect.
 
 It is imported by tests/machines.py, and not run by itself. A scenario begins with a primary at the site that holds the
 ticket and a replica at the other one, brings its fault about, waits for what must come, and takes its fault away. Then
@@ -40,9 +40,8 @@ SERVER_IS_LEFT = "$nrconf{override_rc}{qr(^postgresql)} = 0;\n"
 
 
 class Scenario(NamedTuple):
-    """A fault with its name, whether the gate runs it, and for how long no site may take writes at most.
-
-    It may need an image of its own.
+    """A fault with its name, whether the gate runs it, and the longest time for which no site may accept writes. It may
+    need its own image.
     """
 
     name: str
@@ -52,7 +51,7 @@ class Scenario(NamedTuple):
     image: Image
 
     def title(self) -> str:
-        """Returns what the scenario is, in words."""
+        """Returns a description of the scenario."""
         return (self.story.__doc__ or "").strip().rstrip(".")
 
 
@@ -62,7 +61,7 @@ NONE, SHORT, LONG = 3.0, 20.0 + EXPIRE, SECONDS_OF_A_TAKEOVER + EXPIRE
 
 
 def scenario(most_without: float, gate: bool = False, image: Image = POSTGRESQL) -> Callable[[Story], Story]:
-    """Makes a function a scenario, by the name of it."""
+    """Makes a function a scenario, with the function's name."""
 
     def add(story: Story) -> Story:
         name = story.__name__.replace("_", "-")
@@ -74,7 +73,7 @@ def scenario(most_without: float, gate: bool = False, image: Image = POSTGRESQL)
 
 @contextlib.contextmanager
 def drop_in(site: Machine, unit: str, text: str) -> Iterator[None]:
-    """Gives a unit more lines for a while."""
+    """Gives a unit additional lines for a while."""
     path = f"{UNITS}/{unit}.d/zz-fault.conf"
     site.write(path, text)
     site.must("systemctl", "daemon-reload")
@@ -87,25 +86,25 @@ def drop_in(site: Machine, unit: str, text: str) -> Iterator[None]:
 
 
 def taken_over(world: World, former: Machine) -> None:
-    """Waits until the other site takes writes."""
+    """Waits until the other site accepts writes."""
     other = world.other(former)
     world.await_that(f"{other.name} takes writes", lambda: world.writers.takes(other), SECONDS_OF_A_TAKEOVER + EXPIRE)
 
 
 def stays(world: World, holder: Machine, seconds: float = 3) -> None:
-    """Waits until the same site has taken writes for so long."""
+    """Waits until the same site has accepted writes for this long."""
     world.await_that(f"{holder.name} takes writes", lambda: world.writers.takes(holder), PATIENCE)
     time.sleep(seconds)
     world.await_that(f"{holder.name} takes writes on", lambda: world.writers.takes(holder), 1)
 
 
 def first_renewal(world: World, holder: Machine) -> None:
-    """Waits until a site that was moved a ticket has renewed it: before that nobody takes it over (OPERATING.md)."""
+    """Waits until a site to which a ticket was moved has renewed it. No site takes it over before (OPERATING.md)."""
     stays(world, holder, EXPIRE / 2 + 3)
 
 
 def await_replica(world: World, former: Machine) -> str:
-    """Waits until a former primary follows the other site, and says how long that took."""
+    """Waits until a former primary follows the other site, and returns how long this took."""
     took = world.await_that(f"{former.name} is a replica", lambda: world.is_replica(former), 2 * PATIENCE)
     return f"a replica {took:.1f} s after its return"
 
@@ -120,7 +119,7 @@ def postmaster(holder: Machine) -> str:
 
 @scenario(LONG, gate=True)
 def crash_and_return(world: World, holder: Machine) -> Optional[str]:
-    """The primary's machine loses its power and comes back, while no clock can be reached."""
+    """The primary's machine loses its power and boots again, while no time server can be reached."""
     holder.write(CHRONYC, WAITING_CHRONYC, 0o755)
     try:
         holder.lose_power()
@@ -137,7 +136,7 @@ def crash_and_return(world: World, holder: Machine) -> Optional[str]:
 
 
 def waits_for_a_clock(world: World, machine: Machine, booted: float) -> str:
-    """Sees that a machine's daemon waits for a clock since its boot, has the clock be right, and returns what came."""
+    """Checks that a machine's daemon waits for a clock after a boot, sets the clock, and returns the result."""
     told = world.told(machine, DAEMON, booted)
     if WAITS not in told or WAITED in told or world.leader(machine):
         raise Unlike(f"the daemon of {machine.name} waits for no clock: {told.strip() or 'it said nothing'}")
@@ -151,7 +150,7 @@ def waits_for_a_clock(world: World, machine: Machine, booted: float) -> str:
 
 @scenario(LONG)
 def crash_and_quick_return(world: World, holder: Machine) -> Optional[str]:
-    """The primary's machine loses its power and is back at once."""
+    """The primary's machine loses its power and boots again immediately."""
     holder.lose_power()
     world.boot(holder, wait=False)
     return None
@@ -159,7 +158,7 @@ def crash_and_quick_return(world: World, holder: Machine) -> Optional[str]:
 
 @scenario(LONG)
 def power_off_and_return(world: World, holder: Machine) -> Optional[str]:
-    """The primary's machine is shut down in order, and comes back after a takeover."""
+    """The primary's machine is shut down normally, and boots again after a takeover."""
     # (nothing else is run in a machine that goes off: it would be waited for)
     holder.run("systemctl", "poweroff", "--no-block")
     world.await_that("it is off", lambda: not holder.is_up(), PATIENCE)
@@ -170,7 +169,7 @@ def power_off_and_return(world: World, holder: Machine) -> Optional[str]:
 
 @scenario(LONG + PATIENCE)
 def all_lose_power(world: World, holder: Machine) -> Optional[str]:
-    """All three machines lose their power and come back; an operator grants the ticket."""
+    """All three machines lose their power and boot again; an operator grants the ticket."""
     for machine in world.machines.values():
         machine.lose_power()
     for machine in world.machines.values():
@@ -204,7 +203,7 @@ def daemon_killed(world: World, holder: Machine) -> Optional[str]:
 
 @scenario(NONE)
 def both_killed(world: World, holder: Machine) -> Optional[str]:
-    """The primary's daemon and follower are killed together."""
+    """The primary's daemon and follower are killed at the same time."""
     world.send(holder, "KILL", DAEMON, FOLLOWER)
     stays(world, holder, EXPIRE)
     return None
@@ -212,7 +211,7 @@ def both_killed(world: World, holder: Machine) -> Optional[str]:
 
 @scenario(LONG, gate=True)
 def both_killed_and_hanging_stop(world: World, holder: Machine) -> Optional[str]:
-    """Daemon and follower are killed together, the daemon does not come back, and the server's stop hangs."""
+    """Daemon and follower are killed at the same time, the daemon does not start again, and the server's stop hangs."""
     holder.must("systemctl", "mask", "--runtime", DAEMON)
     try:
         pids = [world.pid(holder, DAEMON), world.pid(holder, FOLLOWER)]
@@ -301,7 +300,7 @@ def server_stands_still(world: World, holder: Machine) -> Optional[str]:
 
 @scenario(LONG)
 def cut_off(world: World, holder: Machine) -> Optional[str]:
-    """The primary's machine is cut off from the others."""
+    """The primary's machine is disconnected from the others."""
     holder.cut()
     try:
         taken_over(world, holder)
@@ -313,7 +312,7 @@ def cut_off(world: World, holder: Machine) -> Optional[str]:
 
 @scenario(LONG)
 def cut_off_and_hanging_stop(world: World, holder: Machine) -> Optional[str]:
-    """The primary's machine is cut off, and its server's stop hangs."""
+    """The primary's machine is disconnected, and its server's stop hangs."""
     holder.cut()
     try:
         holder.must("kill", "-STOP", postmaster(holder))
@@ -325,7 +324,7 @@ def cut_off_and_hanging_stop(world: World, holder: Machine) -> Optional[str]:
 
 @scenario(LONG)
 def no_majority(world: World, holder: Machine) -> Optional[str]:
-    """The other two members are gone until the lease is over, and come back."""
+    """The other two members do not run until the lease is over, and then start again."""
     other = world.other(holder)
     world.third.lose_power()
     other.cut()
@@ -339,7 +338,7 @@ def no_majority(world: World, holder: Machine) -> Optional[str]:
 
 @scenario(SHORT)
 def restart_without_the_replica(world: World, holder: Machine) -> Optional[str]:
-    """The replica's machine is off while the primary's server is killed: no peer says that nothing is lacking."""
+    """The replica's machine is off when the primary's server is killed: no peer knows whether data are missing."""
     other = world.other(holder)
     other.lose_power()
     try:
@@ -422,7 +421,7 @@ def upgrade(world: World, holder: Machine) -> Optional[str]:
 
 @scenario(NONE, image=NEEDRESTART)
 def needrestart_after_an_upgrade(world: World, holder: Machine) -> Optional[str]:
-    """A library of daemon and follower is upgraded, and needrestart runs with the package's file, and without it."""
+    """A library of daemon and follower is upgraded, and needrestart runs with and without the package's file."""
     units = (DAEMON, FOLLOWER)
     replaced = replace_library(world, holder, *units)
     holder.write(SERVER_RC, SERVER_IS_LEFT)
@@ -469,7 +468,7 @@ def switchover(world: World, holder: Machine) -> Optional[str]:
 
 @scenario(SHORT)
 def switchover_with_a_slow_stop(world: World, holder: Machine) -> Optional[str]:
-    """An operator moves the ticket by booth-switchover, and the server's stop takes 4 s more."""
+    """An operator moves the ticket by booth-switchover, and the server's stop takes 4 s longer."""
     other = world.other(holder)
     with drop_in(holder, UNIT, SLOW_STOP):
         holder.must("booth-switchover", TICKET, other.address, timeout=120)

@@ -23,7 +23,7 @@ TICKET, SERVER, NAME = "db8", "15/main", "15-main"
 UNIT = f"postgresql@{NAME}.service"
 FOLLOWER, DAEMON, WATCH = f"booth-follow@{TICKET}.service", "booth@booth.service", f"booth-postgresql@{NAME}.service"
 ADDRESSES = {"one": "10.77.0.1", "two": "10.77.0.2", "third": "10.77.0.3"}
-# (on a machine that does much else, nothing is done in its time with less)
+# (on a busy machine, nothing is done in its time with less)
 EXPIRE = int(os.environ.get("BOOTH_MACHINES_EXPIRE", "20"))
 AFTER, TIMEOUT, RETRIES = 5, 1, 3
 # what a first start is silent for, a takeover takes at most from the holder's end, and a steady state is waited for
@@ -44,7 +44,7 @@ STREAMS = "SELECT count(*) FROM pg_stat_wal_receiver WHERE status = 'streaming'"
 
 
 class Unlike(Exception):
-    """What was to come did not come; the text says what."""
+    """An expected event did not happen; the text describes it."""
 
 
 class World:
@@ -59,7 +59,7 @@ class World:
     # ---- looks
 
     def sql(self, site: Machine, statement: str) -> str:
-        """Returns what a site's server answers, and nothing if it does not."""
+        """Returns the answer of a site's server, or nothing if it does not answer."""
         as_owner = ("timeout", "-s", "KILL", "5", "runuser", "-u", "postgres", "--")
         done = site.run(*as_owner, "psql", "-XAtqc", statement, "postgres")
         return done.stdout.decode().strip() if done.returncode == 0 else ""
@@ -77,14 +77,14 @@ class World:
         return self.two if site is self.one else self.one
 
     def holder(self) -> Optional[Machine]:
-        """Returns the site whose server takes writes and that lists itself, or nothing."""
+        """Returns the site whose server accepts writes and that lists itself as the holder, or nothing."""
         for site in self.sites:
             if site.is_up() and self.writers.takes(site) and self.leader(site) == site.address:
                 return site
         return None
 
     def leader(self, site: Machine) -> str:
-        """Returns which site a site's daemon lists as the holder."""
+        """Returns the site that a site's daemon lists as the holder."""
         listed = site.run("timeout", "5", "booth", "list", "-s", site.address).stdout.decode()
         for line in listed.splitlines():
             if line.startswith(f"ticket: {TICKET},"):
@@ -92,13 +92,14 @@ class World:
         return ""
 
     def rows(self, site: Machine) -> Set[int]:
-        """Returns the numbers of the rows that a site's server has."""
+        """Returns the numbers of the rows on a site's server."""
         return {int(each) for each in self.sql(site, "SELECT number FROM booth_rows").split()}
 
     # ---- waits
 
     def await_that(self, what: str, check: Callable[[], object], seconds: float = PATIENCE) -> float:
-        """Waits until something is so, and returns how long it took. Raises `Unlike` if it does not come."""
+        """Waits until a condition holds, and returns how long this took. Raises `Unlike` if it does not come to hold.
+        """
         began = time.monotonic()
         while not check():
             if time.monotonic() - began > seconds:
@@ -115,22 +116,26 @@ class World:
         return holder
 
     def is_settled(self) -> bool:
-        """Returns whether a site is the primary and holds the ticket, and the other one follows it and is in step."""
+        """Returns whether a site is the primary and holds the ticket, and the other one follows it and has all its
+        data.
+        """
         holder = self.holder()
         return holder is not None and self.is_replica(self.other(holder)) and not self.is_former(self.other(holder))
 
     def is_former(self, site: Machine) -> bool:
-        """Returns whether a site's server was the primary last, as far as it knows, and so is not promoted alone."""
+        """Returns whether a site's server was the last primary, as far as it knows, and so is not promoted without a
+        peer.
+        """
         return bool(site.read(f"/var/lib/booth-postgresql/{NAME}.former"))
 
     # ---- what a scenario does
 
     def boot(self, site: Machine, wait: bool = True) -> None:
-        """Boots a machine again. Its writer begins by itself."""
+        """Boots a machine again. Its writer starts by itself."""
         site.boot(wait)
 
     def repair(self) -> None:
-        """Brings back what a scenario left that did not go as it must, so that the next one can begin."""
+        """Repairs the machines after a scenario that failed, so that the next one can begin."""
         for machine in self.machines.values():
             machine.cut(False)
             if not machine.is_up():
@@ -152,7 +157,7 @@ class World:
         return number
 
     def send(self, site: Machine, signal: str, *units: str) -> None:
-        """Sends a signal to the first process of each unit, all of them at once."""
+        """Sends a signal to the first process of each of these units, all at once."""
         site.must("kill", f"-{signal}", *(self.pid(site, unit) for unit in units))
 
     def restart(self, machine: Machine, unit: str) -> None:
@@ -162,7 +167,7 @@ class World:
             raise Unlike(f"{machine.name}: {unit} does not restart: {self.told(machine, unit, began).strip()}")
 
     def told(self, site: Machine, unit: str, since: float) -> str:
-        """Returns the lines of a unit in a machine's journal since a moment of this process's clock."""
+        """Returns the lines of a unit in a machine's journal since a moment by this process's clock."""
         seconds = int(time.monotonic() - since) + 1
         done = site.run("journalctl", "-u", unit, "-o", "cat", f"--since=-{seconds}s")
         return done.stdout.decode(errors="replace")
@@ -199,7 +204,7 @@ def set_up_cluster(world: World) -> None:
 
 
 def set_up_postgresql(world: World) -> None:
-    """Puts the two servers under the ticket, as POSTGRESQL.md says."""
+    """Makes the two servers follow the ticket, as POSTGRESQL.md says."""
     one, two = world.sites
     for site in world.sites:
         world.await_that(f"{site.name} has a server", lambda site=site: world.sql(site, "SELECT 1") == "1")
@@ -225,7 +230,7 @@ def worlds(
     setting_up: Callable[[World], None] = set_up_postgresql,
     image: booted.Image = booted.POSTGRESQL,
 ) -> Iterator[World]:
-    """Gives a cluster whose servers follow their ticket."""
+    """Yields a cluster whose servers follow their ticket."""
     with booted.machines(f"booth-{os.getpid()}", folder, ADDRESSES, image) as machines:
         world = World(machines, package)
         set_up_cluster(world)

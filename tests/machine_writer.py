@@ -1,5 +1,5 @@
 #!/usr/bin/env python3
-"""Tries to write a row at the local PostgreSQL again and again, and notes each try. It runs inside a machine.
+"""Tries to write a row to the local PostgreSQL repeatedly, and notes each try. It runs inside a machine.
 
 tests/machine_writers.py runs it as `machine_writer.py SITE SOCKET LOG`, as the user that the server runs as. A line of
 the log is a try: when it was sent, when it was answered (seconds of the clock that all machines here share), the number
@@ -17,11 +17,11 @@ SECONDS_TO_ANSWER = 1.0
 
 
 class Refused(Exception):
-    """The server did not do it; the text says why."""
+    """The server refused a statement; the text has the cause."""
 
 
 class Session:
-    """A connection to the server, as the user that has the name of the system's."""
+    """A connection to the server, as the role with the name of the system's user."""
 
     def __init__(self, path: str) -> None:
         self.socket = socket.socket(socket.AF_UNIX, socket.SOCK_STREAM)
@@ -32,7 +32,7 @@ class Session:
         self.until_ready()
 
     def exactly(self, count: int) -> bytes:
-        """Reads so many bytes."""
+        """Reads exactly this many bytes."""
         parts = b""
         while len(parts) < count:
             more = self.socket.recv(count - len(parts))
@@ -47,7 +47,7 @@ class Session:
         return kind, self.exactly(length - 4)
 
     def until_ready(self) -> None:
-        """Reads up to where the server waits, and raises what it refused."""
+        """Reads messages until the server is ready, and raises its refusal."""
         refused: Optional[str] = None
         while True:
             kind, content = self.message()
@@ -74,7 +74,7 @@ class Session:
 
 
 def main(site: str, path: str, log: str) -> None:
-    """Tries until it is ended."""
+    """Tries to write until the process is ended."""
     number = int(time.time() * 1000) * 1000
     session: Optional[Session] = None
     with open(log, "a", encoding="utf-8", buffering=1) as file:

@@ -1,4 +1,4 @@
-"""Writers at each site, and what their tries say: whether two sites took writes at one moment, and how long none did.
+"""Writers at each site, and their notes: whether two sites took writes at the same time, and how long no site did.
 
 It is imported by tests/machines.py, and not run by itself.
 """
@@ -32,7 +32,7 @@ TABLE = "CREATE TABLE IF NOT EXISTS booth_rows (site text, number bigint, at tim
 
 
 class Try(NamedTuple):
-    """A try of a writer; `why` says why it failed."""
+    """An attempt of a writer; `why` is the cause of a failure."""
 
     sent: float
     answered: float
@@ -42,7 +42,7 @@ class Try(NamedTuple):
 
 
 class Figures(NamedTuple):
-    """What tries of several sites say."""
+    """The figures of the attempts of several sites."""
 
     seconds_at_two: float
     commits_at_two: int
@@ -51,13 +51,13 @@ class Figures(NamedTuple):
 
 
 def parsed(line: str) -> Try:
-    """Returns the try of a line."""
+    """Returns the attempt in a line."""
     sent, answered, number, why = line.rstrip("\n").split(" ", 3)
     return Try(float(sent), float(answered), int(number), why == "ok", why)
 
 
 def spells(tries: List[Try]) -> List[Tuple[float, float]]:
-    """Returns the spells in which a site took each write: from the first one's begin to the last one's end."""
+    """Returns the periods in which a site accepted every write: from the begin of the first to the end of the last."""
     found: List[Tuple[float, float]] = []
     goes_on = False
     for each in tries:
@@ -70,12 +70,12 @@ def spells(tries: List[Try]) -> List[Tuple[float, float]]:
 
 
 def overlap(one: List[Tuple[float, float]], other: List[Tuple[float, float]]) -> float:
-    """Returns for how long spells of both sites ran at one moment, in all."""
+    """Returns the total time in which periods of both sites overlap."""
     return sum(max(0.0, min(a[1], b[1]) - max(a[0], b[0])) for a in one for b in other)
 
 
 def figures(tries: Dict[str, List[Try]], begin: float, end: float) -> Figures:
-    """Returns what the tries between two moments say."""
+    """Returns the figures of the attempts between two moments."""
     within = {
         site: [each for each in all_of if begin <= each.sent and each.answered <= end] for site, all_of in tries.items()
     }
@@ -95,13 +95,14 @@ def figures(tries: Dict[str, List[Try]], begin: float, end: float) -> Figures:
 
 
 def inside(tries: List[Try], runs: List[Tuple[float, float]]) -> int:
-    """Returns how many writes a site took while spells of the other one ran."""
+    """Returns how many writes a site accepted during periods of the other one."""
     taken = [each for each in tries if each.is_taken]
     return sum(1 for each in taken if any(run[0] <= each.sent and each.answered <= run[1] for run in runs))
 
 
 class Writers:
-    """A writer at each of these machines, from each boot on: a unit, which runs to the very end of a shutdown."""
+    """A writer at each of these machines, from each boot on. It is a unit that runs until the very end of a shutdown.
+    """
 
     def __init__(self, sites: List[Machine]) -> None:
         self.sites = sites
@@ -112,12 +113,12 @@ class Writers:
             site.write(f"/etc/systemd/system/{UNIT}", UNIT_TEXT.format(site.name))
 
     def begin(self, site: Machine) -> None:
-        """Begins the writer of a machine, for each boot from now on."""
+        """Starts the writer of a machine, now and at each boot."""
         site.must("systemctl", "daemon-reload")
         site.must("systemctl", "enable", "--now", UNIT)
 
     def tries(self) -> Dict[str, List[Try]]:
-        """Returns the tries of each site so far."""
+        """Returns the attempts of each site so far."""
         found = {}
         for site in self.sites:
             # (the last line may be half written)
@@ -126,7 +127,7 @@ class Writers:
         return found
 
     def takes(self, site: Machine) -> bool:
-        """Returns whether the machine's server took the last write, half a second ago at most."""
+        """Returns whether the machine's server accepted the last write, at most half a second ago."""
         try:
             with open(site.root + LOG, "rb") as file:
                 file.seek(max(0, os.fstat(file.fileno()).st_size - BYTES_OF_LAST_LINES))
@@ -137,7 +138,7 @@ class Writers:
         return bool(last) and last[0].is_taken and time.monotonic() - last[0].answered < SECONDS_SINCE_A_WRITE
 
     def lost(self, begin: float, end: float, present: Set[int]) -> int:
-        """Returns how many writes between two moments were taken and are not among the rows that are there."""
+        """Returns how many writes between two moments were accepted and are not among these rows."""
         every = [each for all_of in self.tries().values() for each in all_of if each.is_taken]
         taken = [each for each in every if begin <= each.sent and each.answered <= end]
         return sum(1 for each in taken if each.number not in present)

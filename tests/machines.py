@@ -1,5 +1,5 @@
 #!/usr/bin/env python3
-"""Brings faults about on three booted machines with PostgreSQL under a ticket, and holds the service to one site.
+"""Causes faults on three booted machines with PostgreSQL under a ticket, and checks that one site at most takes writes.
 
 Run it as root, as `python3 tests/machines.py [--package FILE] [--gate] [--list] [SCENARIO ..]`. It boots two sites and
 an arbitrator, sets them up from the package (out/booth-proved_*.deb if none is named) as the documents say, and has a
@@ -52,7 +52,7 @@ def words(arguments: List[str]) -> argparse.Namespace:
 
 
 def package_of(options: argparse.Namespace) -> Optional[str]:
-    """Returns the package that is to be tried, or nothing if there is none."""
+    """Returns the package to test, or nothing if there is none."""
     if options.package:
         return str(options.package)
     built = sorted(glob.glob(f"{TOP}/out/booth-proved_*.deb"))
@@ -60,7 +60,7 @@ def package_of(options: argparse.Namespace) -> Optional[str]:
 
 
 def run(world: World, each: Scenario) -> bool:
-    """Runs a scenario, prints what came of it, and returns whether it went as it must."""
+    """Runs a scenario, prints the result, and returns whether it went as it must."""
     faults: List[str] = []
     began = settled = time.monotonic()
     told: Optional[str] = None
@@ -97,13 +97,13 @@ def run(world: World, each: Scenario) -> bool:
 
 
 def lost_writes(world: World, began: float, ended: float) -> str:
-    """Returns how many writes that were taken between two moments are not at the primary."""
+    """Returns how many writes that were accepted between two moments are not at the primary."""
     holder = world.holder()
     return "?" if holder is None else str(world.writers.lost(began, ended, world.rows(holder)))
 
 
 def try_all(package: str, chosen: List[Scenario], keeps: bool, image: Image) -> bool:
-    """Runs these scenarios on machines of their own over an image, and returns whether all went as they must."""
+    """Runs these scenarios on their own machines over an image, and returns whether all went as they must."""
     folder = tempfile.mkdtemp(prefix="machines-", dir=booted.FOLDER)
     began = time.monotonic()
     try:
@@ -120,7 +120,7 @@ def try_all(package: str, chosen: List[Scenario], keeps: bool, image: Image) -> 
 
 
 def main(arguments: List[str]) -> int:
-    """Does what was asked for, and returns the status."""
+    """Does what the arguments ask for, and returns the status."""
     options = words(arguments)
     if options.list:
         for each in SCENARIOS.values():

@@ -1,11 +1,11 @@
 #!/usr/bin/env python3
-"""Holds boothd and booth-follow to what systemd reads of them: lines with priorities, and notifications.
+"""Checks what systemd reads from boothd and booth-follow: lines with priorities, and notifications.
 
-Run it as `python3 tests/manager.py [BOOTHD BOOTH-FOLLOW]`, which are what `make build` leaves where they are left out.
+Run it as `python3 tests/manager.py [BOOTHD BOOTH-FOLLOW]`, by default those that `make build` leaves.
 It takes some ten seconds, prints a line for each check, ends all that it started, and has the status 1 if a check
 failed. If a program is not built it checks nothing, with status 0.
 
-Nobody listens if booth-follow asks a daemon: it runs its program with the first word, and goes on.
+Nobody listens if booth-follow asks a daemon: it runs its program with the first word, and continues.
 """
 
 import contextlib
@@ -42,7 +42,7 @@ class Place:
 
     @contextlib.contextmanager
     def running(self, words: List[str], journal: bool, **variables: str) -> Iterator["subprocess.Popen[bytes]"]:
-        """Gives a program that runs with these variables of systemd's. Its standard error may be the journal's."""
+        """Yields a program that runs with these variables of systemd. Its standard error may be the journal's."""
         with open(self.errors, "wb") as errors:
             environ = surroundings(**variables, **(stream_of(errors) if journal else {}))
             streams = {"stdin": subprocess.DEVNULL, "stdout": subprocess.DEVNULL, "stderr": errors}
@@ -54,19 +54,20 @@ class Place:
             process.wait()
 
     def lines(self, count: int) -> List[str]:
-        """Returns the lines on standard error, once there are so many."""
+        """Returns the lines on standard error, once there are this many."""
         end = time.monotonic() + PATIENCE
         while content(self.errors).count("\n") < count and time.monotonic() < end:
             time.sleep(0.02)
         return content(self.errors).splitlines()
 
     def daemon(self, program: str) -> List[str]:
-        """Returns the words of the first member's daemon."""
+        """Returns the command of the first member's daemon."""
         places = ["-l", f"{self.folder}/lock", "-d", f"{self.folder}/own"]
         return [program, "daemon", "-c", self.conf, "-s", self.address, *places]
 
     def follower(self, program: str) -> List[str]:
-        """Returns the words of a follower at the first member, whose daemon keeps its clock and does not run."""
+        """Returns the command of a follower at the first member, whose daemon has written its clock and does not run.
+        """
         records = f"{self.folder}/records"
         os.makedirs(records, exist_ok=True)
         keep_clock(records)
@@ -74,13 +75,13 @@ class Place:
 
 
 def stream_of(errors: IO[bytes]) -> Dict[str, str]:
-    """Returns what names this file as the one that the journal reads."""
+    """Returns the name of this file in the form in which systemd names the file that the journal reads."""
     own = os.fstat(errors.fileno())
     return {"JOURNAL_STREAM": f"{own.st_dev}:{own.st_ino}"}
 
 
 def daemon_lines(programs: Tuple[str, str], place: Place) -> None:
-    """a daemon's lines have their priority in the journal, and elsewhere its name"""
+    """a daemon's lines have their priority in the journal, and its name elsewhere"""
     for journal, begins, ready in ((True, "<6>", "<6>"), (False, "boothd: ", "boothd: ")):
         with place.running(place.daemon(programs[0]), journal):
             told = place.lines(2)
@@ -89,7 +90,7 @@ def daemon_lines(programs: Tuple[str, str], place: Place) -> None:
 
 
 def daemon_failures(programs: Tuple[str, str], place: Place) -> None:
-    """a daemon that does not start says why with the priority of a failure"""
+    """a daemon that does not start prints the cause with the priority of a failure"""
     refusals = {"1.2.3": "bad site\n<3>-s ", "127.0.0.9": "127.0.0.9 is not a member\n<3>members of "}
     for address, text in refusals.items():
         lock = ["-l", f"{place.folder}/lock"]
@@ -99,7 +100,7 @@ def daemon_failures(programs: Tuple[str, str], place: Place) -> None:
 
 
 def told_until(systemd: Manager, text: str) -> List[str]:
-    """Returns what the service manager is told up to this text."""
+    """Returns the notifications of the service manager up to this text."""
     told: List[str] = []
     while text not in told:
         told.append(systemd.told())
@@ -107,7 +108,7 @@ def told_until(systemd: Manager, text: str) -> List[str]:
 
 
 def follower_notices(programs: Tuple[str, str], place: Place) -> None:
-    """a follower tells what its service does, that it is ready, and then each second that its turns go on"""
+    """a follower notifies the state of its service, that it is ready, and then each second that its turns continue"""
     for body in ("exit 0", "exec sleep 1000"):
         write_script(f"{place.folder}/program", body)
         with manager(f"{place.folder}/m") as systemd:
@@ -125,7 +126,7 @@ def follower_notices(programs: Tuple[str, str], place: Place) -> None:
 
 
 def follower_lines(programs: Tuple[str, str], place: Place) -> None:
-    """a follower's lines have their priority in the journal, and elsewhere its name"""
+    """a follower's lines have their priority in the journal, and its name elsewhere"""
     write_script(f"{place.folder}/program", "exit 0")
     for journal, begins in ((True, "<"), (False, "booth-follow: ")):
         with place.running(place.follower(programs[1]), journal):
@@ -135,7 +136,7 @@ def follower_lines(programs: Tuple[str, str], place: Place) -> None:
 
 
 def stopped_follower(programs: Tuple[str, str], place: Place) -> None:
-    """a follower that stands still tells nothing, and tells again once it goes on"""
+    """a stopped follower (SIGSTOP) notifies nothing, and notifies again once it continues"""
     write_script(f"{place.folder}/program", "exit 0")
     with manager(f"{place.folder}/m") as systemd:
         with place.running(place.follower(programs[1]), False, NOTIFY_SOCKET=f"{place.folder}/m") as process:
@@ -150,7 +151,7 @@ def stopped_follower(programs: Tuple[str, str], place: Place) -> None:
 
 
 def follower_failures(programs: Tuple[str, str], place: Place) -> None:
-    """a follower that cannot start tells nobody that it is ready, and says why with the priority of a failure"""
+    """a follower that cannot start is never ready, and prints the cause with the priority of a failure"""
     words = place.follower(programs[1])
     os.remove(f"{place.folder}/records/booth.clock")
     with manager(f"{place.folder}/m") as systemd:
@@ -172,7 +173,7 @@ CHECKS: Tuple[Callable[[Tuple[str, str], Place], None], ...] = (
 
 
 def run(programs: Tuple[str, str]) -> int:
-    """Runs each check in a folder of its own, and returns how many failed."""
+    """Runs each check in its own folder, and returns how many failed."""
     failed = 0
     addresses = own_addresses()
     for check in CHECKS:

@@ -1,4 +1,4 @@
-"""Clusters of which a ticket is moved from one site to another, by one command.
+"""Clusters in which one command moves a ticket from one site to another.
 
 It is imported by tests/cluster.py, and not run by itself.
 """
@@ -13,19 +13,19 @@ ROUND_TRIPS = 5
 
 
 def moves(asked, target, *options, name=NAME):
-    """A move that is asked of this member is done."""
+    """A move that was requested of this member is done."""
     says(asked, ("move", *options, name, target.address), 0, f"ticket {name} moved to {target.address}\n")
 
 
 def is_free(cluster, holder):
-    """Nobody holds the ticket that this member gave back, and nobody lists it."""
+    """Nobody holds the ticket that this member released, and no member lists a holder."""
     require(holder.record().until is None, "the lease that was given back is kept")
     shown = lambda: [m.address for m in cluster.members if m.is_running() and m.shown()]
     require(wait_for(lambda: not shown(), PATIENCE), "an owner is listed")
 
 
 def stays_free(cluster):
-    """Nobody takes it over by itself, for longer than a takeover would take."""
+    """No site takes it over by itself, for longer than a takeover would take."""
     end = now() + cluster.times.abstention() + 2 * cluster.times.timeout
     while now() < end:
         holders = [m.address for m in cluster.members if (record := m.record()) and record.holds(now())]
@@ -35,7 +35,7 @@ def stays_free(cluster):
 
 @story
 def many_tickets_of_which_one_is_moved(cluster):
-    """a cluster whose ticket is moved to and fro while others are renewed"""
+    """a cluster whose ticket is moved back and forth while others are renewed"""
     one, two, arbitrator = cluster.members
     cluster.remember()
     cluster.start()

@@ -1,5 +1,5 @@
 #!/usr/bin/env python3
-"""Holds public functions to the names of their definitions.
+"""Checks that public functions have the names of their definitions.
 
 Run it as `python3 tests/names.py`. It reads the sources alone, in a second, and has the status 1 if a name is wrong.
 
@@ -50,7 +50,7 @@ def defined(crate):
 
 
 def values(crate):
-    """The public functions of a crate, each with the names that its results have, those of fields as they are."""
+    """The public functions of a crate, each with the names of its results; the names of fields are unchanged."""
     known = defined(crate)
     for path in sorted(glob.glob(f"{TOP}/crates/{crate}/src/**/*.rt", recursive=True)):
         with open(path, encoding="utf-8") as file:
@@ -66,13 +66,13 @@ def values(crate):
 
 
 def are_alike(one, other):
-    """Whether two words are forms of one, as print and printed are."""
+    """Whether two words are forms of one word, as print and printed are."""
     short, long = sorted((one, other), key=len)
     return short == long or len(short) >= FEWEST_ALIKE and (short in long or short[:-1] == long[: len(short) - 1])
 
 
 def bears(function, definition):
-    """Whether the function bears the definition's name."""
+    """Whether the function has the definition's name."""
     if function == definition:
         return True
     if re.match(r"(of|from)_", function) and definition.endswith("_of"):

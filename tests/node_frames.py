@@ -52,13 +52,13 @@ def at(millis, make, letters, body=b"", **fields):
 
 
 def peers(drops, second_site="0 0 1 0", arbitrator="0 0 1 0"):
-    """The text of the drops and of both others. Hello was sent to each."""
+    """The text of the drops and of the counters of both other members. Hello was sent to each."""
     lines = f"dropped {drops}\nsite 192.168.202.100 {second_site}\n"
     return (lines + f"arbitrator 192.168.203.100 {arbitrator}\n").encode()
 
 
 def nobodys(ticket=TICKET):
-    """The state of a ticket that nobody has."""
+    """The state of a ticket that nobody holds."""
     return frames.ticket_body(ticket, NO_ONE, 0, 0)
 
 
@@ -68,13 +68,15 @@ def heartbeat(sender, leader=None, ticket=TICKET):
 
 
 def in_hex(datagram):
-    """The bytes in words of eight hexadecimal digits, as lines of eight words that go on with the line before."""
+    """The bytes in words of eight hexadecimal digits, in lines of eight words; each line continues the one before."""
     words = [datagram[i : i + 4].hex() for i in range(0, len(datagram), 4)]
     return "".join("\n    " + " ".join(words[i : i + 8]) for i in range(0, len(words), 8))
 
 
 def print_turn(name, about, comes, sends=(), now=NOW, keeps=()):
-    """A turn as a part: what comes from a client, if anything does, and then what is kept, and sent to whom."""
+    """A turn as a part: the arrival from a client, if there is one, then the records that are written, and the messages
+    with their receivers.
+    """
     head = "quiet" if comes is None else f"from client: #{in_hex(comes)}"
     print(f"\n# {name}: {about}\nat {now} {head}")
     for record in keeps:
@@ -89,7 +91,7 @@ def hello(make):
 
 
 def print_requests():
-    """Requests of a client and their replies. What a request says besides shows in no reply."""
+    """Requests of a client and their replies. The other fields of a request change nothing in the reply."""
     said = {"options": 8, "reason": frames.code("Admn"), "result": frames.code("Busy")}
     asked = frames.ticket_body(TICKET, S2, 7, 9)
     other = frames.ticket_body(b"other", 5, 7, 9)
@@ -133,7 +135,7 @@ def print_requests():
 
 
 def print_moments(request):
-    """`CLst` if the clock reads this, and if the reading that is used is that."""
+    """`CLst` with this reading of the clock, and with that reading in use."""
     table = [
         ("back", "the first reading", 5, NOW),
         ("late", "a reading past the seconds of a frame", 4_294_967_296_005, 4_294_967_296_005),

@@ -1,8 +1,8 @@
 #!/usr/bin/env python3
-"""Holds what booth-pacemaker changes in a CIB, and what booth-status says of a cluster, to their manual pages.
+"""Checks the changes of booth-pacemaker in a CIB, and the Pacemaker part of booth-status, against their manual pages.
 
 Run it as `python3 tests/pacemaker_plans.py`. It needs no Pacemaker and nothing that is built: CIBs and what crm_mon
-prints are arranged. It takes a second, prints a line for each story, and has the status 1 where one failed.
+prints are arranged. It takes a second, prints a line for each story, and has the status 1 if one failed.
 """
 
 import os
@@ -37,7 +37,7 @@ stories: List[Callable[[], None]] = []
 
 
 def story(function: Callable[[], None]) -> Callable[[], None]:
-    """Adds a story to those that are told."""
+    """Adds a story to the list of stories."""
     stories.append(function)
     return function
 
@@ -49,7 +49,7 @@ def cib(resources: str = GROUP, constraints: str = "", config: str = "", status:
 
 
 def after(before: str, steps: List[Step]) -> Cib:
-    """The CIB after steps that put constraints and the times there."""
+    """The CIB after steps that put constraints and the times into it."""
     elements, config = [], ""
     for step in steps:
         if step.words[0] == "cibadmin":
@@ -63,7 +63,7 @@ def after(before: str, steps: List[Step]) -> Cib:
 
 @story
 def a_setup_is_whole_and_may_be_repeated() -> None:
-    """a setup writes times, rule and ticket, in this order, and a second one changes nothing"""
+    """a setup writes times, rule and ticket, in this order, and a second setup changes nothing"""
     steps = pacemaker_plan.steps(cib(), WISH)
     same([step.words[0] for step in steps], ["crm_attribute", "cibadmin", "cibadmin"], "the commands")
     whole = after(GROUP, steps)
@@ -79,7 +79,7 @@ def a_setup_is_whole_and_may_be_repeated() -> None:
 
 @story
 def promoted_instances_have_a_lease_of_their_own() -> None:
-    """a promotable clone has a rule and a ticket of its promoted instances alone"""
+    """a promotable clone gets a rule and a ticket for its promoted instances only"""
     resources = GROUP + CLONE
     whole = after(resources, pacemaker_plan.steps(cib(resources), WISH._replace(resources=("all", "pg-clone"))))
     same([(lease.key(), lease.resources) for lease in whole.leases()],
@@ -92,20 +92,20 @@ def promoted_instances_have_a_lease_of_their_own() -> None:
 
 @story
 def constraints_that_are_there_count() -> None:
-    """an operator's own constraint on the ticket is left, and one that ends nothing is refused"""
+    """an operator's own constraint on the ticket stays, and a constraint that ends nothing is refused"""
     own = '<rsc_ticket id="mine" rsc="all" ticket="db8" loss-policy="fence"/>'
-    need(not any("hang" in step.what for step in pacemaker_plan.steps(cib(constraints=own), WISH)), "a second ticket")
+    need(not any("depend" in step.what for step in pacemaker_plan.steps(cib(constraints=own), WISH)), "a second ticket")
     try:
         pacemaker_plan.steps(cib(constraints=own.replace("fence", "freeze")), WISH)
     except ValueError as why:
-        need("loss-policy=freeze: it ends nothing" in str(why), str(why))
+        need("loss-policy=freeze, which ends nothing" in str(why), str(why))
     else:
         need(False, "a constraint that freezes was taken")
 
 
 @story
 def a_removal_leaves_the_ticket() -> None:
-    """a removal deletes rule and times, and the ticket's constraint only if that is asked for"""
+    """a removal deletes rule and times, and deletes the ticket's constraint only if that is requested"""
     whole = after(GROUP, pacemaker_plan.steps(cib(), WISH))
     same([step.what for step in pacemaker_plan.removal(whole, "db8", False)],
          ["delete booth-lease.db8", "delete the lease's times"], "a removal")  # fmt: skip
@@ -115,7 +115,7 @@ def a_removal_leaves_the_ticket() -> None:
 
 @story
 def an_agent_is_made_as_pcs_names_it() -> None:
-    """the agent and its address are a group as pcs names them, behind its storage; a known one is told its tickets"""
+    """the agent and its address are a group after its storage, named as by pcs; a known agent gets its tickets"""
     wish = AgentWish("/etc/booth/booth.conf", "booth", "192.0.2.10/24", "/srv/booth", ("fs",))
     steps = pacemaker_plan.agent_steps(cib(), wish, ["db8"])
     group = ElementTree.fromstring(steps[0].words[-1])
@@ -131,11 +131,11 @@ def an_agent_is_made_as_pcs_names_it() -> None:
 
 @story
 def margins_are_held_to_corosync() -> None:
-    """a margin is at least token, consensus, 2 s and the longest stop, and has to fit into the lease"""
+    """a margin is at least token, consensus, 2 s and the longest stop, and must fit into the lease"""
     wanted = pacemaker_margin.Need(pacemaker_margin.Corosync(3.0, 3.6), 2)
     same(wanted.least(), 11, "the least margin")
     same(pacemaker_margin.lasting(TICKET, Times(60, 11, 2), wanted), 44, "the least expire that outlives a node")
-    short = "the margin is 10 s, and token 3 s, consensus 3.6 s"
+    short = "the margin is 10 s, but token 3 s, consensus 3.6 s"
     for expire, renewal, margin, text in ((60, 20.0, 11, ""), (60, 20.0, 10, short), (20, 10.0, 11, "are 23 s")):
         told = pacemaker_margin.fault(TICKET._replace(expire=expire, renewal=renewal), Times(expire, margin, 2), wanted)
         need(text in told if text else not told, f"{expire}, {renewal}, {margin}: {told!r}")
@@ -158,7 +158,7 @@ def device(name: str, values: Dict[str, str]) -> str:
 
 @story
 def two_nodes_need_unlike_delays() -> None:
-    """two nodes that fence one another are told apart by a delay: one of their own, or by priority"""
+    """two nodes that can fence each other need different delays: of their own devices, or by priority"""
     both = {"pcmk_host_list": "a1 a2"}
     one, other = {"pcmk_host_list": "a1"}, {"pcmk_host_map": "a2:plug2"}
     base, most = "pcmk_delay_base", "pcmk_delay_max"
@@ -190,7 +190,7 @@ def two_nodes_need_unlike_delays() -> None:
 
 @story
 def a_clock_that_is_behind_is_told() -> None:
-    """a node whose wall clock is behind the one that set the last end is told of, and no other one"""
+    """a node whose wall clock is behind the clock that set the last end is reported, and no other node"""
     wall = 1_790_000_000.0
     for ahead, says in ((50.0, 0), (20.0, 0), (49.0 + 40, 1), (-20.0, 0)):
         whole = after(GROUP, pacemaker_plan.steps(cib(), WISH._replace(end=pacemaker_cib.end_at(wall + ahead))))
@@ -213,7 +213,7 @@ WELL = {"fencing": "true", "agent": "Started", "up": "true", "role": "Started", 
 
 
 def said(is_held: bool, lease_left: float, **more: str) -> List[str]:
-    """What is wrong where crm_mon prints this, and this site holds the ticket or does not."""
+    """The problems if crm_mon prints this, and this site holds the ticket or does not."""
     wish = AgentWish("/etc/booth/booth.conf", "booth", "192.0.2.10/24", None, ())
     agent = pacemaker_plan.agent_steps(cib(), wish, ["db8"])[0].words[-1]
     whole = after(GROUP + agent, pacemaker_plan.steps(cib(), WISH._replace(end=date(30))))
@@ -226,7 +226,7 @@ def said(is_held: bool, lease_left: float, **more: str) -> List[str]:
 
 @story
 def a_cluster_is_judged() -> None:
-    """each thing that is wrong with a cluster is a problem, and nothing else is"""
+    """each fault of a cluster is reported as a problem, and nothing else is"""
     down = {"role": "Stopped", "active": "false"}
     rows = [
         (True, {}, []),
@@ -245,7 +245,7 @@ def a_cluster_is_judged() -> None:
 
 
 def main() -> int:
-    """Tells the stories."""
+    """Runs the stories."""
     failed = 0
     for told in stories:
         try:

@@ -106,7 +106,7 @@ os.replace("cib.new", "cib.xml")
 
 
 class Ended(NamedTuple):
-    """How a run ended, what it printed, and how long it took in seconds."""
+    """The outcome of a run: its status, what it printed, and how long it took in seconds."""
 
     status: int
     printed: str
@@ -128,20 +128,20 @@ class Room:
         self.put("resources", "svc\n")
 
     def put(self, name: str, text: str = "") -> None:
-        """Puts a file of the room in its place."""
+        """Writes a file of the room."""
         path = f"{self.folder}/{name}"
         with open(f"{path}.put", "w", encoding="utf-8") as file:
             file.write(text)
         os.replace(f"{path}.put", path)
 
     def drop(self, *names: str) -> None:
-        """Removes files of the room that are there."""
+        """Removes those files of the room that exist."""
         for name in names:
             if os.path.exists(f"{self.folder}/{name}"):
                 os.remove(f"{self.folder}/{name}")
 
     def text(self, name: str) -> str:
-        """What a file of the room has, nothing where it is missing."""
+        """The text of a file of the room, empty if it is missing."""
         try:
             with open(f"{self.folder}/{name}", encoding="utf-8") as file:
                 return file.read()
@@ -163,7 +163,7 @@ class Room:
         )
 
     def end(self) -> str:
-        """The end that the CIB has."""
+        """The end in the CIB."""
         found = re.search(r'operation="gt" start="([^"]*)"', self.text("cib.xml"))
         need(found, "the CIB has no end")
         assert found is not None
@@ -177,7 +177,7 @@ class Room:
         return {**given, **more}
 
     def call(self, *words: str, **more: str) -> Ended:
-        """Runs a program of the package with these words, and with these variables more."""
+        """Runs a program of the package with these arguments, and with these additional variables."""
         path, *rest = words
         begun = time.monotonic()
         streams = {"stdin": subprocess.DEVNULL, "stdout": subprocess.PIPE, "stderr": subprocess.STDOUT}
@@ -191,7 +191,7 @@ class Room:
         return [call for call in found if not names or call.split()[0] in names]
 
     def until(self, holds: Callable[[], bool], seconds: float, what: str) -> float:
-        """Waits until something holds, and returns how long that took."""
+        """Waits until a condition holds, and returns how long this took."""
         begun = time.monotonic()
         while not holds():
             if time.monotonic() > begun + seconds:
@@ -201,12 +201,12 @@ class Room:
 
 
 def date(seconds: float) -> str:
-    """An end so many seconds from now, by the wall clock."""
+    """An end this many seconds from now, by the wall clock."""
     return time.strftime("%Y-%m-%d %H:%M:%SZ", time.gmtime(int(time.time() + seconds)))
 
 
 def same(found: object, wanted: object, what: str) -> None:
-    """Refuses another value."""
+    """Raises an error if the two values differ."""
     need(found == wanted, f"{what}: {found!r}, and not {wanted!r}")
 
 

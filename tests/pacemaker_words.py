@@ -1,9 +1,9 @@
 #!/usr/bin/env python3
-"""Holds follow-pacemaker to what booth-pacemaker(8) says of each word.
+"""Checks each argument of follow-pacemaker against booth-pacemaker(8).
 
-Run it as `python3 tests/pacemaker_words.py [WORD..]`, which tells the stories whose name has one of the words, or all.
+Run it as `python3 tests/pacemaker_words.py [WORD..]`, which runs the stories whose name has one of the words, or all.
 It needs no Pacemaker and nothing that is built: stand-ins on PATH note what is called (tests/pacemaker_room.py). It
-takes less than a minute, prints a line for each story, and has the status 1 where one failed.
+takes less than a minute, prints a line for each story, and has the status 1 if one failed.
 """
 
 import concurrent.futures
@@ -29,7 +29,7 @@ stories: List[Story] = []
 
 
 def story(function: Story) -> Story:
-    """Adds a story to those that are told."""
+    """Adds a story to the list of stories."""
     stories.append(function)
     return function
 
@@ -47,7 +47,7 @@ def at_site(room: Room, end: str = CLOSED) -> None:
 
 @story
 def words_are_refused(room: Room) -> None:
-    """other words, and a run without a ticket, are refused with a line"""
+    """other words, and a run without a ticket, are refused with a line that has the cause"""
     for words in ([], ["other"], ["renew"], ["start", "now"], ["adopt", "booth"], ["clock"]):
         done = word(room, *words)
         need(done.status == 2 and done.printed.startswith("usage: "), f"{words}: {done}")
@@ -57,7 +57,7 @@ def words_are_refused(room: Room) -> None:
 
 @story
 def a_renewal_sets_the_end(room: Room) -> None:
-    """a renewal sets the end that is left less the margin, by the wall clock, and grants nothing"""
+    """a renewal sets the end to the remaining time less the margin, by the wall clock, and grants nothing"""
     at_site(room)
     before = time.time()
     done = word(room, "renew", "5000")
@@ -73,7 +73,7 @@ def a_renewal_sets_the_end(room: Room) -> None:
 
 @story
 def a_renewal_that_fails_leaves_the_end(room: Room) -> None:
-    """a renewal with too little left, without a rule, or that the CIB does not take, fails and leaves the end"""
+    """if too little time is left, there is no rule, or the CIB refuses, a renewal fails and leaves the end"""
     at_site(room)
     done = word(room, "renew", "5000", left=10_500)
     need(done.status == 1 and "its margin is 10 s" in done.printed, f"{done}")
@@ -83,7 +83,7 @@ def a_renewal_that_fails_leaves_the_end(room: Room) -> None:
     room.drop("cibadmin.fails")
     room.put("cibadmin.hangs")
     done = word(room, "renew", "5000")
-    need(done.status == 1 and "was not over in 2 s" in done.printed and done.took < 8, f"{done}")
+    need(done.status == 1 and "did not end within 2 s" in done.printed and done.took < 8, f"{done}")
     same(room.end(), CLOSED, "the end")
     done = word(room, "renew", "5000", BOOTH_TICKET="other")
     need(done.status == 1 and "booth-pacemaker setup other RESOURCE.." in done.printed, f"{done}")
@@ -94,10 +94,10 @@ def a_renewal_that_fails_leaves_the_end(room: Room) -> None:
 
 @story
 def a_start_grants_behind_an_end_alone(room: Room) -> None:
-    """a start grants Pacemaker's ticket only if the rule's end is to come"""
+    """a start grants Pacemaker's ticket only if the rule's end has not passed"""
     at_site(room)
     done = word(room, "start")
-    need(done.status == 1 and "is over, so nothing is granted" in done.printed, f"{done}")
+    need(done.status == 1 and "has passed, so Pacemaker's ticket is not granted" in done.printed, f"{done}")
     need(not room.calls("crm_ticket"), room.text("calls"))
     at_site(room, date(20))
     same(word(room, "start").status, 0, "the start")
@@ -107,12 +107,12 @@ def a_start_grants_behind_an_end_alone(room: Room) -> None:
     room.drop("ticket.fails")
     room.put("ticket.hangs")
     done = word(room, "start")
-    need(done.status == 1 and "crm_ticket was not over in 5 s" in done.printed, f"{done}")
+    need(done.status == 1 and "crm_ticket did not end within 5 s" in done.printed, f"{done}")
 
 
 @story
 def a_check_looks_at_both(room: Room) -> None:
-    """a check is 0 for a ticket that is granted with an end to come, 3 for one that is revoked, and else 1"""
+    """a check has status 0 for a granted ticket whose end has not passed, 3 for a revoked one, and otherwise 1"""
     rows = [("true", date(20), 0), ("true", CLOSED, 1), ("false", date(20), 3), ("", date(20), 1)]
     for granted, end, status in rows:
         at_site(room, end)
@@ -124,7 +124,7 @@ def a_check_looks_at_both(room: Room) -> None:
 
 @story
 def a_stop_waits_for_its_own_resources(room: Room) -> None:
-    """a stop revokes, closes the rule, and waits for the resources of this ticket alone"""
+    """a stop revokes, closes the rule, and waits only for the resources of this ticket"""
     at_site(room, date(20))
     room.put("resources", "svc\nother\n")
     room.put("other.role", "Started")
@@ -140,7 +140,7 @@ def a_stop_waits_for_its_own_resources(room: Room) -> None:
 
 @story
 def a_stop_ends_with_what_is_left(room: Room) -> None:
-    """a stop and a kill of what does not stop end with 1 in the time that is left, or in STOP_SECONDS"""
+    """if a resource does not stop, a stop and a kill end with 1 within the remaining time, or within STOP_SECONDS"""
     room.put("svc.role", "Started")
     room.put("stays")
     for words, left, more in (("stop", 4000, {}), ("kill", 4000, {}), ("stop", 0, {"STOP_SECONDS": "4"})):
@@ -152,7 +152,7 @@ def a_stop_ends_with_what_is_left(room: Room) -> None:
 
 @story
 def either_way_ends_it(room: Room) -> None:
-    """a revoke that hangs leaves a stop to the rule, and a rule that cannot be closed to the revoke; one must do"""
+    """if the revoke hangs, the rule ends the service, and if the rule cannot be closed, the revoke; one must work"""
     at_site(room, date(20))
     room.put("svc.role", "Stopped")
     room.put("ticket.hangs")
@@ -160,7 +160,7 @@ def either_way_ends_it(room: Room) -> None:
     need(done.status == 0 and "one of two ways" in done.printed and room.end() == CLOSED, f"{done}")
     room.put("cibadmin.fails")
     done = word(room, "stop")
-    need(done.status == 1 and "the guards end it" in done.printed, f"{done}")
+    need(done.status == 1 and "the guards end the service" in done.printed, f"{done}")
     room.drop("ticket.hangs")
     done = word(room, "stop")
     need(done.status == 0 and "one of two ways" in done.printed, f"{done}")
@@ -171,7 +171,7 @@ def either_way_ends_it(room: Room) -> None:
 
 @story
 def what_the_cluster_does_is_told_apart(room: Room) -> None:
-    """what starts, is promoted or is not listed is not over; a lease of promoted instances waits for a demotion"""
+    """a resource that starts, is promoted or is not listed still runs; promoted instances end by a demotion"""
     lines = [
         ('<resource id="svc" role="Stopped" active="false"/>', True, True),
         ('<resource id="svc" role="Stopped" active="false" pending="Starting"/>', False, False),
@@ -194,7 +194,7 @@ with open("/proc/sys/kernel/random/boot_id", "rb") as own_boot:
 
 
 def clock_file(room: Room, offset: float, boot: bytes = BOOT) -> None:
-    """The daemon's clock is so many seconds ahead of the time since the boot, in this boot or in another one."""
+    """The daemon's clock is this many seconds ahead of the time since the boot, in this boot or in another one."""
     with open(f"{room.folder}/booth.clock", "wb") as file:
         file.write((1).to_bytes(8, "big") + round(offset * 1000).to_bytes(8, "big") + bytes(8) + boot)
 
@@ -206,10 +206,11 @@ def of_daemon() -> float:
 
 @story
 def a_lease_is_no_longer_than_any(room: Room) -> None:
-    """a renewal of a lease that is longer than expire is refused, and one that is as long sets no later end"""
+    """a renewal with a lease longer than expire is refused, and one with exactly expire sets no later end"""
     at_site(room)
     done = word(room, "renew", "5000", left=99_000)
-    need(done.status == 1 and "set up for an expire of 60 s: either its clock is behind" in done.printed, f"{done}")
+    told = "set up with an expire of 60 s. Either the daemon's clock is behind"
+    need(done.status == 1 and told in done.printed, f"{done}")
     same(room.end(), CLOSED, "the end")
     same(word(room, "renew", "5000", left=61_900).status, 0, "a lease that was listed in whole seconds")
     need(pacemaker_cib.seconds_of(room.end()) <= time.time() + 50, room.end())
@@ -217,7 +218,7 @@ def a_lease_is_no_longer_than_any(room: Room) -> None:
 
 @story
 def a_renewal_notes_the_clock(room: Room) -> None:
-    """a renewal notes beside the records how far the daemon's clock is ahead of the wall clock, then sets the end"""
+    """a renewal first notes how far the daemon's clock is ahead of the wall clock, and then sets the end"""
     for ahead, noted in ((0.0, ""), (40.0, "40.0"), (40.2, "40.0"), (-3.0, "-3.0"), (0.0, "0.0")):
         at_site(room)
         clock_file(room, of_daemon() + ahead)
@@ -236,13 +237,13 @@ def a_renewal_notes_the_clock(room: Room) -> None:
 
 
 def guard_holds(room: Room, end: str, clock: float) -> None:
-    """The guard read an end first when the wall clock that set it was ahead of the time since the boot by so much."""
+    """The guard first read an end when the wall clock that set it was this far ahead of the time since the boot."""
     room.put("run/ends.json", json.dumps({"booth-lease.db8": [CLOSED, 0.0, False, end, clock]}))
 
 
 @story
 def a_clock_that_is_behind_is_refused(room: Room) -> None:
-    """a daemon is refused where the wall clock is behind the last daemon's, until the lease is over by that too"""
+    """while the wall clock is behind the last daemon's, no daemon starts, until the lease is over by it too"""
     # (the end ahead of the wall clock here, what the guard knows of the clock that set it, the note; the status)
     rows = [
         (45.0, None, "", 0, "an end that was set just now by a clock that is right"),
@@ -277,7 +278,7 @@ def a_clock_that_is_behind_is_refused(room: Room) -> None:
 
 @story
 def what_a_clock_cannot_tell(room: Room) -> None:
-    """a note without a number and a CIB that cannot be read start no daemon; a ticket without a lease is no reason"""
+    """with a bad note or an unreadable CIB no daemon starts; a ticket without a lease does not prevent a start"""
     at_site(room)
     room.put(".booth-clock", "x\n")
     done = word(room, "clock", room.folder, left=0)
@@ -290,13 +291,13 @@ def what_a_clock_cannot_tell(room: Room) -> None:
 
 
 def adopts(room: Room, **more: str) -> Ended:
-    """Runs what comes before a follower, which writes the file db8.end."""
+    """Runs the step before a follower, which writes the file db8.end."""
     given = {"BOOTH_FOLLOW_END": f"{room.folder}/db8.end", "ADDRESS": "192.0.2.10", **more}
     return word(room, "adopt", "/run/booth.conf", room.folder, left=0, **given)
 
 
 def lists(room: Room, holder: str, seconds: float) -> None:
-    """The daemon lists a holder whose lease lasts so long; its clock is 1000 s after the time since the boot."""
+    """The daemon lists a holder whose lease lasts this long; its clock is 1000 s ahead of the time since the boot."""
     end = time.gmtime(1000 + time.clock_gettime(time.CLOCK_BOOTTIME) + seconds)
     until = time.strftime(", expires: %Y-%m-%d %H:%M:%S", end) if seconds else ""
     room.put("list", f"ticket: mail, leader: none\nticket: db8, leader: {holder}{until}\n")
@@ -304,7 +305,7 @@ def lists(room: Room, holder: str, seconds: float) -> None:
 
 @story
 def a_follower_that_begins_finds_the_end(room: Room) -> None:
-    """adopt waits until the daemon has renewed, sets the rule's end by that, and arms it by the daemon's clock"""
+    """adopt waits until the daemon has renewed, sets the rule's end by that lease, and arms it by the daemon's clock"""
     room.put("granted", "true")
     at_site(room, date(30))
     lists(room, "192.0.2.10", 11)
@@ -322,21 +323,21 @@ def a_follower_that_begins_finds_the_end(room: Room) -> None:
 
 @story
 def a_follower_waits_for_a_renewal(room: Room) -> None:
-    """adopt takes no lease that is longer than any can be: the daemon's clock is behind that of its records"""
+    """adopt ignores a lease longer than the longest possible: the daemon's clock is behind that of its records"""
     room.put("granted", "true")
     at_site(room, date(30))
     clock_file(room, 1000)
     lists(room, "192.0.2.10", 95)
     threading.Timer(2, lambda: lists(room, "192.0.2.10", 50)).start()
     done = adopts(room)
-    need(done.status == 0 and done.took > 1.5 and "none that this daemon has renewed" in done.printed, f"{done}")
+    need(done.status == 0 and done.took > 1.5 and "daemon has not yet renewed the listed" in done.printed, f"{done}")
     same(done.printed.count("renewed"), 1, "the lines")
     need(int(room.text("db8.end")) - 1000 - time.clock_gettime(time.CLOCK_BOOTTIME) <= 50, room.text("db8.end"))
 
 
 @story
 def a_follower_that_begins_finds_nothing(room: Room) -> None:
-    """adopt writes nothing for a ticket that is revoked, that another site holds, or whose end comes"""
+    """adopt writes nothing for a ticket that is revoked, that another site holds, or whose end is near"""
     clock_file(room, 1000)
     rows = [("false", 30, "192.0.2.10", 50), ("true", 30, "192.0.2.20", 50), ("true", 30, "none", 0)]
     rows += [("true", 4, "192.0.2.10", 11)]
@@ -350,7 +351,7 @@ def a_follower_that_begins_finds_nothing(room: Room) -> None:
 
 
 def outcome(told: Story) -> bool:
-    """Whether a story passes, in a room of its own."""
+    """Whether a story passes, in its own room."""
     with scratch("booth-pacemaker-") as folder:
         begun = time.monotonic()
         try:
@@ -363,7 +364,7 @@ def outcome(told: Story) -> bool:
 
 
 def main(words: List[str]) -> int:
-    """Tells the stories, or those whose name has one of the words."""
+    """Runs the stories, or those whose name has one of the words."""
     begun = time.monotonic()
     chosen = [each for each in stories if not words or any(word in each.__name__ for word in words)]
     # (most of their time they wait)

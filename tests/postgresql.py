@@ -1,5 +1,5 @@
 #!/usr/bin/env python3
-"""Holds follow-postgresql and booth-postgresql to docs/POSTGRESQL.md, with two real servers on this machine.
+"""Checks follow-postgresql and booth-postgresql against docs/POSTGRESQL.md, with two real servers on this machine.
 
 Run it as root, as `python3 tests/postgresql.py`. It takes a minute or two, prints a line for each story, ends all that
 it started, and has the status 1 if a story failed, and 77 if PostgreSQL or something else is missing, which it says.
@@ -45,18 +45,18 @@ stories: List[Story] = []
 
 
 def story(function: Story) -> Story:
-    """Adds a story, whose docstring says what it shows."""
+    """Adds a story, whose docstring is the sentence that it checks."""
     stories.append(function)
     return function
 
 
 def refused(done: Ended, text: str) -> None:
-    """Holds a run to one that is refused with this text."""
+    """Checks that a run was refused with this text."""
     need(done.status == 1 and text in done.printed, f"not refused with {text!r}: {done}")
 
 
 def write(site: Site, first: int, last: int) -> None:
-    """Writes rows of these numbers."""
+    """Writes rows with these numbers."""
     rows = f"SELECT '{site.name}', n FROM generate_series({first}, {last}) n"
     need(site.ask(f"INSERT INTO booth_rows {rows} RETURNING 1"), f"{site.name} takes no rows")
 
@@ -67,7 +67,7 @@ def postmaster(site: Site) -> str:
 
 
 def promote(site: Site) -> None:
-    """Runs `start`, and has the follower's state say that the service runs."""
+    """Runs `start`, and sets the follower's state to a running service."""
     site.tell("starting")
     done = site.word("start")
     need(done.status == 0 and site.is_primary(), f"{site.name} is not promoted: {done}")
@@ -75,7 +75,7 @@ def promote(site: Site) -> None:
 
 
 def demote(site: Site, word: str = "stop") -> float:
-    """Runs `stop` or `kill`, sees that no primary runs afterwards, and returns how long the run took."""
+    """Runs `stop` or `kill`, checks that no primary runs afterwards, and returns how long the run took."""
     site.tell("stopping")
     done = site.word(word)
     need(done.status == 0 and not site.is_primary(), f"{site.name}: {word}: {done}")
@@ -86,7 +86,7 @@ def demote(site: Site, word: str = "stop") -> float:
 
 
 def turn_off(site: Site) -> None:
-    """Ends the server and what watches it, as a machine that is off."""
+    """Ends the server and the unit that watches it, as if the machine were off."""
     site.must("systemctl", "stop", WATCH)
     site.run("pkill", "-KILL", "-x", "postgres")
     site.must("systemctl", "stop", UNIT)
@@ -104,7 +104,7 @@ def turn_on(site: Site) -> None:
 
 @story
 def setup_refuses(pair: Pair) -> None:
-    """setup refuses what it cannot do, says why, and writes nothing then"""
+    """setup refuses what it cannot do, prints the cause, and writes nothing then"""
     one, two = pair.sites
     for site in pair.sites:
         site.make_server()
@@ -121,7 +121,7 @@ def setup_refuses(pair: Pair) -> None:
 
 @story
 def a_pair_is_set_up(pair: Pair) -> None:
-    """the primary runs on, the other server becomes a copy of it, and a second run changes nothing"""
+    """the primary continues to run, the other server becomes a copy of it, and a second setup changes nothing"""
     one, two = pair.sites
     before = postmaster(one)
     one.ask(machine_writers.TABLE)
@@ -134,7 +134,7 @@ def a_pair_is_set_up(pair: Pair) -> None:
     again = one.set_up("--primary")
     need(again.status == 0 and "\nwrite " not in f"\n{again.printed}", f"a second run: {again}")
     two.write(PASSWORDS, one.read(PASSWORDS), 0o600)
-    refused(two.set_up("--standby"), f"that {UNIT} did not start: stop it")
+    refused(two.set_up("--standby"), f"a server that {UNIT} did not start runs on")
     two.control("stop")
     done = two.set_up("--standby")
     need(done.status == 0 and two.streams() and two.rows() == one.rows(), f"setup --standby: {done}")
@@ -154,7 +154,7 @@ def a_pair_is_set_up(pair: Pair) -> None:
 
 @story
 def check_and_stop_before_a_follower(pair: Pair) -> None:
-    """check tells a primary, a standby and nothing apart; stop demotes a primary that no unit started"""
+    """check distinguishes a primary, a standby and no server; stop demotes a primary that no unit started"""
     one, two = pair.sites
     need((one.word("check").status, two.word("check").status) == (0, 3), "check of a primary and of a standby")
     before = postmaster(two)
@@ -167,7 +167,7 @@ def check_and_stop_before_a_follower(pair: Pair) -> None:
 
 @story
 def start_promotes(pair: Pair) -> None:
-    """start promotes within the time that is left, and no second site; check says that it cannot say"""
+    """start promotes within the remaining time, and at one site only; check reports an unknown state as such"""
     one, two = pair.sites
     done = one.word("start", left=900)
     need(done.status == 1 and "leaves no time" in done.printed and one.is_standby(), f"a start without time: {done}")
@@ -185,7 +185,7 @@ def start_promotes(pair: Pair) -> None:
 
 @story
 def stop_and_takeover(pair: Pair) -> None:
-    """after a stop the other site has each row, and the former primary follows it with no rewind"""
+    """after a stop the other site has every row, and the former primary follows it without a rewind"""
     one, two = pair.sites
     write(one, 21, 30)
     demote(one)
@@ -193,12 +193,12 @@ def stop_and_takeover(pair: Pair) -> None:
     need({*range(1, 31)} <= two.rows(), "rows are lost by a stop")
     write(two, 31, 40)
     await_that("the former primary has the rows", lambda: 40 in one.rows())
-    need("parted" not in one.told(), f"it was rewound: {one.told()}")
+    need("diverged" not in one.told(), f"it was rewound: {one.told()}")
 
 
 @story
 def kill_of_what_hangs(pair: Pair) -> None:
-    """kill ends a server that stands still at once; the other site gets what it lacks before it is promoted"""
+    """kill ends a stopped server (SIGSTOP) at once; the other site is promoted after it has got the missing data"""
     one, two = pair.sites
     one.must("systemctl", "stop", UNIT)
     write(two, 41, 50)
@@ -213,7 +213,7 @@ def kill_of_what_hangs(pair: Pair) -> None:
 
 @story
 def what_ended_by_itself_is_started_again(pair: Pair) -> None:
-    """a primary that ends by itself is seen in seconds, and its follower is started again; no row is lost"""
+    """a primary that ends by itself is noticed within seconds, and its follower starts it again; no row is lost"""
     one, two = pair.sites
     follower = f"booth-follow@{TICKET}.service"
     one.write(f"/etc/systemd/system/{follower}", "[Service]\nExecStart=/bin/sleep 1000\n")
@@ -233,7 +233,7 @@ def what_ended_by_itself_is_started_again(pair: Pair) -> None:
 
 @story
 def alone_it_is_not_promoted(pair: Pair) -> None:
-    """where no site answers, what may lack data is not promoted, until an operator accepts that"""
+    """if no site answers, a server that may lack data is not promoted until an operator accepts that"""
     one, two = pair.sites
     await_that("it is noted that it follows", lambda: not os.path.exists(f"{two.root}{KEPT}/{NAME}.former"))
     turn_off(two)
@@ -247,14 +247,14 @@ def alone_it_is_not_promoted(pair: Pair) -> None:
     one.must("booth-postgresql", "may-promote", NAME)
     time.sleep(3)
     one.hold(17, 60)
-    refused(one.word("start"), "it was a primary before, no peer answers")
+    refused(one.word("start"), "no peer answers, and since this server was the primary")
     turn_off(one)
     turn_on(two)
     step = two.read(f"{KEPT}/{NAME}.in-step")
     two.write(f"{KEPT}/{NAME}.in-step", f"{int(step) - LONG_AGO}\n")
     refused(two.word("start"), "s ago, more than 3600 s")
     os.unlink(f"{two.root}{KEPT}/{NAME}.in-step")
-    refused(two.word("start"), "it never was in step")
+    refused(two.word("start"), "this server never had all data of a primary")
     two.must("booth-postgresql", "accept", NAME)
     promote(two)
     need(80 not in two.rows(), "it has rows that it cannot have")
@@ -263,7 +263,7 @@ def alone_it_is_not_promoted(pair: Pair) -> None:
 
 @story
 def a_former_primary_is_rewound(pair: Pair) -> None:
-    """a former primary that has more than the new one is rewound, and drops that"""
+    """a former primary with more data than the new one is rewound, and loses that data"""
     one, two = pair.sites
     turn_on(one)
     await_that("the former primary follows", one.streams)
@@ -274,7 +274,7 @@ def a_former_primary_is_rewound(pair: Pair) -> None:
 
 @story
 def what_cannot_be_rewound_is_copied(pair: Pair) -> None:
-    """what pg_rewind cannot bring back is copied only where setup allowed that, and what it had stays beside it"""
+    """if pg_rewind fails, data are copied only if setup allowed that, and the old data stay in another folder"""
     one, two = pair.sites
     demote(two)
     turn_off(two)
@@ -296,13 +296,13 @@ def what_cannot_be_rewound_is_copied(pair: Pair) -> None:
 
 @story
 def half_rebuilt_data_are_not_started(pair: Pair) -> None:
-    """data that are half rebuilt start no server, and settings of another hand are taken out before a start"""
+    """half rebuilt data start no server, and settings that an operator wrote are removed before a start"""
     one, _ = pair.sites
     one.must("systemctl", "stop", WATCH)
     one.must("systemctl", "stop", UNIT)
     one.write(f"{KEPT}/{NAME}.rebuilding", "changing nobody\n")
     need(one.run("systemctl", "start", UNIT).status == 1 and not one.ask("SELECT 1"), "half rebuilt data are started")
-    refused(one.word("start"), "is being brought up")
+    refused(one.word("start"), "are being rewound or copied")
     need(one.word("stop").status == 0, "a stop of what is rebuilt")
     os.unlink(f"{one.root}{KEPT}/{NAME}.rebuilding")
     turn_on(one)
@@ -313,7 +313,7 @@ def half_rebuilt_data_are_not_started(pair: Pair) -> None:
 
 @story
 def synchronous_loses_nothing(pair: Pair) -> None:
-    """with --synchronous no answered write is lost by a takeover, and writes wait while the other site is away"""
+    """with --synchronous a takeover loses no confirmed write, and writes wait while the other site is away"""
     one, two = pair.sites
     for site, kind in ((two, "--primary"), (one, "--standby")):
         done = site.set_up(kind, "--synchronous", "--allow-basebackup")
@@ -337,7 +337,7 @@ def synchronous_loses_nothing(pair: Pair) -> None:
 
 @story
 def it_is_taken_from_under_its_ticket(pair: Pair) -> None:
-    """remove takes a server from under its ticket, which runs on as what it is"""
+    """remove ends the connection between a server and its ticket; the server continues to run in its role"""
     _, two = pair.sites
     two.must("booth-postgresql", "remove", NAME)
     need(two.is_standby(), "the server does not run on")
@@ -348,20 +348,20 @@ def it_is_taken_from_under_its_ticket(pair: Pair) -> None:
 
 
 def tries(site: Site) -> List[Try]:
-    """Returns what the writer of a site has noted."""
+    """Returns the attempts that the writer of a site has logged."""
     lines = site.read(f"/run/writer-{site.name}").split("\n")[:-1]
     return [machine_writers.parsed(line) for line in lines if line.count(" ") >= 3]
 
 
 def never_two(pair: Pair) -> None:
-    """no two sites took writes at one moment"""
+    """the two sites never accepted writes at the same moment"""
     noted: Dict[str, List[Try]] = {site.name: tries(site) for site in pair.sites}
     found = machine_writers.figures(noted, 0.0, time.monotonic())
     need(found.taken > 0 and found.seconds_at_two == 0, f"{found}")
 
 
 def passes(each: Story, pair: Pair) -> bool:
-    """Tells a story, and returns whether it went as it must."""
+    """Runs a story, and returns whether it went as it must."""
     begun = time.monotonic()
     try:
         each(pair)
@@ -376,7 +376,7 @@ def passes(each: Story, pair: Pair) -> bool:
 
 
 def main() -> int:
-    """Tells the stories until one fails, and returns the status."""
+    """Runs the stories until one fails, and returns the status."""
     end_by_signals()
     lacks = missing()
     if lacks:

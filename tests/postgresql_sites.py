@@ -1,4 +1,4 @@
-"""Two sites with PostgreSQL on this machine, each with mounts and processes of its own, and no systemd.
+"""Two sites with PostgreSQL on this machine, each with its own mounts and processes, and without systemd.
 
 It is imported by tests/postgresql.py, and not run by itself. A site is a namespace of mounts and one of processes: its
 /etc, /var/lib, /run and what it has of the package are its own, and it ends with this process. Both sites are on
@@ -68,7 +68,7 @@ exec {python} {top}/tests/postgresql_units.py hold
 
 
 class Ended(NamedTuple):
-    """How a command ended, what it printed, and how long it took in seconds."""
+    """The outcome of a command: its status, what it printed, and how long it took in seconds."""
 
     status: int
     printed: str
@@ -76,13 +76,13 @@ class Ended(NamedTuple):
 
 
 def programs() -> Optional[str]:
-    """Returns the directory of PostgreSQL's programs, of the latest version that is here."""
+    """Returns the directory of PostgreSQL's programs, of the latest installed version."""
     found = [path for path in glob.glob("/usr/lib/postgresql/*/bin") if os.access(f"{path}/pg_rewind", os.X_OK)]
     return max(found, key=lambda path: int(path.split("/")[4]), default=None)
 
 
 def missing() -> List[str]:
-    """Returns what is missing to have two sites here."""
+    """Returns what is missing here to run two sites."""
     lacks = [name for name in NEEDED if shutil.which(name) is None]
     if not os.access(PYTHON, os.X_OK):
         lacks.append(PYTHON)
@@ -97,7 +97,7 @@ def missing() -> List[str]:
 
 
 def free_port() -> int:
-    """Returns a port that nobody listens at."""
+    """Returns a port at which no program listens."""
     with socket.socket() as probe:
         probe.bind((ADDRESSES["one"], 0))
         return int(probe.getsockname()[1])
@@ -129,11 +129,11 @@ class Site:
             self.write("/etc/systemd/system/booth-postgresql@.service", file.read().replace("@SBIN@", "/usr/sbin"))
 
     def environment(self) -> Dict[str, str]:
-        """Returns the environment of what runs in the site."""
+        """Returns the environment of the programs in the site."""
         return {"PATH": f"{self.folder}/bin:{os.environ['PATH']}:/usr/sbin:/sbin", "LC_ALL": "C.UTF-8"}
 
     def write_program(self, name: str, text: str) -> None:
-        """Writes a program that comes before those of the machine."""
+        """Writes a program that is found before those of the machine."""
         path = f"{self.folder}/bin/{name}"
         with open(path, "w", encoding="utf-8") as file:
             file.write(f"#!/bin/sh\n{text}")
@@ -149,7 +149,7 @@ class Site:
         os.chmod(self.root + path, mode)
 
     def read(self, path: str) -> str:
-        """Returns what a file of the site holds, and nothing if it is missing."""
+        """Returns the content of a file of the site, or an empty text if it is missing."""
         try:
             with open(self.root + path, encoding="utf-8", errors="replace") as file:
                 return file.read()
@@ -157,11 +157,11 @@ class Site:
             return ""
 
     def entering(self, *words: str) -> List[str]:
-        """Returns the command that runs these words in the site."""
+        """Returns the command that runs these words inside the site."""
         return ["nsenter", "-t", str(self.first), "-m", "-p", "--", *words]
 
     def run(self, *words: str, **more: str) -> Ended:
-        """Runs a command in the site, with these variables more."""
+        """Runs a command in the site, with these additional variables."""
         begun = time.monotonic()
         done = subprocess.run(
             self.entering(*words),
@@ -175,13 +175,13 @@ class Site:
         return Ended(done.returncode, done.stdout.decode(errors="replace").strip(), time.monotonic() - begun)
 
     def must(self, *words: str, **more: str) -> str:
-        """Runs a command that has to succeed, and returns what it printed."""
+        """Runs a command that must succeed, and returns what it printed."""
         done = self.run(*words, **more)
         need(done.status == 0, f"{self.name}: {' '.join(words)}: status {done.status}: {done.printed}")
         return done.printed
 
     def as_owner(self, *words: str) -> str:
-        """Runs a command as the user that the server runs as."""
+        """Runs a command as the server's user."""
         return self.must("setpriv", "--reuid", OWNER, "--regid", OWNER, "--init-groups", *words)
 
     def word(self, word: str, left: int = 30_000) -> Ended:
@@ -190,11 +190,12 @@ class Site:
         return self.run(name, NAME, word, BOOTH_TICKET=TICKET, BOOTH_TICKET_LEFT=str(left))
 
     def tell(self, service: str) -> None:
-        """Has the follower's state say this of the service."""
+        """Sets the follower's state of the service to this."""
         self.write(f"/run/booth-follow/{TICKET}.state", f"service={service}\n")
 
     def hold(self, term: int, seconds: float) -> None:
-        """Has the daemon's record say that this site holds a lease of this term, which ends after so many seconds."""
+        """Writes a record for the daemon: this site holds a lease with this term, which ends after this many seconds.
+        """
         until = int((time.time() + seconds) * 1000)
         fields = (record_file.OPEN, 1, 2, term, record_file.HAS_LEASE, term, until, *[0] * 7)
         content = bytes(128) + struct.pack(">B7xQ" + record_file.SECOND_FORM.format[1:], *fields)
@@ -214,7 +215,7 @@ class Site:
     # ---- the server
 
     def make_server(self) -> None:
-        """Makes a server that only its own machine reaches, as a first start does, and starts it without a unit."""
+        """Makes a server that only its own machine can reach, as a first start does, and starts it without a unit."""
         os.makedirs(self.data)
         shutil.chown(self.folder, OWNER)
         shutil.chown(self.data, OWNER)
@@ -228,7 +229,7 @@ class Site:
         self.as_owner(f"{self.bin}/pg_ctl", "-D", self.data, "-l", f"{self.folder}/log", "-w", *words)
 
     def ask(self, sql: str) -> str:
-        """Returns what the server answers, and nothing if it does not."""
+        """Returns the server's answer, or nothing if it does not answer."""
         words = [f"{self.bin}/psql", "-XAtqw", "-h", SOCKETS, "-p", str(self.port), "-c", sql, "-d", "postgres"]
         done = self.run("timeout", "5", "setpriv", "--reuid", OWNER, "--regid", OWNER, "--init-groups", *words)
         return done.printed if done.status == 0 else ""
@@ -238,15 +239,15 @@ class Site:
         return self.ask("SELECT pg_is_in_recovery()") == "f"
 
     def is_standby(self) -> bool:
-        """Returns whether the server is a standby, which answers."""
+        """Returns whether the server is a standby that answers."""
         return self.ask("SELECT pg_is_in_recovery()") == "t"
 
     def streams(self) -> bool:
-        """Returns whether the server gets the log of another one."""
+        """Returns whether the server receives the log of another one."""
         return self.ask("SELECT status FROM pg_stat_wal_receiver") == "streaming"
 
     def rows(self) -> Set[int]:
-        """Returns the numbers of the rows that the server has."""
+        """Returns the numbers of the server's rows."""
         return {int(each) for each in self.ask("SELECT number FROM booth_rows").split()}
 
     def close(self) -> None:
@@ -279,7 +280,7 @@ class Pair:
 
 
 def await_that(what: str, check: Callable[[], object], seconds: float = PATIENCE) -> float:
-    """Waits until something is so, and returns how long that took. Raises `Wrong` if it does not come."""
+    """Waits until a condition holds, and returns how long this took. Raises `Wrong` if it does not come to hold."""
     begun = time.monotonic()
     while not check():
         if time.monotonic() - begun > seconds:

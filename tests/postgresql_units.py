@@ -1,5 +1,5 @@
 #!/usr/bin/env python3
-"""Stands in for systemd in a site of tests/postgresql.py: it starts and stops the units that are written there.
+"""A stand-in for systemd in a site of tests/postgresql.py: it starts and stops the units in that site.
 
 It is run there as `systemctl`, and once as `postgresql_units.py hold`, which is the site's first process. It knows what
 the package uses: start, stop, restart, enable, disable, is-active, is-failed, reset-failed and daemon-reload; and of a
@@ -26,7 +26,7 @@ NOT_ACTIVE = 3
 
 
 def lines_of(unit: str) -> Iterator[str]:
-    """Gives the lines of a unit, of its template if it has none of its own, and of its drop-ins."""
+    """Yields the lines of a unit, of its template if it has no file of its own, and of its drop-ins."""
     name, _, instance = unit.partition("@")
     instance = instance.rsplit(".", 1)[0]
     path = f"{FOLDER}/{unit}"
@@ -38,7 +38,7 @@ def lines_of(unit: str) -> Iterator[str]:
 
 
 def settings_of(unit: str) -> Dict[str, List[str]]:
-    """Returns what each key of a unit is set to."""
+    """Returns the values of each key of a unit."""
     found: Dict[str, List[str]] = {}
     for line in lines_of(unit):
         key, is_set, value = line.partition("=")
@@ -48,7 +48,7 @@ def settings_of(unit: str) -> Dict[str, List[str]]:
 
 
 def pid_of(unit: str) -> int:
-    """Returns the first process of a unit that was started and not stopped, 0 if there is none."""
+    """Returns the first process of a unit that was started and not stopped, or 0 if there is none."""
     try:
         with open(f"{UNITS}/{unit}.pid", encoding="ascii") as file:
             return int(file.read())
@@ -71,7 +71,7 @@ def has_failed(unit: str) -> bool:
 
 
 def forget(unit: str) -> None:
-    """Forgets how a unit ended."""
+    """Deletes the state in which a unit ended."""
     for what in ("failed", "pid"):
         if what == "failed" or not is_alive(pid_of(unit)):
             with contextlib.suppress(FileNotFoundError):
@@ -113,7 +113,7 @@ def stop(unit: str) -> int:
 
 
 def act(command: str, unit: str) -> int:
-    """Does what a command says of a unit, and returns the status."""
+    """Carries out a command about a unit, and returns the status."""
     if command in ("start", "stop", "restart"):
         with open(f"{UNITS}/{unit}.lock", "w", encoding="ascii") as lock:
             fcntl.flock(lock, fcntl.LOCK_EX)
@@ -130,7 +130,7 @@ def act(command: str, unit: str) -> int:
 
 
 def main(words: List[str]) -> int:
-    """Does what the words say, and returns the status."""
+    """Does what the arguments ask for, and returns the status."""
     options = [word for word in words if word.startswith("-")]
     command, *units = [word for word in words if word not in options]
     os.makedirs(UNITS, exist_ok=True)
@@ -151,7 +151,7 @@ def main(words: List[str]) -> int:
 
 
 def hold() -> None:
-    """Waits for what ends in the site, as its first process has to."""
+    """Waits for the processes that end in the site, as a first process must."""
     print("holds", flush=True)
     while True:
         try:

@@ -1,4 +1,4 @@
-"""Clusters whose members are killed and started anew: they go on from what they promised, which is in their records.
+"""Clusters whose members are killed and restarted: they continue from the promises in their records.
 
 It is imported by tests/cluster.py, and not run by itself. What version 1 left is written here, byte by byte from
 docs/RECORDS.md.
@@ -17,7 +17,7 @@ from stories import NAME, PATIENCE, grants, is_held_by, passed, require, says, s
 MANY = tuple(b"ticket-%02d" % number for number in range(24))
 ASKED = TICKET
 SECONDS_OF_KILLS = 12
-# how long an election goes on, in seconds, before it has failed
+# how long an election continues, in seconds, before it has failed
 SECONDS_OF_A_GRANT = 5
 # how long a vote takes at most here, in seconds: a kill comes at any moment of it
 LONGEST_VOTE = 0.02
@@ -27,7 +27,7 @@ FULL = "/dev/full"
 
 
 def record_in_force(member, ticket=TICKET):
-    """The whole record that the member keeps, or None."""
+    """The whole record in the member's file, or None."""
     try:
         with open(member.record_path(ticket), "rb") as file:
             found = record_file.in_force(record_file.slots_in(file.read(record_file.FILE_BYTES)))
@@ -42,14 +42,16 @@ def restart(cluster, member):
 
 
 def lost_by(member, tickets):
-    """Those of the tickets that the member's records do not say it holds now."""
+    """Those of the tickets that the member does not hold now, according to its records."""
     records = {ticket: member.record(ticket) for ticket in tickets}
     moment = now()
     return [ticket.decode() for ticket, record in records.items() if record is None or not record.holds(moment)]
 
 
 def holds_until(member, ended, seconds):
-    """The member holds the ticket at each moment until the function is true, which it is in so many seconds."""
+    """The member holds the ticket at each moment until the function is true, which must happen within this many
+    seconds.
+    """
     end = time.monotonic() + seconds
     while not ended():
         require(not lost_by(member, [TICKET]), f"the lease ended: {member.record()} at {now()}")
@@ -59,7 +61,7 @@ def holds_until(member, ended, seconds):
 
 @story
 def many_tickets_and_kills(cluster):
-    """a cluster whose voters are killed in turn, at any moment of a vote, while a site holds many tickets"""
+    """a cluster whose voters are killed one after another, at any moment of a vote, while a site holds many tickets"""
     one, *voters = cluster.members
     cluster.remember()
     cluster.start()
@@ -92,7 +94,7 @@ def many_tickets_and_kills(cluster):
 
 @story
 def a_restart_of_all(cluster):
-    """a cluster of which all members are killed and started anew at once"""
+    """a cluster in which all members are killed and restarted at once"""
     times, one = cluster.times, cluster.members[0]
     cluster.remember()
     cluster.start()
@@ -113,7 +115,7 @@ def a_restart_of_all(cluster):
 
 
 def others_start_anew(cluster):
-    """The holder stays away, and the others are started anew while its lease runs: then the second site holds."""
+    """The holder stays away, and the others restart while its lease lasts: after that the second site holds."""
     one, two, arbitrator = cluster.members
     one.kill()
     until = one.record().until
@@ -129,7 +131,7 @@ def others_start_anew(cluster):
 
 
 def all_start_anew_and_nobody_holds(cluster):
-    """The second site gives the ticket back, all are started anew, and it is granted the ticket again."""
+    """The second site releases the ticket, all members restart, and the site is granted the ticket again."""
     one, two, _ = cluster.members
     says(two, ("revoke", NAME), 0, f"ticket {NAME} revoked\n")
     for member in cluster.members:
@@ -144,7 +146,7 @@ def all_start_anew_and_nobody_holds(cluster):
 
 
 def as_version_1(member, term, lease, ticket=TICKET):
-    """The member's directory as version 1 leaves it: a record with this term and lease, or no file."""
+    """Makes the member's directory as version 1 leaves it: a record with this term and lease, or no file."""
     os.remove(path_in(member.records, ticket))
     if term is None:
         return
@@ -157,7 +159,9 @@ def as_version_1(member, term, lease, ticket=TICKET):
 
 
 def voter_comes_from_version_1(cluster, member, term):
-    """A member that holds nothing abstains for a promise, while the first site holds on, and then answers and keeps."""
+    """A member that holds nothing abstains for a promise's time, while the first site still holds; then it answers and
+    writes its promises.
+    """
     one, abstention = cluster.members[0], cluster.times.abstention()
     member.kill()
     as_version_1(member, term, None)
@@ -179,7 +183,7 @@ def voter_comes_from_version_1(cluster, member, term):
 
 @story
 def members_from_version_1(cluster):
-    """a cluster whose members come from version 1 one after the other while a ticket is held"""
+    """a cluster whose members are upgraded from version 1 one after the other while a ticket is held"""
     times = cluster.times
     one, two, arbitrator = cluster.members
     cluster.remember()
@@ -209,7 +213,7 @@ def members_from_version_1(cluster):
 
 @story
 def a_full_disk_of_a_voter(cluster):
-    """a cluster of a site and an arbitrator whose disk has no room for a while, the other site being away"""
+    """a cluster of a site and an arbitrator, whose disk is full for a while; the other site is away"""
     times = cluster.times
     one, _, arbitrator = cluster.members
     cluster.remember()

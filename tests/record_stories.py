@@ -1,4 +1,4 @@
-"""What booth-record prints of record files of both versions, whole and torn.
+"""The output of booth-record about record files of both versions, whole and torn.
 
 They are written here byte by byte from docs/RECORDS.md. It is imported by tests/status.py, and not run by itself.
 """
@@ -21,7 +21,7 @@ EXAMPLE = """\
 0000 01a2 1ce0 6e00 d085 f484 d085 f484 0000 0002 0000 0000 0000 01a2 1ce0 72b3
 0000 01a2 1cb2 abf3 0000 0000 0000 0000 0000 0000 0000 0000 0000 0000 0000 0000
 0000 0000 0000 0000 0000 0000 0000 0000 0000 0000 0000 0000 0000 0000 0000 0000
-0100 0000 0000 0000 0000 0000 0000 0004 0000 0002 0000 0002 0000 0006 0000 0000
+0000 0000 0000 0000 0000 0000 0000 0004 0000 0002 0000 0002 0000 0006 0000 0000
 0000 0000 0000 0000 d085 f484 d085 f484 0000 0002 0000 0000 0000 01a2 1ce0 72b3
 0000 01a2 1cb2 abf3 0000 0000 0000 0000"""
 
@@ -71,7 +71,7 @@ def shown(folder, content, *words, name=NAME):
 
 
 def ago(millis):
-    """How long a moment is past, in the greatest unit of which there are two, now or a moment later."""
+    """How long a moment is past, in the largest unit of which there are two, now or a moment later."""
     seconds = int(time.time() - millis / 1000)
     unit, size = next(each for each in (("d", 86_400), ("h", 3600), ("min", 60), ("s", 1)) if seconds >= 2 * each[1])
     return [f"{(seconds + more) // size} {unit}" for more in (0, 1, 2)]
@@ -82,7 +82,7 @@ def the_example_of_the_page(folder):
     """the example of RECORDS.md is printed as the page explains it"""
     status, fields, rows = shown(folder, bytes(128) + bytes.fromhex(EXAMPLE))
     for label, end in (("lease", NOON), ("promise", LATER)):
-        over = [f"by this machine's clock it is over since {span}" for span in ago(end)]
+        over = [f"by this machine's clock it ended {span} ago" for span in ago(end)]
         require(fields[label][1] in over, f"{fields[label]}")
     promise = "until 2026-11-27 12:00:01.203 UTC"
     wanted = {
@@ -95,18 +95,18 @@ def the_example_of_the_page(folder):
         "abstains": ["until 2026-11-27 11:10:01.203 UTC"],
     }
     require_same((status, fields), (0, wanted))
-    slots = [["", place, "1", "no", "0", "does not count"] for place in ("00", "40")]
+    slots = [["", place, "1", "no", "0", "not valid"] for place in ("00", "40")]
     lease = "lease until 2026-11-27 12:00:00.000 UTC"
     slots.append(["*", "80", "2", "yes", "5", f"term 2, {lease}, promise {promise}"])
-    require_same(rows, [*slots, ["", "100", "2", "yes", "4", f"term 2, no lease, promise {promise}"]])
+    require_same(rows, [*slots, ["", "100", "2", "no", "4", "not valid"]])
 
 
 @story
 def files_of_the_first_version(folder):
     """files of version 1: empty, of one slot, of equal numbers, closed, of a lease that runs, and of a manual ticket"""
     soon = (int(time.time()) + 7200) * 1000 + 1
-    nothing = "nothing: no slot counts, so the file keeps no record"
-    endless, greatest = "no end, as that of a manual ticket", 2**64 - 1
+    nothing = "nothing: no slot is valid, so the file has no record"
+    endless, greatest = "no end, as for a manual ticket", 2**64 - 1
     cases = [
         (b"", nothing, {}),
         (first(9, 4, commit=0), nothing, {}),
@@ -125,9 +125,9 @@ def files_of_the_first_version(folder):
         require_same((status, fields["in force"], found), (0, [force], more), f"{content[:64].hex()}: ")
         require_same([row[1] for row in rows], ["00", "40"])
     status, fields, _ = shown(folder, first(1, 5, (4, soon)))
-    spans = [f"by this machine's clock it runs {span} more" for span in ("119 min", "2 h")]
+    spans = [f"by this machine's clock it runs for {span} more" for span in ("119 min", "2 h")]
     require(fields["lease"][1] in spans, f"{fields}")
-    unknown = "not told: the file's name is not HEX.rec, the ticket's name in hexadecimal"
+    unknown = "unknown: the file's name is not HEX.rec, with the ticket's name in hexadecimal"
     for name in ("record", "74.txt", "zz.rec", ".rec", "20.rec"):
         require_same(shown(folder, slot(1, 1, 7), name=name)[1]["ticket"], [unknown], f"{name}: ")
 
@@ -146,7 +146,7 @@ def files_of_the_second_version(folder):
     whole = second(6, 1, (1, 1_600_000), one, (two, 1, 1_601_203), 601_203)
     old = (first(5, 2, (2, NOON)) + first(4, 2)).ljust(128, b"\0")
     status, fields, rows = shown(folder, old + whole)
-    over = [f"by this machine's clock it is over since {span}" for span in ago(1_600_000)]
+    over = [f"by this machine's clock it ended {span} ago" for span in ago(1_600_000)]
     require(fields.pop("lease") == ["of term 1, until 1970-01-01 00:26:40.000 UTC", over[0]], f"{fields}")
     until = "until 1970-01-01 00:26:41.203 UTC"
     require_same(fields.pop("promise"), [f"to member {two:08x}, of term 1, {until}", over[0]])
@@ -164,7 +164,7 @@ def files_of_the_second_version(folder):
     wanted.update(bound=["to nobody"], promise=["none"], abstains=["no"])
     require((status, fields) == (0, wanted), f"{status}, {fields}")
     require_same([row[1] for row in rows], ["00", "40", "80", "100"])
-    require_same(rows[2][5], "does not count")
+    require_same(rows[2][5], "not valid")
     # a file that an older program wrote again: the greatest number of the four is in force, the first among equals
     beside = bytes(64) + second(7, 2)
     newest = bytes(128) + second(7, 1) + second(8, 1)
@@ -175,7 +175,7 @@ def files_of_the_second_version(folder):
 
 @story
 def torn_files(folder):
-    """a file with a slot that counts and holds no record is refused, whichever slot it is, and the cause is named"""
+    """a file with a valid slot that has no record in it is refused, whichever slot it is, and the cause is named"""
     fine, pad = first(9, 1), bytes(64)
     not_zero = "a field that must be 0 is not"
     cases = [

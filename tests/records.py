@@ -1,9 +1,10 @@
 #!/usr/bin/env python3
-"""Ends a stream of keeps by SIGKILL at any moment, and reads what is left; fills the disk, and empties it.
+"""Kills a stream of record writes with SIGKILL at any time, and reads what is left; fills the disk, and empties it.
 
 Run it as `python3 tests/records.py [PROGRAM]`, PROGRAM being the built `trials`, which rt leaves at
-crates/trials/out/trials. It takes a minute at most, prints a line for each check, and has the status 1 where
-one failed. Where `trials` is not built it checks nothing, and has the status 77. Where it may mount a small tmpfs, it fills it.
+crates/trials/out/trials. It takes a minute at most, prints a line for each check, and has the status 1 if one
+failed. Where `trials` is not built it checks nothing, and has the status 77. Where it may mount a small tmpfs, it
+fills it.
 
 `trials keeps DIRECTORY COUNT` is the real host alone: it says which record it reads, and each that it has kept.
 """
@@ -31,7 +32,7 @@ NOTHING_CHECKED = 77
 KILLS, SECONDS = 2_000, 20
 # the longest time from a start to its end, in seconds, beside twice what a run of one keep takes; a run gets to some keeps in it
 LONGEST = 0.02
-# of so many kills one at least has to come after a keep
+# of so many kills one at least must come after a keep
 KILLS_OF_ONE_KEEP = 20
 # how long a run to its end may take
 SECONDS_OF_A_RUN = 60
@@ -39,7 +40,7 @@ SEED = 9929
 
 
 class Wrong(Exception):
-    """The host did not what it has to."""
+    """The host did not do what it must."""
 
 
 def require(holds, why):
@@ -48,26 +49,26 @@ def require(holds, why):
 
 
 def slot(number, version, term):
-    """An open slot with a record of this version and term, without a lease or a pledge, and what stands behind it."""
+    """An open slot with a record of this version and term, without a lease or a pledge, followed by these bytes."""
     fields = (number.to_bytes(8, "big"), version.to_bytes(4, "big"), term.to_bytes(4, "big"))
     return (b"\1" + bytes(7) + b"".join(fields)).ljust(64 * version, b"\0")
 
 
 def said(output):
-    """The term that a run read, and those that it kept, by what it has said."""
+    """The term that a run read, and the terms that it wrote, according to its output."""
     lines = [line.split() for line in output.decode("ascii").split("\n")[:-1]]
     read = [int(term) for word, term in lines if word == "read"]
     return read[0] if read else None, [int(term) for word, term in lines if word == "kept"]
 
 
 def run(program, directory, count, **more):
-    """What a run to its end said, and its status."""
+    """The output of a run to its end, and its status."""
     done = subprocess.run([program, "keeps", directory, str(count)], capture_output=True, timeout=SECONDS_OF_A_RUN, **more)
     return *said(done.stdout), done.returncode
 
 
 def killed(program, directory, seconds):
-    """What a run said that was ended after so many seconds."""
+    """The output of a run that was ended after this many seconds."""
     words = [program, "keeps", directory, "1000000"]
     with subprocess.Popen(words, stdout=subprocess.PIPE, stderr=subprocess.DEVNULL) as process:
         try:
@@ -78,7 +79,7 @@ def killed(program, directory, seconds):
 
 
 def longest_of_three(program, directory):
-    """How long a run of one keep takes at most here, in seconds, of three behind the first."""
+    """How long a run of one keep takes at most here, in seconds: the longest of three runs after a first one."""
     took = []
     for number in range(4):
         started = time.monotonic()
@@ -88,7 +89,7 @@ def longest_of_three(program, directory):
 
 
 def kills_leave_the_last_record_or_the_next(program, folder):
-    """Each run goes on where the one before was ended."""
+    """Each run continues after the end of the one before."""
     chance = random.Random(SEED)
     longest = LONGEST + 2 * longest_of_three(program, os.path.join(folder, "timed"))
     directory, last, keeps, in_flight, met = os.path.join(folder, "killed"), 0, 0, 0, 0
@@ -113,7 +114,7 @@ def kills_leave_the_last_record_or_the_next(program, folder):
 
 
 def a_record_that_cannot_be_kept_leaves_the_old_one(program, folder):
-    """The file may not grow beyond its first slot, of either version: then no other can be written."""
+    """The file may not grow beyond its first slot, in either version: then no other record can be written."""
     for name, content in (("old", slot(1, 1, 7)), ("short", bytes(128) + slot(1, 2, 7))):
         directory = os.path.join(folder, name)
         os.mkdir(directory)
@@ -132,7 +133,7 @@ def a_record_that_cannot_be_kept_leaves_the_old_one(program, folder):
 
 
 def a_file_of_version_1_is_read_and_its_slots_stay(program, folder):
-    """The next keeps go into the slots of version 2, with the numbers that follow."""
+    """The next keeps go into the slots of version 2, with the following numbers."""
     directory = os.path.join(folder, "version-1")
     os.mkdir(directory)
     path, old = os.path.join(directory, FILE), slot(3, 1, 4) + slot(2, 1, 3)
@@ -150,7 +151,7 @@ def a_file_of_version_1_is_read_and_its_slots_stay(program, folder):
 
 @contextlib.contextmanager
 def small_disk(folder):
-    """A file system of two pages, or None where this user may mount none."""
+    """A file system of two pages, or None if this user may not mount one."""
     place = os.path.join(folder, "small")
     os.mkdir(place)
     words = ["mount", "-t", "tmpfs", "-o", "size=8k", "tmpfs", place]
@@ -167,7 +168,7 @@ def small_disk(folder):
 
 
 def a_full_disk_keeps_nothing_until_there_is_room(program, folder):
-    """Nothing is left for the record's page."""
+    """There is no room for the record's page."""
     with small_disk(folder) as place:
         if place is None:
             return "not checked: this user may not mount a small tmpfs"
@@ -186,7 +187,7 @@ def a_full_disk_keeps_nothing_until_there_is_room(program, folder):
 
 
 def a_torn_file_is_refused(program, folder):
-    """Nothing is written to a file that no put leaves."""
+    """The host writes nothing to a file that no put can leave."""
     directory = os.path.join(folder, "torn")
     os.mkdir(directory)
     path, torn = os.path.join(directory, FILE), slot(2, 1, 7) + b"\1" + bytes(47)

@@ -1,4 +1,4 @@
-"""Checks of what a daemon takes as words, files and key, and of how it refuses.
+"""Checks which arguments, files and keys a daemon accepts, and how it refuses others.
 
 It is imported by tests/loopback.py, and not run by itself.
 """
@@ -129,14 +129,14 @@ def here(room, text):
 
 
 def is_faulty(room, text, what, shown=None):
-    """The daemon with this file says this of it, whoever it is to be."""
+    """The daemon refuses this file with this fault, whichever member it would be."""
     path = room.file(here(room, text))
     said = b"%s: %s" % (path.encode(), what)
     room.refuses(room.words(path), said, what=f"the file {shown or text}")
 
 
 def is_read(room, text, shown=None):
-    """The file has no fault: the next thing that is looked at is whether this is a member."""
+    """The file has no fault: the next check is whether this is a member."""
     words = room.words(room.file(here(room, text)), "10.9.9.9")
     room.refuses(words, b"10.9.9.9 is not a member", what=f"the file {shown or text}")
 
@@ -153,7 +153,7 @@ def no_command(room):
 
 @check
 def untaken_words(room):
-    """words that a command does not take are told on standard error alone, with status 1"""
+    """arguments that a command does not accept are reported only on standard error, with status 1"""
     good = room.words(room.file(LEAST))
     wrong = [
         *(good[:count] for count in range(1, len(good))),
@@ -179,7 +179,7 @@ def told_in_page(first):
 
 @check
 def help_and_version(room):
-    """help and version stand on standard output alone, with status 0, and man/boothd.8 has that help"""
+    """help and version are printed only on standard output, with status 0, and man/boothd.8 has that help"""
     lock = b"[default: /var/run/booth.lock]"
     for command, pieces in (
         ("daemon", (b"-c", b"[default: booth]", b"-s", b"-l", lock, b"-d",
@@ -198,7 +198,7 @@ def help_and_version(room):
 
 @check
 def bad_words(room):
-    """a word that is not of its form is reported: first the address, then number and paths"""
+    """an argument of a wrong form is reported: first the address, then number and paths"""
     path = room.file(LEAST)
     no_address = ("", "localhost", "127.0.0", "127.0.0.256", "127.0.0.01", "127.0.0.1 ", "::1%lo")
     no_number = ("", "0", "007", "+1", "1 ", "0x1", str(2**62 + 1), str(2**64 + 1))
@@ -318,7 +318,7 @@ def rich_file(room):
 
 @check
 def not_a_member(room):
-    """an address that is no member's is reported as one writes it, before the key file"""
+    """an address of no member is reported in its usual spelling, before the key file is read"""
     path = room.file(LEAST + b"mode = manual\nauthfile = /missing")
     for word, written in (
         ("10.0.0.2", "10.0.0.2"),
@@ -333,7 +333,7 @@ def not_a_member(room):
 
 @check
 def each_kind_is_served(room):
-    """tickets of each kind are served, with handlers and prerequisites, their own or the default's"""
+    """tickets of each kind are served, with handlers and prerequisites that are their own or the defaults"""
     handler, mode, prereq = b"before-acquire-handler", b"mode = manual\n", b"attr-prereq = auto a eq b\n"
     line, default = handler + b" = /bin/true\n", b"ticket = __default__\n"
     others = FILE + line + b"ticket = t\n" + mode
@@ -382,7 +382,7 @@ def bad_keys(room):
 
 @check
 def already_running(room):
-    """one daemon has a lock, and a second one is told so, after its own files were read"""
+    """one daemon has a lock, and a second daemon is refused after it has read its own files"""
     places = room.own_places("running")
     with room.serving(options=places) as daemon, Asker(daemon) as asker:
         words = daemon.server.words[1:]
@@ -404,7 +404,7 @@ def already_running(room):
 
 @check
 def two_daemons(room):
-    """two daemons run on one machine with two locks and two directories, and not with fewer"""
+    """two daemons run on one machine with two locks and two directories, and only then"""
     first, second = room.own_places("first"), room.own_places("second")
     station = Station(next(room.addresses))
     with room.serving(options=first) as daemon, Asker(daemon) as asker:
@@ -419,7 +419,7 @@ def two_daemons(room):
 
 @contextlib.contextmanager
 def locked(path):
-    """The lock of this file, as another program holds it."""
+    """The lock of this file, held by this test."""
     with open(path, "rb") as file:
         fcntl.flock(file, fcntl.LOCK_EX | fcntl.LOCK_NB)
         yield
@@ -443,7 +443,7 @@ def may_open(path):
 
 @contextlib.contextmanager
 def left_as_it_was(path):
-    """A `with` block behind which a file is gone that was not there before."""
+    """Checks after the `with` block that a file which did not exist before does not exist either."""
     was_there = os.path.exists(path)
     try:
         yield
@@ -454,7 +454,7 @@ def left_as_it_was(path):
 
 @check
 def status(room):
-    """status says whether a daemon holds the lock, and its exit status says it too"""
+    """status prints whether a daemon holds the lock, and its exit status shows it too"""
     running = (0, b"booth daemon is running\n", b"")
     stopped = (7, b"booth daemon is not running\n", b"")
     options = room.own_places("looked")
@@ -475,7 +475,7 @@ def status(room):
 
 @check
 def counted_turns(room):
-    """a daemon whose turns are counted ends by itself with status 0, and says nothing"""
+    """a daemon with a number of turns ends by itself with status 0, and prints nothing"""
     words = room.words(room.file(here(room, FILE)))
     came = room.ended([*words, *room.own_places("counted"), "-n", "2"])
     require(came == (0, b"", b""), f"a daemon of two turns gave {came}")
@@ -501,7 +501,7 @@ def mode(path):
 
 @check
 def own_lock_files(room):
-    """the lock files and the directory that it makes are its user's alone, since whoever opens a lock file can hold its lock"""
+    """only its user can open the lock files and directory that it makes: who opens a lock file can hold its lock"""
     places = room.own_places("locks")
     paths = places[1], f"{places[3]}/booth.lock"
     with room.serving(options=places):
@@ -531,7 +531,7 @@ def one_daemon_for_records(room):
 
 @check
 def special_files(room):
-    """what is no regular file is neither read nor locked, and nothing waits for what may come from it"""
+    """a file that is not a regular file is neither read nor locked, and the daemon does not wait for its bytes"""
     pipe = os.path.join(room.folder, "pipe")
     os.mkfifo(pipe)
     words = room.words(room.file(here(room, FILE), "special.conf"))
@@ -544,7 +544,7 @@ def special_files(room):
 
 @check
 def unread_standard_error(room):
-    """if nobody reads standard error, the run has its status all the same"""
+    """if nobody reads standard error, the run still has its status"""
     unread, into = os.pipe()
     os.close(unread)
     streams = {"stdin": subprocess.DEVNULL, "stdout": subprocess.DEVNULL, "stderr": into}
@@ -555,7 +555,7 @@ def unread_standard_error(room):
 
 @check
 def closed_standard_error(room):
-    """if standard error is closed, what is said goes nowhere, and not into the lock file"""
+    """if standard error is closed, its lines are lost, and are not written into the lock file"""
     path, places = room.file(here(room, FILE) + SITE), room.own_places("closed")
     streams = {"stdin": subprocess.DEVNULL, "stdout": subprocess.DEVNULL, "timeout": SECONDS_TO_END}
     with socket.socket(socket.AF_INET, socket.SOCK_DGRAM) as holder:

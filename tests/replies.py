@@ -1,4 +1,4 @@
-"""Checks of what a daemon answers, counts and drops.
+"""Checks what a daemon answers, counts and drops.
 
 It is imported by tests/loopback.py, and not run by itself.
 """
@@ -56,7 +56,7 @@ def one_request(room):
 
 @check
 def free_fields(room):
-    """the reply repeats any request number; clock, options, reason and result are not looked at"""
+    """the reply repeats any request number; clock, options, reason and result are ignored"""
     with room.serving() as daemon, Asker(daemon) as asker:
         for number in (0, 1, 2**31, 2**32 - 1):
             for letters in ("CLst", "Peer"):
@@ -89,7 +89,7 @@ def client_commands(room):
 
 @check
 def most_of_all(room):
-    """16 members and 64 tickets with names of 63 bytes are listed in the file's order"""
+    """16 members, and 64 tickets with names of 63 bytes, are listed in the file's order"""
     names = tuple(b"%02d" % (number * 37 % 64) + b"-" * 61 for number in range(64))
     sites = tuple(("site", f"10.0.{number}.255") for number in range(7))
     voters = tuple(("arbitrator", f"2001:db8::{number:x}:1") for number in range(1, 9))
@@ -113,7 +113,7 @@ def name_bytes(room):
 
 
 def no_frames():
-    """Datagrams that are no frame, with what is wrong."""
+    """Datagrams that are not frames, with their faults."""
     for length in (0, 1, 24, 28, 47):
         yield f"{length} bytes", Head(length=length).spelled()[:length]
     foreign = {
@@ -145,7 +145,7 @@ def no_frames():
 
 
 def faulty_names():
-    """Frames in which a name, a value or a text is not of its form."""
+    """Frames in which a name, a value or a text has a wrong form."""
     names = [b"", b" ", b"a b", b"\x1f", b"\x7f", b"\xe9", b"a\n"]
     fields = [*(field(name, 64) for name in names), b"x" * 64, b"a\0b".ljust(64, b"\0")]
     for name in fields:
@@ -162,7 +162,7 @@ def faulty_names():
 
 @check
 def frame_drops(room):
-    """a datagram that is no frame is dropped as such, without a key and with one"""
+    """a datagram that is not a frame is dropped as such, without a key and with one"""
     for key in (None, KEY):
         with room.serving(room.station(key=key)) as daemon, Asker(daemon) as asker:
             for what, datagram in no_frames():
@@ -172,7 +172,7 @@ def frame_drops(room):
 
 @check
 def sender_drops(room):
-    """a sender, a ticket or a leader that may not be is dropped as the first of these"""
+    """a sender, a ticket or a leader that is not allowed is dropped, with the first of these faults"""
     for key in (None, KEY):
         with room.serving(room.station(key=key)) as daemon, Asker(daemon) as asker:
             me = room.address
@@ -206,7 +206,7 @@ def sender_drops(room):
 
 @check
 def members_are_counted(room):
-    """a command of a member is counted as its own, heard, and answered to that member alone"""
+    """a command of a member is counted for that member, heard, and answered to that member only"""
     for key in (None, KEY):
         with room.serving(room.station(key=key)) as daemon, Asker(daemon) as asker:
             for letters in MEMBERS_SAY:
@@ -221,7 +221,7 @@ def members_are_counted(room):
 
 @check
 def macs(room):
-    """with a key a frame without its MAC, or with another, is dropped, whoever sends it"""
+    """with a key a frame without its MAC, or with another MAC, is dropped, whoever sends it"""
     with room.serving(room.station(key=KEY)) as daemon, Asker(daemon) as asker:
         for letters in frames.BODY_OF:
             for sender in (0, member_id(SITE)):
@@ -248,7 +248,7 @@ def macs(room):
 
 @check
 def free_authentication(room):
-    """a hash id says which MAC it is, the last 4 bytes beside that of SHA-1 are not looked at, nor any without a key"""
+    """a hash id names the MAC, the last 4 bytes after an SHA-1 MAC are ignored, and so are MACs without a key"""
     with room.serving(room.station(key=KEY)) as daemon, Asker(daemon) as asker:
         whole = request_now("CLst", 1, key=KEY)
         before, mac = whole[:-28], whole[-24:-4]
@@ -292,7 +292,7 @@ def keys(room):
 
 @check
 def old_frames(room):
-    """with a key a clock too far behind is dropped, before its sender is looked at"""
+    """with a key a frame whose clock is too far behind is dropped, before its sender is looked at"""
     for skew in (600, 5):
         station = room.station(key=KEY, skew=skew)
         text = room.configuration(station) + (b"" if skew == 600 else b"\nmaxtimeskew = %d" % skew)
@@ -317,7 +317,7 @@ def batches(datagrams, size=16):
 
 @check
 def flipped_bits(room):
-    """each bit of a sealed frame, turned over, is dropped or let in as the protocol says"""
+    """a sealed frame with one bit flipped, for each bit, is dropped or accepted as the protocol says"""
     with room.serving(room.station(key=KEY)) as daemon, Asker(daemon) as asker:
         whole = int.from_bytes(said("HrtB", SITE, leader=SITE, key=KEY), "big")
         flipped = ((whole ^ (1 << bit)).to_bytes(152, "big") for bit in range(152 * 8))
@@ -329,7 +329,7 @@ def flipped_bits(room):
 
 
 def random_datagrams(station, chance):
-    """Frames of every command, some with random bytes in them, without end."""
+    """An endless series of frames of every command, some with random bytes."""
     ids = [0, NO_ONE, *map(member_id, (station.address, SITE, VOTER, "10.0.0.1"))]
     while True:
         letters = chance.choice([*frames.BODY_OF])
@@ -357,7 +357,7 @@ def random_datagrams(station, chance):
 
 @check
 def random_frames(room):
-    """frames of every command, with random bytes in some, are met as the protocol says"""
+    """frames of every command, some with random bytes, have the effects that the protocol says"""
     for key in (None, KEY):
         station = room.station(key=key)
         chance = random.Random(SEED)
@@ -373,7 +373,7 @@ def random_frames(room):
 
 @check
 def two_askers(room):
-    """two askers, each at its own address, have the replies to their own requests, in order"""
+    """two clients, each with its own address, get the replies to their own requests, in order"""
     with room.serving() as daemon, Asker(daemon) as one:
         with Asker(daemon, next(room.addresses)) as other:
             for number in range(40):
@@ -389,7 +389,7 @@ def two_askers(room):
 
 @check
 def other_port(room):
-    """the port of the configuration is served, and not the usual one"""
+    """the port of the configuration is served, and the default port is not"""
     station = room.station(port=frames.PORT + 1)
     with room.serving(station) as daemon, Asker(daemon) as asker:
         asker.asks("CLst")
@@ -400,7 +400,7 @@ def other_port(room):
 
 @check
 def version_6(room):
-    """a member with an IPv6 address listens at it, and is listed as one writes it"""
+    """a member with an IPv6 address listens at it, and is listed in its usual spelling"""
     others = (("site", room.address), ("arbitrator", "2001:db8::1:0:0:1"))
     station = room.station(others=others, key=KEY)._replace(address="::1")
     text = room.configuration(station).replace(b"2001:db8::1:0:0:1", b"2001:DB8:0:0:1::1")
@@ -414,7 +414,7 @@ def version_6(room):
 
 @check
 def arbitrator(room):
-    """an arbitrator answers as a site does, and nobody may name it as a leader"""
+    """an arbitrator answers as a site does, and no message may name it as a leader"""
     others = (("site", SITE), ("site", "10.0.0.1"))
     station = room.station(others=others, is_site=False)
     text = room.configuration(station).replace(b"site", b"arbitrator", 1)
@@ -427,7 +427,7 @@ def arbitrator(room):
 
 @check
 def sigterm(room):
-    """SIGTERM ends the daemon at once, and its port and its lock are free"""
+    """SIGTERM ends the daemon immediately, and its port and its lock are free"""
     took = []
     for _ in range(3):
         with room.serving() as daemon, Asker(daemon) as asker:

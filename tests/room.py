@@ -1,4 +1,4 @@
-"""What the checks of tests/loopback.py stand on: the program, its daemons, and those who ask them.
+"""The base of the checks of tests/loopback.py: the program, its daemons, and the clients that ask them.
 
 It is imported by the programs in tests/, and not run by itself.
 """
@@ -18,7 +18,7 @@ from frames import Head, request_now
 from gate import Station
 from serving import NotServing, boothd, own_addresses
 
-# (on a machine that does much else; what is due comes at once on any other)
+# (on a busy machine; what is due comes at once on any other)
 SECONDS_TO_ANSWER, SECONDS_TO_END = 20, 30
 MOST_UDP_BYTES = 65_507
 
@@ -36,11 +36,11 @@ checks = []
 
 
 class Wrong(Exception):
-    """What the program did is not what the protocol says."""
+    """The program acted differently from the protocol."""
 
 
 def check(function):
-    """Takes a function, whose docstring is the sentence that it checks, into the list."""
+    """Adds a function to the list of checks. Its docstring is the sentence that it checks."""
     checks.append(function)
     return function
 
@@ -55,7 +55,7 @@ def shown(datagram):
 
 
 class Counts:
-    """What a daemon is to have counted so far. At its start it asks all others for each ticket's state."""
+    """The counters that a daemon must have so far. At its start it asks all others for each ticket's state."""
 
     def __init__(self, station):
         self.station = station
@@ -74,25 +74,26 @@ class Counts:
         return other
 
     def let_in(self, address, since):
-        """One more frame of this member, which the daemon reads no earlier than this second."""
+        """One more frame of this member was accepted, which the daemon reads no earlier than this second."""
         self.accepted[address] += 1
         self.seen[address] = since
 
     def says(self, *addresses):
-        """One more message to each of these members, or to all."""
+        """One more message was sent to each of these members, or to all."""
         for address in addresses or self.said:
             self.said[address] += 1
 
     def sent_and_failed(self, address, told):
-        """The two counts of a member. A loopback address in IPv4 is reached from each. From one the system sends to no
-        other in IPv4; where either is of IPv6, that depends on the machine."""
+        """The two counters of a member. Every IPv4 loopback address can send to every other. From a loopback address in
+        IPv4 the system sends to no other IPv4 address; if either address is of IPv6, that depends on the machine.
+        """
         reaches = address.startswith("127.")
         if not reaches and ":" in self.station.address + address and sum(map(int, told)) == self.said[address]:
             return " ".join(told)
         return f"{self.said[address]} 0" if reaches else f"0 {self.said[address]}"
 
     def peers_due(self, text):
-        """The text of the list of members, with the seconds that stand in another text."""
+        """The text of the list of members, with those seconds that another text has."""
         lines = ["dropped " + " ".join(map(str, self.drops))]
         told = [line.split()[2:] for line in text.decode(errors="replace").split("\n")[1:]]
         told = [words if all(map(str.isdecimal, words)) else [] for words in told]
@@ -107,13 +108,13 @@ class Counts:
 
 
 class Shown:
-    """The owner of a ticket that a daemon is to list, which has granted it to nobody itself."""
+    """The holder of a ticket that a daemon must list, if the daemon has granted the ticket to nobody itself."""
 
     def __init__(self):
         self.owner, self.first, self.valid_for = "none", 0, 0
 
     def hears(self, station, parts, since):
-        """A message that was let in is heard, by "What members send", while the daemon agrees to nothing."""
+        """An accepted message is heard, by "What members send", while the daemon agrees to nothing."""
         leader, _, seconds = (int.from_bytes(parts.body[at : at + 4], "big") for at in (64, 68, 72))
         owner, sender = station.member(leader), station.member(parts.head.sender)
         tells = parts.letters in TELL_STATE and owner not in (None, station.address)
@@ -128,13 +129,13 @@ class Shown:
         return copy.copy(self)
 
     def seconds(self, came):
-        """The seconds that are left of the lease, which stand in what came if they may be those."""
+        """The remaining seconds of the lease: those in the text that arrived, if they are possible."""
         # (it was heard in that second or later, and a part of a second counts as one)
         least = self.first - time.time()
         return came if self.first and least <= came <= self.valid_for else self.valid_for
 
     def line(self, ticket, came):
-        """The line of a list, with the second that stands in another line where it may."""
+        """The line of a list, with the second that another line has, if that is possible."""
         words = came.split()[2:3]
         last = time.time() + self.valid_for
         is_near = self.first and words and words[0].isdigit() and self.first <= int(words[0]) <= last
@@ -143,7 +144,7 @@ class Shown:
 
 
 def is_answered(parts):
-    """Whether the sender of a message that was let in is answered, while the daemon agrees to nothing."""
+    """Whether the sender of an accepted message is answered, while the daemon agrees to nothing."""
     number = parts.head.options
     return parts.letters == "Stat" or (parts.letters, number != 0) in (("RVot", False), ("HrtB", True))
 
@@ -162,7 +163,7 @@ class Served:
         self.attributes = {ticket: {} for ticket in station.tickets}
 
     def lists_due(self):
-        """Says of a list which one was due."""
+        """Returns the due list for a list that arrived."""
         tickets = [(ticket, shown.copy()) for ticket, shown in zip(self.station.tickets, self.shown)]
 
         def due(text):
@@ -173,7 +174,7 @@ class Served:
         return due
 
     def stands_due(self, body):
-        """The result and the body that tell how a ticket stands, of which a function says the body that was due."""
+        """The result and the body of an answer about a ticket's state; a function returns the due body."""
         ticket = body[:64].rstrip(b"\0")
         if ticket not in self.station.tickets:
             return NOT_HERE, body[:64] + frames.numbers(frames.NO_ONE, 0, 0)
@@ -186,7 +187,7 @@ class Served:
         return 0, due
 
     def hears(self, parts, since):
-        """A member's frame is let in."""
+        """A member's frame is accepted."""
         sender = self.station.member(parts.head.sender)
         self.counts.let_in(sender, since)
         self.shown[self.station.tickets.index(parts.body[:64].rstrip(b"\0"))].hears(self.station, parts, since)
@@ -194,7 +195,7 @@ class Served:
             self.counts.says(sender)
 
     def ticket_answer(self, letters, body):
-        """What a grant or a revocation is answered, where no other member is known to hold."""
+        """The answer to a grant or a revocation, if no other member is known to hold."""
         ticket = body[:64].rstrip(b"\0")
         if ticket not in self.station.tickets:
             return NOT_HERE, body[:64] + frames.numbers(frames.NO_ONE, 0, 0)
@@ -209,7 +210,7 @@ class Served:
         return frames.code(result), body[:64] + frames.numbers(frames.NO_ONE, term, 0)
 
     def attribute_answer(self, letters, body):
-        """What a request about an attribute is answered. A name that is set again keeps its place."""
+        """The answer to a request about an attribute. A name that is set again keeps its place."""
         ticket, name, value = (field.rstrip(b"\0") for field in (body[:64], body[64:128], body[128:]))
         if not self.station.is_site or ticket not in self.attributes:
             return NOT_HERE, b"" if letters == "ALst" else body
@@ -229,7 +230,7 @@ class Served:
         return 0, body[:128] + frames.field(pairs[name], 128)
 
     def answer(self, letters, body):
-        """The result and the body, as Asker.takes has it, that answer a request of this command."""
+        """The result and the body, in the form of Asker.takes, that answer a request with this command."""
         if letters == "CLst":
             return 0, self.lists_due()
         if letters == "CTkt":
@@ -258,11 +259,11 @@ class Room:
         return path
 
     def station(self, **fields):
-        """The daemon that most checks ask."""
+        """The daemon to which most checks send requests."""
         return Station(self.address, **fields)
 
     def configuration(self, station):
-        """A text that says this."""
+        """A configuration with these values."""
         lines = [b'ticket = "%s"' % ticket for ticket in station.tickets]
         others = (b'%s = "%s"' % (role.encode(), who.encode()) for role, who in station.others)
         lines[:0] = [b'site = "%s"' % station.address.encode(), *others]
@@ -274,9 +275,9 @@ class Room:
 
     @contextlib.contextmanager
     def serving(self, station=None, text=None, options=None):
-        """A daemon with this file and these options more, which prints nothing while it serves.
-
-        Where no options are given it has a lock and a directory of its own, without a record."""
+        """A daemon with this file and these additional options, which prints nothing while it serves. Without options
+        it has its own lock and directory, without a record.
+        """
         station = station or self.station()
         options = self.own_places(f"places-{next(self.numbers)}") if options is None else options
         path = self.file(self.configuration(station) if text is None else text)
@@ -291,7 +292,7 @@ class Room:
         require(not said, f"a daemon that was to serve printed {said}")
 
     def own_places(self, name):
-        """The options of a daemon with a lock and a directory of its own."""
+        """The options of a daemon with its own lock and directory."""
         return ["-l", f"{self.folder}/{name}.lock", "-d", f"{self.folder}/{name}"]
 
     def words(self, path, address=None):
@@ -308,9 +309,9 @@ class Room:
         return ran.returncode, ran.stdout, ran.stderr
 
     def refuses(self, words, said, what=None):
-        """A run with these words has status 1, and says this on standard error, and nothing else but perhaps a line
-        with its cause, which tests/causes.py looks at. Of what cannot be opened, locked or read a line before it says
-        why."""
+        """A run with these arguments has status 1, and prints this on standard error. At most one line with its cause
+        may come before, for a file that cannot be opened, locked or read; tests/causes.py checks that line.
+        """
         status, out, err = self.ended(words)
         due = re.escape(b"boothd: " + said + b"\n") + rb"(boothd: [ -~]+\n)?"
         if said.startswith(NOT_HAD):
@@ -320,8 +321,9 @@ class Room:
 
 
 def begun_second():
-    """The second of the clock, once it has begun also for a clock that is a little behind, and while enough of it is left
-    for datagrams and their answers."""
+    """The second of the clock, once it has also begun for a clock that is slightly behind, and while enough of it is
+    left for datagrams and their answers.
+    """
     part = time.time() % 1
     if part > 0.7:
         time.sleep(1.05 - part)
@@ -351,7 +353,7 @@ class Asker:
         self.socket.sendto(datagram, (self.station.address, self.station.port))
 
     def receive(self, seconds=SECONDS_TO_ANSWER):
-        """The next datagram, or None where none comes in time."""
+        """The next datagram, or None if none arrives in time."""
         self.socket.settimeout(seconds)
         try:
             came, sender = self.socket.recvfrom(MOST_UDP_BYTES)
@@ -362,8 +364,9 @@ class Asker:
         return came
 
     def takes(self, letters, request, body=b"", result=0, what="a request"):
-        """The next datagram answers this request of this command with this body, or with that
-        which a function says of the text that came. Returns the daemon's clock in it, in ms."""
+        """The next datagram answers this request with this command and this body, or with the body that a function
+        returns for the text that arrived. Returns the daemon's clock in it, in ms.
+        """
         came = self.receive()
         require(came is not None, f"{what} has no reply")
         require(len(came) >= frames.HEAD_BYTES, f"{what} is answered by {shown(came)}")
@@ -379,7 +382,7 @@ class Asker:
         return clock.millis()
 
     def asks(self, letters, body=b"", what=None, request=None, **fields):
-        """A request has the answer that is due, with the daemon's clock of this moment."""
+        """A request has the due answer, with the daemon's clock of this moment."""
         what = what or letters
         request = next(self.numbers) if request is None else request
         before = time.time_ns() // 1_000_000
@@ -392,7 +395,7 @@ class Asker:
         require(is_now, f"{what} is answered at {clock}, outside {before} to {after}")
 
     def is_dropped(self, datagram, kind, what):
-        """This datagram has no reply, and raises this counter alone, by one."""
+        """This datagram has no reply, and raises only this counter, by one."""
         self.send(datagram)
         self.daemon.counts.drops[kind] += 1
         self.asks("Peer", what=f"Peer after {what}")

@@ -1,4 +1,4 @@
-"""Plays the audits below tests/rows/audit/: journals of members, and what `boothd audit` says of them.
+"""Plays the audits below tests/rows/audit/: journals of members, and the result of `boothd audit`.
 
 It is imported by tests/rows.py, which plays its files. `stories_in.py` has how texts stand in a file. A text is one
 of these, as its name begins:
@@ -50,13 +50,13 @@ class Audit(NamedTuple):
         return found + [(path_of(place), journal.encode()) for place, journal in enumerate(self.journals)]
 
     def script(self) -> List[str]:
-        """Returns the lines that the driver is given for it."""
+        """Returns the lines for the driver."""
         lines = [f"file {hexed(path.encode())} {hexed(data)}" for path, data in self.files()]
         words = ["audit", "-c", row_node.CONFIGURATION] + [path_of(place) for place in range(len(self.journals))]
         return lines + [run_line("boothd", [word.encode() for word in words])]
 
     def answer(self, result: str) -> List[str]:
-        """Returns the lines that the driver is to answer its run with, if this is its result."""
+        """Returns the lines that the driver must answer if this is the result of its run."""
         read = [f"read {hexed(path.encode())} ok" for path, _ in self.files()]
         kind, *held = result.split(", ")
         if kind == "good":
@@ -66,7 +66,7 @@ class Audit(NamedTuple):
         return read + [f"err {hexed(told.encode())} ok", f"ends 1 AuditBad({outcome})"]
 
     def holding(self, text: str) -> str:
-        """Returns the line that is printed of a holding."""
+        """Returns the line that is printed for a holding."""
         word, *numbers = text.split(" ")
         ticket, member, since, until = (int(number) for number in numbers)
         if word != "held":
@@ -77,7 +77,7 @@ class Audit(NamedTuple):
 
 
 class Shared(NamedTuple):
-    """What the audits share: configurations, and the parts of journals, each of whole lines."""
+    """The parts that the audits share: configurations, and parts of journals, each of whole lines."""
 
     configurations: Dict[str, str]
     parts: Dict[str, str]
@@ -101,7 +101,7 @@ class Shared(NamedTuple):
 
 
 class Try(NamedTuple):
-    """An audit, how a row calls it, and its result by the row."""
+    """An audit, how a row calls it, and its result in the row."""
 
     name: str
     audit: Audit
@@ -114,7 +114,7 @@ def path_of(place: int) -> str:
 
 
 def fault_of(text: str) -> Tuple[str, str]:
-    """Returns what is said of a fault, and the outcome."""
+    """Returns the text for a fault, and the outcome."""
     kind, *places = text.split(" ")
     if kind == "member" and len(places) == 1:
         return f"boothd: {path_of(int(places[0]))}: member\n", f"Member {{ journal: {places[0]} }}"
@@ -126,7 +126,7 @@ def fault_of(text: str) -> Tuple[str, str]:
 
 
 def spelled_record(words: List[str]) -> str:
-    """Returns the bytes of a record of the driver, in hexadecimal."""
+    """Returns the bytes of a driver's record, in hexadecimal digits."""
     if words[0] in ("none", "failed"):
         return "fail" if words[0] == "failed" else "none"
     numbers = (0 if word == "-" else int(word) for word in words)
@@ -138,7 +138,7 @@ def spelled_record(words: List[str]) -> str:
 
 
 def journal_lines(call: str) -> List[str]:
-    """Returns what a journal says of a call that the driver printed."""
+    """Returns the journal's lines for a call that the driver printed."""
     kind, *words = call.split(" ")
     if kind in ("read", "lock", "out", "err", "ends"):
         return []
@@ -173,7 +173,7 @@ def journals_of(driver: Driver) -> Dict[str, str]:
 
 
 def audits(shared: Shared, _head: List[str], rows: List[str]) -> Iterator[Try]:
-    """Gives the audits of rows."""
+    """Yields the audits of rows."""
     for row in rows:
         configuration, rest = parted(row, ": ")
         journals, wanted = parted(rest, ": ")
@@ -192,7 +192,7 @@ def changed_digit(line: str) -> Optional[str]:
 
 
 def edited(edit: str, lines: List[str], at: int) -> Optional[List[str]]:
-    """Returns the lines of a journal with this edit of the line at a place, if there is such an edit."""
+    """Returns the lines of a journal with this edit of the line at a place, if the edit is possible."""
     line, more = lines[at], lines[at + 1:]
     digit = changed_digit(line)
     if (edit == "swapped" and not more) or (edit == "digit" and digit is None):
@@ -203,7 +203,7 @@ def edited(edit: str, lines: List[str], at: int) -> Optional[List[str]]:
 
 
 def rows_by_name(rows: List[str]) -> Dict[str, str]:
-    """Returns what stands in rows behind their names."""
+    """Returns the texts after the names in rows."""
     found = dict(parted(row, ": ") for row in rows)
     if len(found) != len(rows):
         raise Trouble("a name stands in two rows")
@@ -211,7 +211,7 @@ def rows_by_name(rows: List[str]) -> Dict[str, str]:
 
 
 def edits_of(audit: Audit, edit: str) -> Iterator[Tuple[str, Audit, str]]:
-    """Gives the name of each edit of this kind, its audit, and its result if no row says another one."""
+    """Yields the name of each edit of this kind, its audit, and its result, unless a row has another result."""
     for place, journal in enumerate(audit.journals):
         lines = journal.splitlines()
         for at in range(len(lines)):
@@ -223,7 +223,7 @@ def edits_of(audit: Audit, edit: str) -> Iterator[Tuple[str, Audit, str]]:
 
 
 def edits(shared: Shared, head: List[str], rows: List[str]) -> Iterator[Try]:
-    """Gives the audits of edits."""
+    """Yields the audits of edits."""
     audit = shared.audit(*parted(head[1], ": "))
     wanted = rows_by_name(rows)
     for edit in EDITS:
@@ -237,7 +237,7 @@ def edits(shared: Shared, head: List[str], rows: List[str]) -> Iterator[Try]:
 
 
 def cuts(shared: Shared, head: List[str], rows: List[str]) -> Iterator[Try]:
-    """Gives the audits of cuts."""
+    """Yields the audits of cuts."""
     audit = shared.audit(*parted(head[1], ": "))
     wanted = rows_by_name(rows)
     otherwise = wanted.pop("else")
@@ -251,7 +251,7 @@ def cuts(shared: Shared, head: List[str], rows: List[str]) -> Iterator[Try]:
 
 
 def played(tries: List[Try], driver: Driver) -> Iterator[str]:
-    """Plays audits, and gives what is wrong with them."""
+    """Plays audits, and yields their faults."""
     answers = driver.play("runs", [line for one in tries for line in one.audit.script()])
     for one in tries:
         *made, run = answers[:len(one.audit.script())]
@@ -262,13 +262,13 @@ def played(tries: List[Try], driver: Driver) -> Iterator[str]:
 
 
 def legible(call: str) -> str:
-    """Returns a call that the driver printed with what it prints or says in letters."""
+    """Returns a call that the driver printed, with its texts in letters."""
     kind, *words = call.split(" ")
     return f"{kind} {bytes.fromhex(words[0].strip('-')).decode()!r}" if kind in ("out", "err", "read") else call
 
 
 def check(text: str, driver: Driver) -> Tuple[int, List[str]]:
-    """Plays the audits of a file, and returns how many there are, and what is wrong with some."""
+    """Plays the audits of a file, and returns how many there are, and their faults."""
     parts = {name: f"{part}\n" for name, part in named_in("audit", ["parts.txt"]).items()}
     kinds = {"audits": audits, "edits": edits, "cuts": cuts}
     count, wrong = 0, []

@@ -17,7 +17,7 @@ NOT_SIGNED = frames.numbers(2) + bytes(24)
 
 
 def fault_of(row: Row, rows: List[Row], of: str) -> Optional[List[str]]:
-    """Returns the two lines of the fault that a row wants, by the file's texts of the faults of this."""
+    """Returns the two lines of the fault that a row wants, from the file's texts for this kind of fault."""
     name = row.wanted.partition("fault ")[2]
     return told(rows)[f"{of} {name}"] if name else None
 
@@ -26,13 +26,13 @@ def fault_of(row: Row, rows: List[Row], of: str) -> Optional[List[str]]:
 
 
 def address_lines(row: Row, printed: str) -> List[str]:
-    """Returns what is wanted of an address that is read: its bytes and its id are Python's."""
+    """Returns the wanted lines of an address that is read: Python computes its bytes and its id."""
     packed = ipaddress.ip_address(row.given).packed
     return [f"{packed.hex()} {zlib.crc32(packed)} {printed}"]
 
 
 def address(row: Row, rows: List[Row]) -> List[Play]:
-    """A text, and how its address is printed."""
+    """A text, and the printed form of its address."""
     wanted = fault_of(row, rows, "address") or address_lines(row, row.wanted)
     return [(f"address {hexadecimal(bytes_of(row.given))}", wanted)]
 
@@ -48,14 +48,14 @@ def address_field(row: Row, _rows: List[Row]) -> List[Play]:
 
 
 def kept(row: Row, rows: List[Row]) -> List[Play]:
-    """Bytes that are kept as they are, or the fault."""
+    """Bytes that are accepted unchanged, or the fault."""
     data = hexadecimal(bytes_of(row.given))
     wanted = [f"{row.kind} {data}"] if row.wanted == "kept" else fault_of(row, rows, row.kind)
     return [(f"{row.kind} {data}", wanted or [])]
 
 
 def plain(row: Row, _rows: List[Row]) -> List[Play]:
-    """A line as the driver has it, and its answer's one line."""
+    """A line in the driver's form, and the one line of its answer."""
     return [(f"{row.kind} {row.given}", [row.wanted])]
 
 
@@ -75,7 +75,7 @@ def name_of(letters: str) -> str:
 
 
 def command(row: Row, _rows: List[Row]) -> List[Play]:
-    """A command, its body, between whom it goes, and what answers it."""
+    """A command, its body, its sender and receiver, and the command that answers it."""
     body, direction, answer = row.wanted.split(" ")
     shown = "None" if answer == "none" else f"Some({name_of(answer)})"
     code = frames.code(row.given)
@@ -83,7 +83,7 @@ def command(row: Row, _rows: List[Row]) -> List[Play]:
 
 
 def body_line(kind: int, body: bytes) -> str:
-    """Returns the line of a frame's body, by tools/frames.py's layout."""
+    """Returns the line of a frame's body, by the layout in tools/frames.py."""
 
     def text(start: int, size: int) -> str:
         return hexadecimal(body[start : start + size].split(b"\0")[0])
@@ -97,7 +97,8 @@ def body_line(kind: int, body: bytes) -> str:
 
 
 def frame_lines(datagram: bytes) -> List[str]:
-    """Returns what is wanted of a frame that is read: the fields that tools/frames.py reads, and its spelling again."""
+    """Returns the wanted lines of a frame that is read: the fields that tools/frames.py reads, and its spelling again.
+    """
     head = frames.Head.read(datagram)
     letters = head.cmd.to_bytes(4, "big").decode()
     signed = head.opts & frames.AUTH
@@ -109,7 +110,7 @@ def frame_lines(datagram: bytes) -> List[str]:
 
 
 def made(row: Row, rows: List[Row]) -> bytes:
-    """Returns the frame that tools/frames.py makes of the fields that a file gives, for a row with these letters."""
+    """Returns the frame that tools/frames.py makes of the fields in a file, for a row with these letters."""
     given = {name: value for let in rows if let.kind == "let" for name, value in [let.given.split(" ", 1)]}
     letters, _, auth = row.given.partition(" ")
     head = {name: int(given[name], 16) for name in "secs usecs sender request options reason result".split()}
@@ -125,7 +126,7 @@ def made(row: Row, rows: List[Row]) -> bytes:
 
 
 def frame(row: Row, rows: List[Row]) -> List[Play]:
-    """A command, with an authentication part or without, and the bytes of its frame with the fields of the file."""
+    """A command, with or without an authentication part, and the bytes of its frame with the fields of the file."""
     datagram = bytes_of(" ".join(row.text))
     if datagram != made(row, rows):
         raise Malformed(row.fault("tools/frames.py spells another frame"))
@@ -137,7 +138,7 @@ def frame_named(rows: List[Row], name: str) -> bytes:
 
 
 def signed(row: Row, rows: List[Row]) -> List[Play]:
-    """A frame of the file, a number and a hash, and the frame with these in its authentication part."""
+    """A frame of the file, a number and a hash, and the frame with both in its authentication part."""
     named, number, part = row.given.split(", ")
     datagram, plain_frame = bytes_of(" ".join(row.text)), frame_named(rows, named)
     line = f"signed {int(number, 16)} {bytes_of(part).hex()} {plain_frame.hex()}"
@@ -158,7 +159,7 @@ def changed(rows: List[Row], given: str) -> bytes:
 
 
 def change(row: Row, rows: List[Row]) -> List[Play]:
-    """A frame of the file that is changed, and its fault, or `none`."""
+    """A changed frame of the file, and its fault, or `none`."""
     datagram = changed(rows, row.given)
     wanted = frame_lines(datagram) if row.wanted == "none" else told(rows)[f"frame {row.wanted}"]
     return [(f"frame {hexadecimal(datagram)}", wanted)]
@@ -196,7 +197,7 @@ def record(row: Row, _rows: List[Row]) -> List[Play]:
 
 
 def record_change(row: Row, rows: List[Row]) -> List[Play]:
-    """A record's name, a place and the byte there, or so many bytes of it, and the fault."""
+    """A record's name, a place and the byte there, or this many of its bytes, and the fault."""
     name, *changes = row.given.split(", ")
     whole = next(bytes_of(" ".join(one.text)) for one in rows if one.kind == "record" and record_parts(one)[0] == name)
     data = bytearray(whole)
@@ -231,5 +232,5 @@ PLAYS: Dict[str, Plays] = {
 
 
 def check(text: str, driver: Driver) -> Tuple[int, List[str]]:
-    """Plays a file's rows, and returns how many there are, and what is wrong with some."""
+    """Plays a file's rows, and returns how many there are, and their faults."""
     return check_rows(text, driver, "bytes", PLAYS)

@@ -22,7 +22,7 @@ def boot_id(letter: str) -> bytes:
 
 
 def spelling(boot: str, offset: str, reached: str) -> str:
-    """Returns the bytes that a clock is kept by, in hexadecimal: 60 bytes, numbers in network order."""
+    """Returns the bytes of a clock file in hexadecimal digits: 60 bytes, with numbers in network order."""
     return (struct.pack(">QQQ", VERSION, int(offset), int(reached)) + boot_id(boot)).hex()
 
 
@@ -47,7 +47,7 @@ def line_of(call: str, kept: str) -> str:
 
 
 def shown(call: str, answer: str) -> str:
-    """Returns what an answer says, as a row has it."""
+    """Returns an answer in the form of a row."""
     if call != "kept":
         return answer
     version, offset, reached = struct.unpack(">QQQ", bytes.fromhex(answer)[:24])
@@ -58,7 +58,7 @@ def shown(call: str, answer: str) -> str:
 
 
 def play(story: str, driver: Driver) -> Tuple[int, List[str]]:
-    """Plays a story from its start to each of its lines, and returns how many it has and what is wrong."""
+    """Plays a story from its start to each of its lines, and returns how many lines it has, and the faults."""
     head, *rows = story.strip("\n").split("\n")
     lines: List[str] = []
     wrong, kept = [], "-"
@@ -75,7 +75,7 @@ def play(story: str, driver: Driver) -> Tuple[int, List[str]]:
 
 
 def check(text: str, driver: Driver) -> Tuple[int, List[str]]:
-    """Plays each story of a file, and returns how many rows there are and what is wrong."""
+    """Plays each story of a file, and returns how many rows there are, and the faults."""
     stories = [story for story in text.split("\n\n") if not story.startswith("##")]
     done = [play(story, driver) for story in stories]
     return sum(count for count, _ in done), [line for _, wrong in done for line in wrong]

@@ -1,4 +1,4 @@
-"""Plays rows about texts of the configuration: their first faults, and what they say.
+"""Plays rows about texts of the configuration: their first faults, and their contents.
 
 If a text is a configuration, the driver prints it, and a copy of it: the two are equal, and say the same again when
 the printed text is read.
@@ -43,7 +43,7 @@ class Text(NamedTuple):
 
 
 def block(row: Row) -> bytes:
-    """Returns the lines that stand below a row."""
+    """Returns the lines below a row."""
     return b"".join(unescaped(line) + b"\n" for line in row.text)
 
 
@@ -59,7 +59,7 @@ def before(row: Row, rows: List[Row]) -> bytes:
 
 
 def counted(row: Row) -> bytes:
-    """Returns `BEFORE | COUNT times FORM$ |AFTER`: lines that count from 0 in the place of `$`."""
+    """Returns `BEFORE | COUNT times FORM$ |AFTER`: lines with a number in place of `$`, counted from 0."""
     start, _, rest = row.given.partition(" | ")
     form, _, end = rest.partition(" |")
     count, _, line = form.partition(" times ")
@@ -70,13 +70,13 @@ def counted(row: Row) -> bytes:
 
 
 def long(row: Row) -> bytes:
-    """Returns `COUNT times LINE`, with so many `x` in the place of `$`."""
+    """Returns `COUNT times LINE`, with this many `x` in place of `$`."""
     count, _, line = row.given.partition(" times ")
     return unescaped(line).replace(b"$", b"x" * int(count))
 
 
 def full(_row: Row) -> bytes:
-    """Returns 4,096 tickets, each with the longest lines that a ticket may have by the defaults."""
+    """Returns 4,096 tickets, each with the longest lines that a ticket can have by the defaults."""
     prereqs = b"".join(b"attr-prereq=manual %063d ne %0127d\n" % (number, number) for number in range(8))
     times = b"expire=10000000\nacquire-after=10000000\ntimeout=99009\nretries=100\nrenewal-freq=9999999\n"
     weights = b"weights=" + b",".join([b"1000000000"] * 16) + b"\n"
@@ -118,7 +118,7 @@ def ticket_line(place: int, words: str) -> str:
 
 
 def said(row: Row) -> List[str]:
-    """Returns the driver's lines for the values that stand below a row."""
+    """Returns the driver's lines for the values below a row."""
     found: Dict[str, List[str]] = {}
     for line in row.text:
         key, _, value = line.partition(": ")
@@ -134,17 +134,17 @@ def said(row: Row) -> List[str]:
 
 
 def printed_by(answer: List[str]) -> bytes:
-    """Returns the text that is printed of a configuration."""
+    """Returns the printed text of a configuration."""
     return bytes.fromhex(answer[-2].partition("printed ")[2])
 
 
 def texts_of(rows: List[Row]) -> List[Text]:
-    """Returns the texts of all rows but those that say something of the one above."""
+    """Returns the texts of all rows except those rows that are about the one above."""
     return [Text(row, before(row, rows) + TEXTS[row.kind](row), row.wanted) for row in rows if row.kind in TEXTS]
 
 
 def judge(rows: List[Row], driver: Driver) -> List[str]:
-    """Plays each text, and what is printed of it, and returns what is wrong."""
+    """Plays each text, and its printed form, and returns the faults."""
     texts = texts_of(rows)
     answers = driver.play("conf", [hexadecimal(text.data) for text in texts])
     wrong = []
@@ -160,7 +160,7 @@ def judge(rows: List[Row], driver: Driver) -> List[str]:
 
 
 def faults_of(text: Text, answer: List[str]) -> List[str]:
-    """Returns what is wrong with the answer to a text."""
+    """Returns the faults of the answer to a text."""
     if text.fault != "none":
         return [] if answer == [fault_line(text.fault)] else [f"{answer[0][:100]} in place of {fault_line(text.fault)}"]
     if len(answer) < 4 or answer[-1] != answer[-2].replace("printed", "copied"):
@@ -169,7 +169,7 @@ def faults_of(text: Text, answer: List[str]) -> List[str]:
 
 
 def values(rows: List[Row], answers: Dict[int, List[str]]) -> List[str]:
-    """Compares the values, the printed text and its length with those that rows want of the text above them."""
+    """Compares the values, the printed text and its length with those that rows want for the text above them."""
     wrong, answer = [], []
     for row in rows:
         answer = answers.get(row.line, answer)
@@ -184,7 +184,7 @@ def values(rows: List[Row], answers: Dict[int, List[str]]) -> List[str]:
 
 
 def check(text: str, driver: Driver) -> Tuple[int, List[str]]:
-    """Plays a file's rows, and returns how many there are, and what is wrong with some."""
+    """Plays a file's rows, and returns how many there are, and their faults."""
     try:
         rows = rows_of(text)
         unknown = {row.kind for row in rows} - {*TEXTS, "before", "printed", "says", "length"}

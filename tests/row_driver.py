@@ -1,4 +1,4 @@
-"""Plays lines with the proved driver `trials play`, and gives their answers.
+"""Plays lines with the proved driver `trials play`, and returns its answers.
 
 It is imported by the programs in tests/, and not run by itself.
 """
@@ -20,7 +20,7 @@ class Unplayed(Exception):
 
 
 class Trouble(Exception):
-    """A file of rows that cannot be read, or an answer that cannot be shown."""
+    """A file of rows cannot be read, or an answer cannot be shown."""
 
 
 def run_line(program: str, words: List[bytes]) -> str:
@@ -35,7 +35,7 @@ class Driver:
         self.program = program
 
     def play(self, player: str, lines: List[str]) -> List[List[str]]:
-        """Returns the answer of each line, which is its lines."""
+        """Returns the lines that answer each line."""
         text = "".join(f"{line}\n" for line in lines)
         words = [self.program, "play", player]
         done = subprocess.run(words, input=text.encode(), stdout=subprocess.PIPE, timeout=SECONDS)
@@ -54,7 +54,7 @@ class Driver:
 
 
 class Session:
-    """A driver that plays line after line: what it plays goes on until the session ends."""
+    """A driver that plays line after line: its state continues until the session ends."""
 
     def __init__(
         self,
@@ -69,7 +69,7 @@ class Session:
         self.process = subprocess.Popen(words, cwd=folder, env=environ, **pipes)
 
     def say(self, line: str) -> str:
-        """Plays a line whose answer is one line, or none, and returns that."""
+        """Plays a line whose answer is one line or none, and returns the answer."""
         into, out = self._pipes()
         into.write(f"{line}\n".encode())
         into.flush()
@@ -88,7 +88,7 @@ class Session:
         return self.process.stdin, self.process.stdout
 
     def end(self) -> None:
-        """Ends the driver, and with it what it plays."""
+        """Ends the driver, and so its state."""
         into, out = self._pipes()
         into.close()
         self.process.wait(timeout=SECONDS)

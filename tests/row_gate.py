@@ -50,7 +50,7 @@ UNKEYED = "ring -"
 
 
 def let(rows: List[Row], name: str) -> str:
-    """Returns what a row `let` has by this name."""
+    """Returns the text of a row `let` with this name."""
     return next(row.wanted for row in rows if row.kind == "let" and row.given == name)
 
 
@@ -102,7 +102,7 @@ def edited(rows: List[Row], edits: str) -> bytes:
 
 
 def ring_line(words: str) -> str:
-    """Returns the driver's line for the ring of `HASH KEY` and perhaps a second key, or for `-`."""
+    """Returns the driver's line for the ring of `HASH KEY`, possibly with a second key, or for `-`."""
     hash_name, *keys = words.split(" ")
     if hash_name == "-":
         return UNKEYED
@@ -111,7 +111,7 @@ def ring_line(words: str) -> str:
 
 
 def judged(rows: List[Row], ring: str, frame: bytes, fault: str, me: str = "me", now: int = NOW) -> List[Play]:
-    """Plays a datagram at the gate of a member with this ring: what the ring and its copy say of it."""
+    """Plays a datagram at the gate of a member with this ring: the answers of the ring and of its copy."""
     verdict = ["admitted"] if fault == "taken" else told(rows)[f"gate {fault}"]
     return [(ring, []), (f"gate {WHO[me]} {now} {hexadecimal(frame)}", verdict * 2)]
 
@@ -130,23 +130,23 @@ def signed_frame(row: Row, rows: List[Row]) -> List[Play]:
 
 
 def keyed(row: Row, rows: List[Row]) -> List[Play]:
-    """A datagram if there is the key."""
+    """A datagram, for a gate with the key."""
     return judged(rows, KEYED, edited(rows, row.given), row.wanted)
 
 
 def unkeyed(row: Row, rows: List[Row]) -> List[Play]:
-    """A datagram if there is no key."""
+    """A datagram, for a gate without a key."""
     return judged(rows, UNKEYED, edited(rows, row.given), row.wanted)
 
 
 def there(row: Row, rows: List[Row]) -> List[Play]:
-    """A datagram at the first site, with the key and without."""
+    """A datagram at the first site, with the key and without it."""
     frame = edited(rows, row.given)
     return [play for ring in (KEYED, UNKEYED) for play in judged(rows, ring, frame, row.wanted, "sender")]
 
 
 def cuts(row: Row, rows: List[Row]) -> List[Play]:
-    """The same of one that is cut to each of these sizes."""
+    """The same for a datagram that is cut to each of these sizes."""
     sizes, edits = row.given.split("; ")
     start, _, end = sizes.partition(" to ")
     frame = edited(rows, edits)
@@ -156,7 +156,7 @@ def cuts(row: Row, rows: List[Row]) -> List[Play]:
 
 
 def age(row: Row, rows: List[Row]) -> List[Play]:
-    """A datagram 600 seconds later if there is the key; without one it is taken."""
+    """A datagram 600 seconds later with the key; without a key it is accepted."""
     frame = edited(rows, row.given)
     return judged(rows, KEYED, frame, row.wanted, now=LATER) + judged(rows, UNKEYED, frame, "taken", now=LATER)
 
@@ -168,14 +168,14 @@ def ringed(row: Row, rows: List[Row]) -> List[Play]:
 
 
 def name_fault(frame: bytes) -> str:
-    """Returns the fault of a frame whose name is another one: it is no name, or the MAC is wrong."""
+    """Returns the fault of a frame with another name: it is not a name, or the MAC is wrong."""
     name, _, rest = frame[48:112].partition(b"\0")
     is_name = 0 < len(name) < 64 and all(0x21 <= byte <= 0x7E for byte in name) and not any(rest)
     return "BadMac" if is_name else "Frame(Name)"
 
 
 def flips(row: Row, rows: List[Row]) -> List[Play]:
-    """Each of these bits of each of these bytes is turned, alone."""
+    """Each of these bits of each of these bytes is flipped, one at a time."""
     places, which, ring, edits = row.given.split("; ")
     start, _, end = places.partition(" to ")
     word, _, number = which.partition(" ")
@@ -202,8 +202,9 @@ def said(row: Row, rows: List[Row]) -> List[Play]:
 
 
 def command_frame(rows: List[Row], letters: str, size: int) -> bytes:
-    """Returns the frame of a command, of a client or of the sender, that names ticket-db8, and the sender as its leader
-    or `size` as its attribute: without an authentication part."""
+    """Returns the frame of a command, from a client or from the sender, that names ticket-db8, and names the sender as
+    its leader or `size` as its attribute. It has no authentication part.
+    """
     frame = bytearray(edited(rows, "36 00000000, cut 48"))
     put(frame, 28, letters.encode())
     if letters in frames.ANSWER_TO:
@@ -217,7 +218,9 @@ def command_frame(rows: List[Row], letters: str, size: int) -> bytes:
 
 
 def command(row: Row, rows: List[Row]) -> List[Play]:
-    """A command, the bytes of its body and its MAC: with it with a key and without, and so without it."""
+    """A command, the bytes of its body and its MAC: with the MAC and with a key, with the MAC and without a key, and
+    without both.
+    """
     letters, size, mac = row.given.split(" ")
     frame = command_frame(rows, letters, int(size))
     attribute = frames.ATTR if size == "256" else 0
@@ -238,19 +241,19 @@ def command(row: Row, rows: List[Row]) -> List[Play]:
 
 
 def seal(row: Row, rows: List[Row]) -> List[Play]:
-    """A ring, a time and what a datagram says, and the datagram that is sealed of it then."""
+    """A ring, a time and the contents of a datagram, and the datagram that is sealed then."""
     ring, now, edits = row.given.split("; ")
     sealed = f"sealed {edited(rows, row.wanted).hex()}"
     return [(ring_line(ring), []), (f"seal {now} {edited(rows, edits).hex()}", [sealed, sealed])]
 
 
 def mac_lines(key: bytes, message: bytes) -> List[str]:
-    """Returns the line of both MACs, which are Python's."""
+    """Returns the line of both MACs, which Python computes."""
     return [f"{hmac.digest(key, message, 'sha1').hex()} {hmac.digest(key, message, 'sha256').hex()}"]
 
 
 def mac(row: Row, _rows: List[Row]) -> List[Play]:
-    """A key and a message, and the MAC by the hash that the row is named by."""
+    """A key and a message, and the MAC by the hash that the row names."""
     key, message = (bytes_of(part) for part in row.given.split("; "))
     if hmac.digest(key, message, row.kind) != bytes_of(f"# {row.wanted}"):
         raise Malformed(row.fault("Python has another MAC"))
@@ -258,7 +261,7 @@ def mac(row: Row, _rows: List[Row]) -> List[Play]:
 
 
 def key_file(row: Row, rows: List[Row]) -> List[Play]:
-    """The bytes of a key file, and the MAC of nothing under the key that is meant, or the fault."""
+    """The bytes of a key file, and the MAC of an empty message under the intended key, or the fault."""
     file = bytes_of(row.given)
     line = f"mac {hexadecimal(file)} -"
     if row.wanted.startswith("fault "):
@@ -299,5 +302,5 @@ PLAYS: Dict[str, Plays] = {
 
 
 def check(text: str, driver: Driver) -> Tuple[int, List[str]]:
-    """Plays a file's rows, and returns how many there are, and what is wrong with some."""
+    """Plays a file's rows, and returns how many there are, and their faults."""
     return check_rows(text, driver, "gate", PLAYS)

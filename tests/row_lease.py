@@ -36,7 +36,7 @@ def start(line: str) -> str:
 
 
 def note(now: int, what: str) -> str:
-    """Returns the driver's line of what is noted."""
+    """Returns the driver's line of a note."""
     if what in NOTES:
         return f"{NOTES[what]} {now}"
     found = re.fullmatch(r"job started (\d+) (\S+)", what)
@@ -46,7 +46,7 @@ def note(now: int, what: str) -> str:
 
 
 def call(now: int, text: str) -> str:
-    """Returns the driver's line of a call that has a deed."""
+    """Returns the driver's line of a call that has an action."""
     name, _, given = text.partition(" ")
     if name == "hear":
         heard = message(given)
@@ -61,18 +61,18 @@ def call(now: int, text: str) -> str:
 
 
 def compared_start(answer: List[str], _before: List[str]) -> Tuple[object, object]:
-    """Compares the answer of a start, which is a view alone."""
+    """Compares the answer of a start, which is only a view."""
     printed_view(answer)
     return "started", "started"
 
 
 def note_step(story: str, row: str, now: int, what: str, fields: str) -> Step:
-    """Returns the step of a note, which has no deed."""
+    """Returns the step of a note, which has no action."""
     return Step(story, row, note(now, what), lambda answer, _: compared_fields(printed_view(answer), fields))
 
 
 def call_step(story: str, row: str, now: int, text: str, did: str) -> Step:
-    """Returns the step of a call, whose deed is compared whole."""
+    """Returns the step of a call, whose action is compared whole."""
     line = call(now, text)
     if did == "spent":
         return Step(story, row, line, lambda answer, before: (answer, ["spent"] + before[-2:]))
@@ -132,5 +132,5 @@ def steps_of(text: str) -> List[Step]:
 
 
 def check(text: str, driver: Driver) -> Tuple[int, List[str]]:
-    """Plays a file's stories, and returns how many rows there are, and what is wrong with some."""
+    """Plays a file's stories, and returns how many rows there are, and their faults."""
     return rule_words.checked("core", steps_of, text, driver)

@@ -17,7 +17,7 @@ SAYING = {"kept": "kept 1", "failed": "kept 0", "hello": "hello"}
 
 
 class Known(NamedTuple):
-    """What a member knows between two calls."""
+    """A member's knowledge between two calls."""
 
     term: int
     kept: Record
@@ -28,7 +28,7 @@ class Known(NamedTuple):
 
 
 def known(text: str) -> Known:
-    """Returns what is known in a text."""
+    """Returns the knowledge in a text."""
     words = text.split(", ")
     if len(words) != 3 or words[1] not in ("sure", "unsure"):
         raise Trouble(f"nothing is known so: {text}")
@@ -38,7 +38,7 @@ def known(text: str) -> Known:
 
 
 def printed_known(line: str) -> Known:
-    """Returns what is known in a line of the driver."""
+    """Returns the knowledge in a line of the driver."""
     words = line.split(" ")
     if len(words) != 15 or words[0] != "known":
         raise Trouble(f"the driver printed nothing that is known: {line}")
@@ -47,7 +47,7 @@ def printed_known(line: str) -> Known:
 
 
 def printed_made(answer: List[str], word: str) -> Optional[List[str]]:
-    """Returns the words of what a call made, which is one line at most, and behind which is what is known."""
+    """Returns the words for the result of a call, which is at most one line before the line of its knowledge."""
     printed_known(answer[-1])
     if len(answer) == 1:
         return None
@@ -58,26 +58,26 @@ def printed_made(answer: List[str], word: str) -> Optional[List[str]]:
 
 
 def keeping(answer: List[str]) -> Optional[Record]:
-    """Returns the record that is to be kept, or None if no term is left."""
+    """Returns the record to write, or None if no term is left."""
     if answer[:-1] == ["spent"]:
         return None
     return printed_record(printed_made(answer, "keep") or [])
 
 
 def saying(answer: List[str]) -> Optional[rule_words.Say]:
-    """Returns what is said, if something is."""
+    """Returns the message to send, if there is one."""
     words = printed_made(answer, "say")
     return printed_say(words) if words else None
 
 
 def keep_step(story: str, row: str, call: str, did: str) -> Step:
-    """Returns the step of a call that has a record to be kept."""
+    """Returns the step of a call that has a record to write."""
     wanted = None if did == "none" else record(did)
     return Step(story, row, call, lambda answer, _: (keeping(answer), wanted))
 
 
 def say_step(story: str, row: str, line: str, did: str) -> Step:
-    """Returns the step of a call that says something, or nothing."""
+    """Returns the step of a call that sends one message or none."""
     wanted = None if did == "nothing" else say(did)
     return Step(story, row, line, lambda answer, _: (saying(answer), wanted))
 
@@ -116,5 +116,5 @@ def steps_of(text: str) -> List[Step]:
 
 
 def check(text: str, driver: Driver) -> Tuple[int, List[str]]:
-    """Plays a file's stories, and returns how many rows there are, and what is wrong with some."""
+    """Plays a file's stories, and returns how many rows there are, and their faults."""
     return rule_words.checked("manual", steps_of, text, driver)

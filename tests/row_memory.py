@@ -1,4 +1,4 @@
-r"""Hosts in memory, and hosts over them that log, write a journal or serve links: each call's answer, and what is told.
+r"""Hosts in memory, and hosts over them that log, write a journal or serve links: the answers and records of each call.
 
 It is imported by tests/rows.py, and not run by itself. A file of rows has these lines:
 
@@ -44,7 +44,7 @@ CLIENT = "127.0.0.1"
 
 
 class Played(NamedTuple):
-    """A line that is played by a player, where it comes from, and the answer that is expected."""
+    """A line for a player, where it comes from, and the expected answer."""
 
     place: str
     player: str
@@ -53,23 +53,23 @@ class Played(NamedTuple):
 
 
 def texts(words: str) -> str:
-    """Returns texts as the driver's words."""
+    """Returns texts in the driver's form."""
     return " ".join(hexadecimal(bytes_of(word)) for word in words.split(" "))
 
 
 def with_data(text: str, words: int) -> str:
-    """Returns the words of which the last, behind so many others, are data."""
+    """Returns the words; the last word, after this many others, is data."""
     parts = text.split(" ", words)
     return " ".join([*parts[:words], hexadecimal(stream_of(parts[words]))])
 
 
 def arriving(text: str) -> str:
-    """Returns an arrival in the driver's words."""
+    """Returns an arrival in the driver's form."""
     return with_data(text, 3) if text.startswith("datagram ") else text
 
 
 def made_of(line: str) -> List[str]:
-    """Returns the driver's lines for what a host is made of."""
+    """Returns the driver's lines for the contents of a host."""
     first, _, rest = line.partition(" ")
     if first not in MAKING:
         raise Trouble(f"no such line: {line}")
@@ -85,7 +85,7 @@ def made_of(line: str) -> List[str]:
 
 
 def step(text: str) -> str:
-    """Returns a step in the driver's words."""
+    """Returns a step in the driver's form."""
     reading, fails, arrival = text.split(" ", 2)
     if fails != "-" and not set(fails.split(",")) <= set(FAILS):
         raise Trouble(f"no calls that fail: {text}")
@@ -93,7 +93,7 @@ def step(text: str) -> str:
 
 
 def call(text: str) -> str:
-    """Returns a call in the driver's words."""
+    """Returns a call in the driver's form."""
     first, _, rest = text.partition(" ")
     words = rest.split(" ")
     if first == "open":
@@ -114,7 +114,7 @@ def call(text: str) -> str:
 
 
 def answer_of(asked: str, text: str) -> str:
-    """Returns the answer of a call in the driver's words."""
+    """Returns the answer of a call in the driver's form."""
     first = asked.partition(" ")[0]
     if first == "next":
         return arriving(text)
@@ -126,7 +126,7 @@ def answer_of(asked: str, text: str) -> str:
 
 
 def told_call(text: str) -> str:
-    """Returns a call that is told, with its answer behind it."""
+    """Returns a recorded call, followed by its answer."""
     asked, found, answer = text.partition(" : ")
     if not found or asked.partition(" ")[0] not in ("now", "send"):
         raise Trouble(f"no such call: {text}")
@@ -154,16 +154,16 @@ class Reader:
         self.count = 0
 
     def play(self, text: str, wanted: List[str], player: str = "") -> None:
-        """Adds a line that is played by this player, or by that of the host's kind."""
+        """Adds a line for this player, or for the player of the host's kind."""
         self.played.append(Played(self.place, player or self.kind.partition(" ")[0], text, wanted))
 
     def row(self, text: str, wanted: List[str]) -> None:
-        """Adds a line that is played as a row."""
+        """Adds a line that is a row."""
         self.count += 1
         self.play(text, wanted)
 
     def resolved(self, lines: List[str]) -> List[str]:
-        """Returns the lines with each part in its place."""
+        """Returns the lines, with each part inserted."""
         unknown = [line for line in lines if line.startswith("as ") and line[3:] not in self.parts]
         if unknown:
             raise Trouble(f"no such part: {unknown}")
@@ -178,7 +178,7 @@ class Reader:
             self.play(line, [])
 
     def ask(self, asked: str, answer: str, logged: List[str]) -> None:
-        """Plays a call, and looks at what it logs if the host does."""
+        """Plays a call, and compares its log lines if the host has a log."""
         if not self.kind:
             raise Trouble(f"{self.place} is behind no host")
         self.calls.append((call(asked), answer_of(asked, answer)))
@@ -190,7 +190,7 @@ class Reader:
             raise Trouble(f"{self.place}: the host does not log")
 
     def tell(self, lines: List[str]) -> None:
-        """Looks at all that the host has told."""
+        """Compares all calls that the host has recorded."""
         self.told = lines
         if self.kind in ("memory", "quiet"):
             self.row("told", [told_call(line) for line in lines])
@@ -200,7 +200,7 @@ class Reader:
             raise Trouble(f"{self.place}: no such host")
 
     def repeat(self, kind: str, count: int) -> None:
-        """Makes the host and its calls again over another kind, which tells so many of the lines."""
+        """Makes the host and its calls again over another kind of host, which records this many of the lines."""
         given, calls, told = self.given, self.calls, self.told
         if not kind.startswith("journaled ") or not 0 <= count <= len(told):
             raise Trouble(f"{self.place}: no such host")
@@ -211,7 +211,7 @@ class Reader:
         self.calls, self.told = calls, told
 
     def heads(self) -> None:
-        """Looks whether each first part of the journal is a journal."""
+        """Checks whether each first part of the journal is a journal."""
         text = text_of_lines(self.told)
         if not text:
             raise Trouble(f"{self.place}: no journal")
@@ -228,7 +228,7 @@ class Reader:
             self.row(*link_call(word))
 
     def take(self, line: Line) -> None:
-        """Takes a line."""
+        """Handles a line."""
         first, _, rest = line.text.partition(" ")
         below = self.resolved(line.below)
         self.place = f"line {line.number}: {self.sentence} {line.text}"
@@ -254,7 +254,7 @@ class Reader:
             self.take_short(first, rest, below)
 
     def take_short(self, first: str, rest: str, below: List[str]) -> None:
-        """Takes a line without an answer."""
+        """Handles a line without an answer."""
         if below:
             raise Trouble(f"{self.place} has lines below it")
         if first == "links":
@@ -273,7 +273,7 @@ class Reader:
 
 
 def link_step(line: str) -> str:
-    """Returns what comes to links in the driver's words."""
+    """Returns the arrivals at links in the driver's form."""
     event, _, takes = line.partition(" | ")
     first, _, rest = event.partition(" ")
     link, _, what = rest.partition(" ")
@@ -298,12 +298,13 @@ def link_call(word: str) -> Tuple[str, List[str]]:
 
 
 def shown(lines: List[str]) -> List[str]:
-    """Returns the lines of an answer as they are printed: one that is hexadecimal alone as its text."""
+    """Returns the lines of an answer as they are printed. If a line has only hexadecimal digits, its text is returned.
+    """
     return [text_of(bytes.fromhex(line)) if re.fullmatch("([0-9a-f]{2}){8,}", line) else line for line in lines]
 
 
 def check(text: str, driver: Driver) -> Tuple[int, List[str]]:
-    """Plays the rows of a file. Returns how many there are, and what is wrong."""
+    """Plays the rows of a file. Returns how many there are, and their faults."""
     reader = Reader()
     for line in lines_of(text):
         reader.take(line)

@@ -1,4 +1,4 @@
-"""Plays the stories below tests/rows/node/: runs of the daemon, each turn with what comes in it and all its calls.
+"""Plays the stories below tests/rows/node/: runs of the daemon, with the input and all calls of each turn.
 
 It is imported by tests/rows.py, which plays its files. `stories_in.py` has how texts stand in a file, and
 `call_lines.py` how a frame, a record and a call are said.
@@ -37,7 +37,7 @@ KINDS = ["send", "keep", "start"]
 
 
 class Turn(NamedTuple):
-    """A turn of a member: what comes, which kinds of its calls fail, and its calls, all as the driver has them."""
+    """A turn of a member: its arrival, which kinds of its calls fail, and its calls, all in the driver's form."""
 
     head: str
     clock: int
@@ -47,7 +47,7 @@ class Turn(NamedTuple):
 
 
 class Life(NamedTuple):
-    """What one member does."""
+    """The start and the turns of one member."""
 
     member: str
     records: List[str]
@@ -55,7 +55,7 @@ class Life(NamedTuple):
 
 
 class Story(NamedTuple):
-    """A story as it stands in its file."""
+    """A story in its file."""
 
     name: str
     members: List[str]
@@ -75,14 +75,14 @@ class Story(NamedTuple):
 
 
 class Texts(NamedTuple):
-    """What the stories share."""
+    """The texts that the stories share."""
 
     configurations: Dict[str, str]
     parts: Dict[str, str]
 
 
 def shared_texts() -> Texts:
-    """Reads what the stories share."""
+    """Reads the texts that the stories share."""
     return Texts(named_in("node", ["configurations.txt"]), named_in("node", PARTS))
 
 
@@ -99,7 +99,7 @@ def story_of(text: str, texts: Texts) -> Story:
 
 
 def spread(turns: List[str], parts: Dict[str, str]) -> Iterator[str]:
-    """Gives the turns of a story, with those of its parts."""
+    """Yields the turns of a story, including those of its parts."""
     for turn in turns:
         if not turn.startswith("as "):
             yield turn
@@ -109,7 +109,7 @@ def spread(turns: List[str], parts: Dict[str, str]) -> Iterator[str]:
 
 
 def arrival_of(comes: str, clock: int, key: Optional[bytes]) -> str:
-    """Returns what comes in a turn."""
+    """Returns the arrival of a turn."""
     kind, _, rest = comes.partition(" ")
     if kind in ("quiet", "failure") and not rest:
         return kind
@@ -123,7 +123,7 @@ def arrival_of(comes: str, clock: int, key: Optional[bytes]) -> str:
 
 
 def turn_of(text: str, key: Optional[bytes], came: Optional[str] = None) -> Turn:
-    """Reads a turn, in which this comes if it is given, and else what its first line says."""
+    """Reads a turn with this arrival, or else with the arrival in its first line."""
     head, *calls = text.split("\n")
     clock, comes = parted(head[3:], " ")
     if not head.startswith("at ") or not clock.isdigit():
@@ -134,13 +134,13 @@ def turn_of(text: str, key: Optional[bytes], came: Optional[str] = None) -> Turn
 
 
 class Network:
-    """The datagrams between three members that are under way: to whom, from whom, and the bytes."""
+    """The datagrams between three members that have not arrived: the receiver, the sender, and the bytes."""
 
     def __init__(self) -> None:
         self.under_way: List[Tuple[str, str, str]] = []
 
     def put(self, member: str, calls: List[str]) -> None:
-        """Takes what a member sends to the others."""
+        """Adds the messages that a member sends to the others."""
         for call in calls:
             kind, *words = call.split(" ")
             for other in MEMBERS:
@@ -148,7 +148,7 @@ class Network:
                     self.under_way.append((other, member, words[2]))
 
     def take(self, member: str, other: str) -> str:
-        """Returns the bytes of the first datagram that is under way to a member from another one."""
+        """Returns the bytes of the first datagram that has not arrived at a member from another one."""
         for place, (to, sender, _) in enumerate(self.under_way):
             if (to, sender) == (member, other):
                 return self.under_way.pop(place)[2]
@@ -156,7 +156,7 @@ class Network:
 
 
 def shared_turn(text: str, network: Network, key: Optional[bytes]) -> Optional[Tuple[str, Turn]]:
-    """Reads a turn of one of three members, or what becomes of what is under way."""
+    """Reads a turn of one of three members, or a line about datagrams that have not arrived."""
     if text == "nothing is under way":
         if network.under_way:
             raise Trouble(f"under way are {network.under_way}")
@@ -174,7 +174,7 @@ def shared_turn(text: str, network: Network, key: Optional[bytes]) -> Optional[T
 
 
 def lives_of(story: Story) -> List[Life]:
-    """Returns what each member of a story does."""
+    """Returns the start and the turns of each member of a story."""
     if len(story.members) == 1:
         return [Life(story.members[0], story.records, [turn_of(turn, story.key()) for turn in story.turns])]
     lives = {member: Life(member, [], []) for member in story.members}
@@ -188,7 +188,7 @@ def lives_of(story: Story) -> List[Life]:
 
 
 def records_by_ticket(story: Story, life: Life) -> List[Tuple[str, str]]:
-    """Returns the record of each ticket as the driver has it, or `none`."""
+    """Returns the record of each ticket in the driver's form, or `none`."""
     tickets = story.tickets()
     records = life.records or ["none"] * len(tickets)
     if not tickets or len(records) != len(tickets):
@@ -197,7 +197,7 @@ def records_by_ticket(story: Story, life: Life) -> List[Tuple[str, str]]:
 
 
 def script_of(story: Story, life: Life, room: int) -> List[str]:
-    """Returns the lines that the driver is given for a member's run."""
+    """Returns the lines for the driver for a member's run."""
     lines = [f"file {hexed(CONFIGURATION.encode())} {hexed(story.configuration.encode())}"]
     if story.key():
         lines.append(f"file {hexed(KEY_FILE.encode())} {hexed(KEY)}")
@@ -219,7 +219,7 @@ def start_of(story: Story, life: Life) -> List[str]:
 
 
 def calls_of(story: Story, life: Life) -> List[Tuple[str, str]]:
-    """Returns each line that the driver is to answer a member's run with, and the turn that it is of."""
+    """Returns each line with which the driver must answer a member's run, and its turn."""
     lines = [("the start", call) for call in start_of(story, life)]
     for turn in life.turns:
         came = "failed" if turn.comes == "failure" else turn.comes
@@ -229,7 +229,7 @@ def calls_of(story: Story, life: Life) -> List[Tuple[str, str]]:
 
 
 def first_other(wanted: List[Tuple[str, str]], calls: List[str]) -> Optional[str]:
-    """Returns what is wrong with the first call that is another one than is wanted, if one is."""
+    """Returns the fault of the first call that differs from the wanted one, if there is one."""
     for place in range(max(len(wanted), len(calls))):
         turn, call = wanted[place] if place < len(wanted) else ("behind the end", "nothing")
         made = calls[place] if place < len(calls) else "nothing"
@@ -240,7 +240,7 @@ def first_other(wanted: List[Tuple[str, str]], calls: List[str]) -> Optional[str
 
 
 def play(story: Story, driver: Driver) -> Iterator[str]:
-    """Plays a story, and gives what is wrong with it."""
+    """Plays a story, and yields its faults."""
     for life in lives_of(story):
         wanted = calls_of(story, life)
         *made, run = driver.play("runs", script_of(story, life, len(wanted) + 100))
@@ -252,7 +252,7 @@ def play(story: Story, driver: Driver) -> Iterator[str]:
 
 
 def check(text: str, driver: Driver) -> Tuple[int, List[str]]:
-    """Plays the stories of a file, and returns how many there are, and what is wrong with some."""
+    """Plays the stories of a file, and returns how many there are, and their faults."""
     try:
         texts, stories = shared_texts(), texts_in(text)
     except Trouble as fault:

@@ -12,13 +12,13 @@ It is imported by tests/rows.py, and not run by itself. A file of rows has these
                                the same for each number of these, with two digits in the place of `##`
 
 The calls of attributes are `set TICKET NAME "VALUE"` (`done`, or `full`), `get TICKET NAME` (`"VALUE"`, or `none`),
-`delete TICKET NAME` (`done`, or `none`), `list TICKET` (each line in quotes), and `holds TICKET GRANT KIND NAME IS "VALUE"`
-(`yes` or `no`): whether a grant, `manual` or `auto`, is let through by a prerequisite of grants of a kind, by which the
-attribute `eq` or `ne` the value. `"X*N"` stands for the character X, N times.
+`delete TICKET NAME` (`done`, or `none`), `list TICKET` (each line in quotes), and `holds TICKET GRANT KIND NAME IS
+"VALUE"` (`yes` or `no`): whether a grant, `manual` or `auto`, is let through by a prerequisite of grants of a kind,
+by which the attribute `eq` or `ne` the value. `"X*N"` stands for the character X, N times.
 
-Those of a pool are `push LIST ITEM` (`at NODE`, or `full ITEM`), `pop LIST` (the item, or `-`), `count LIST`, `spare`,
-`holds NODE`, `remove NODE` and `replace NODE ITEM` (the item that was there, or `gone`), and `after NODE` (the next node of
-its list, or `-`). A node is the number of its push, from 0 on.
+Those of a pool are `push LIST ITEM` (`at NODE`, or `full ITEM`), `pop LIST` (the item, or `-`), `count LIST`,
+`spare`, `holds NODE`, `remove NODE` and `replace NODE ITEM` (the item that was there, or `gone`), and `after NODE`
+(the next node of its list, or `-`). A node is the number of its push, from 0 on.
 
 Those of a timer are `set SLOT DEADLINE`, `clear SLOT`, and `due READING` (the next slot that is due, or `-`).
 """
@@ -33,7 +33,7 @@ FLAGS = {"manual": "1", "auto": "0", "eq": "1", "ne": "0"}
 
 
 class Row(NamedTuple):
-    """A line that is played, and what it answers."""
+    """A line for the player, and its answer."""
 
     text: str
     player: str
@@ -48,7 +48,7 @@ def bytes_of(quoted: str) -> bytes:
 
 
 def spelled(call: str) -> str:
-    """Returns a call as the driver takes it."""
+    """Returns a call in the form that the driver reads."""
     words = []
     for word in re.findall(r'"[^"]*"|\S+', call):
         words.append((bytes_of(word).hex() or "-") if word.startswith('"') else FLAGS.get(word, word))
@@ -56,7 +56,7 @@ def spelled(call: str) -> str:
 
 
 def answer_of(call: str, wanted: str) -> List[str]:
-    """Returns the answer that the driver gives to a call, as lines."""
+    """Returns the lines with which the driver answers a call."""
     quoted = re.findall(r'"[^"]*"', wanted)
     if call.startswith("list "):
         lines = b"".join(bytes_of(each) + b"\n" for each in quoted)
@@ -83,7 +83,7 @@ class Reader:
         self.rows.append(Row(f"{self.sentence}: {text}", self.player, spelled(call), due))
 
     def take(self, line: str) -> None:
-        """Takes a line."""
+        """Handles a line."""
         first, _, rest = line.partition(" ")
         if first == "*":
             self.sentence, self.player = rest, ""
@@ -101,7 +101,7 @@ class Reader:
 
 
 def check(text: str, driver: Driver) -> Tuple[int, List[str]]:
-    """Plays the rows of a file. Returns how many there are, and what is wrong."""
+    """Plays the rows of a file. Returns how many there are, and their faults."""
     reader = Reader()
     for line in text.split("\n"):
         if line and not line.startswith("#"):

@@ -1,4 +1,4 @@
-"""Plays runs of three members whose messages are handed on: tests/rows/rules/room/.
+"""Plays runs of three members that exchange messages: tests/rows/rules/room/.
 
 A run is its sentence and its lines. Each member starts at 0 and asks all for their state; these first messages are
 handed to nobody. A line is `at`, the moment, and what is done then: `ask`, a member, `for` and a reason; `due`, a
@@ -7,7 +7,7 @@ arrive and those that they lead to, or `hear without` a member, by which those f
 and who alone leads by its kept lease, or `nobody`. A member, `view` and fields tell of its view. A line that begins
 with `# ` says what comes.
 
-The driver plays whole scripts, so a member's calls are played anew from its start whenever its next answer is needed.
+The driver plays whole scripts, so a member's calls are played again from its start whenever its next answer is needed.
 """
 
 import re
@@ -23,7 +23,7 @@ NAMES = ["S1", "S2", "AR"]
 
 
 class Letter(NamedTuple):
-    """A message on its way from one place to another."""
+    """A message that was sent from one place to another and has not arrived."""
 
     sender: int
     to: int
@@ -38,7 +38,7 @@ def place_of(name: str) -> int:
 
 
 def places(said: Say, sender: int, asker: int) -> List[int]:
-    """Returns the places to which something goes that is said."""
+    """Returns the places to which a message is sent."""
     if said.whom == "asker":
         return [asker]
     if said.whom == "all":
@@ -47,7 +47,7 @@ def places(said: Say, sender: int, asker: int) -> List[int]:
 
 
 class Room:
-    """The members' scripts, and the messages that are on their way."""
+    """The members' scripts, and the messages that have not arrived."""
 
     def __init__(self, driver: Driver) -> None:
         self.driver = driver
@@ -68,7 +68,7 @@ class Room:
         return printed_deed(answer[:-2] + (["did nothing nothing"] if is_hello else []))
 
     def finish(self, place: int, asker: int, now: int, made: Deed) -> str:
-        """Answers each keep with success, sends what is then said, and returns what is then told."""
+        """Answers each keep with success, sends the messages that follow, and returns the actions that follow."""
         while made.keep is not None:
             made = self.play(place, f"kept {now} 1")
         if made.say is not None:
@@ -81,7 +81,7 @@ class Room:
         self.finish(place, place, now, self.play(place, f"ask {now} {number(reason)}"))
 
     def due(self, now: int, name: str) -> Deed:
-        """Runs the rule of a member's deadline, and the renewal that it wants."""
+        """Runs the rule of a member's deadline, and the renewal that it requires."""
         place = place_of(name)
         made = self.play(place, f"tick {now}")
         want = made.want
@@ -90,7 +90,8 @@ class Room:
         return Deed(want=want, told=self.finish(place, place, now, made))
 
     def settle(self, now: int, lost: List[int]) -> None:
-        """Hands all messages on, and those that they lead to, but those from and to members that are cut off."""
+        """Delivers all messages, and those that they cause, except messages from and to members that are disconnected.
+        """
         for _ in range(100):
             if not self.letters:
                 return
@@ -101,12 +102,12 @@ class Room:
         raise Trouble(f"messages without end at {now}")
 
     def leaders(self, now: int) -> List[str]:
-        """Returns the members that lead, by what they have kept and what is in force."""
+        """Returns the members that lead, according to their records and the lease in force."""
         return [name for name, view in zip(NAMES, self.views)
                 if view.role == "leader" and view.kept.lease_until is not None and now < view.kept.lease_until]
 
     def act(self, now: int, text: str) -> Tuple[object, object]:
-        """Does what a line says, and returns what is given and what is wanted, if it tells of something."""
+        """Carries out a line, and returns the given and the wanted value, if the line has one."""
         word, _, rest = text.partition(" ")
         if word == "ask" and " for " in rest:
             self.ask(now, *rest.split(" for "))
@@ -124,7 +125,7 @@ class Room:
         return None, None
 
     def line(self, row: str) -> Tuple[object, object]:
-        """Plays a line, and returns what is given and what is wanted."""
+        """Plays a line, and returns the given and the wanted value."""
         found = re.fullmatch(r"at (\d+) (.+)", row)
         if found:
             return self.act(moment(found[1]), found[2])
@@ -135,7 +136,7 @@ class Room:
 
 
 def check_run(story: Story, driver: Driver) -> Tuple[int, List[str]]:
-    """Plays a run, and returns how many lines it has, and the first one that is wrong."""
+    """Plays a run, and returns how many lines it has, and the first wrong line."""
     sentence, *lines = story.head
     rows = [line for line in lines if not line.startswith("# ")]
     if not rows or story.blocks:
@@ -149,7 +150,7 @@ def check_run(story: Story, driver: Driver) -> Tuple[int, List[str]]:
 
 
 def check(text: str, driver: Driver) -> Tuple[int, List[str]]:
-    """Plays a file's runs, and returns how many rows there are, and what is wrong with some."""
+    """Plays a file's runs, and returns how many rows there are, and their faults."""
     try:
         runs = [check_run(story, driver) for story in rule_words.stories(text)]
     except (Trouble, Unplayed) as trouble:

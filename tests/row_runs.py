@@ -1,4 +1,4 @@
-r"""Whole runs of the programs: what a run is given, and which calls of its host, which prints and which end follow.
+r"""Whole runs of the programs: the input of a run, its calls of the host, its prints and its end.
 
 It is imported by tests/rows.py, and not run by itself. A file of rows has these lines:
 
@@ -62,7 +62,7 @@ class Line(NamedTuple):
 
 
 class Row(NamedTuple):
-    """A run: its command line, what its host is made of, and the lines that say what it is compared with."""
+    """A run: its command line, the contents of its host, and the lines with which it is compared."""
 
     number: int
     sentence: str
@@ -73,12 +73,12 @@ class Row(NamedTuple):
 
 
 def repeated(text: str) -> str:
-    """Returns the text with each letter as often as its count says."""
+    """Returns the text with each letter repeated by its count."""
     return re.sub(r"\{(\d+) (\S)\}", lambda found: found[2] * int(found[1]), text)
 
 
 def joined(text: str) -> Iterator[Tuple[int, str]]:
-    """Gives each line with its number, those that go on in the next one joined."""
+    """Yields each line with its number; a line that continues in the next one is joined with it."""
     whole, first = "", 0
     for number, line in enumerate(text.split("\n"), 1):
         if line.endswith(" "):
@@ -106,7 +106,7 @@ def lines_of(text: str) -> List[Line]:
 
 
 def resolved(lines: List[str], parts: Dict[str, List[str]]) -> List[str]:
-    """Returns the lines with each part in its place."""
+    """Returns the lines, with each part inserted."""
     return [one for line in lines for one in (parts[line[3:]] if line.startswith("as ") else [line])]
 
 
@@ -127,7 +127,7 @@ class Reader:
         self.tabled = 0
 
     def close(self) -> None:
-        """Ends a command line, which is a row itself if something is expected of it."""
+        """Ends a command line, which is itself a row if it has an expected result."""
         if self.head.wanted:
             self.rows.append(self.head)
         elif self.head.program and not self.tabled:
@@ -154,7 +154,7 @@ class Reader:
         self.tabled += 1
 
     def take(self, line: Line) -> None:
-        """Takes a line."""
+        """Handles a line."""
         first, _, rest = line.text.partition(" ")
         if line.below and first not in ("part", "with", "calls"):
             raise Trouble(f"line {line.number} has lines below it")
@@ -189,7 +189,7 @@ def rows_of(text: str) -> List[Row]:
 
 
 def fits(text: str, wanted: str) -> bool:
-    """Returns whether a text is the one that is wanted, or begins with it if `..` is behind that."""
+    """Returns whether a text is the wanted one, or begins with it if the wanted text ends with `..`."""
     return text.startswith(wanted[:-2]) if wanted.endswith("..") else text == wanted
 
 
@@ -203,7 +203,7 @@ def has_pieces(text: str, pieces: List[str]) -> bool:
 
 
 def behind(text: str, head: str) -> str:
-    """Returns the text without its head."""
+    """Returns the text after its head."""
     if not text.startswith(head):
         raise Trouble(f"not {head}: {text}")
     return text[len(head):]
@@ -221,7 +221,7 @@ def others_of(row: Row) -> List[List[str]]:
 
 
 def is_met(line: Line, run: Run, others: List[Run]) -> bool:
-    """Returns whether a run is as this line says. It takes the further run that the line is about."""
+    """Returns whether a run fits this line. It uses the further run that the line is about."""
     first, _, rest = line.text.partition(" ")
     if first == "calls":
         wanted = "\n".join(line.below)
@@ -238,7 +238,7 @@ def is_met(line: Line, run: Run, others: List[Run]) -> bool:
 
 
 def wrong(row: Row, runs: List[Run]) -> List[str]:
-    """Returns what is wrong with a row, of which these are the runs."""
+    """Returns the faults of a row with these runs."""
     run, *others = runs
     try:
         failed = [line for line in row.wanted if not is_met(line, run, others)]
@@ -249,7 +249,7 @@ def wrong(row: Row, runs: List[Run]) -> List[str]:
 
 
 def check(text: str, driver: Driver) -> Tuple[int, List[str]]:
-    """Plays the rows of a file. Returns how many there are, and what is wrong."""
+    """Plays the rows of a file. Returns how many there are, and their faults."""
     rows = rows_of(text)
     asked = [(row, words) for row in rows for words in [row.words, *others_of(row)]]
     lines = [line for row, words in asked for line in [*host_lines(row.given), run_line(row.program, words)]]

@@ -1,4 +1,4 @@
-r"""A service that follows its ticket and a planned move, step by step: what is done after each reading.
+r"""A service that follows its ticket, and a planned move, step by step: the action after each reading.
 
 It is imported by tests/rows.py, and not run by itself. A file of rows has these lines:
 
@@ -39,7 +39,7 @@ WAITS = {"wait": "1", "once": "0"}
 
 
 class Row(NamedTuple):
-    """A line that is played, and what is expected of it: nothing, or a text."""
+    """A line for the player, and its expected answer: none, or a text."""
 
     place: str
     text: str
@@ -49,13 +49,13 @@ class Row(NamedTuple):
 
 
 def millis(word: str) -> str:
-    """Returns the milliseconds of a number of seconds that has three places at most."""
+    """Returns the milliseconds of a number of seconds with at most three decimal places."""
     whole, _, part = word.partition(".")
     return word if word == "-" else str(int(whole) * 1000 + int(part.ljust(3, "0")))
 
 
 def margins(wanted: str, scale: bool) -> str:
-    """Returns the answer that margins or their fault are."""
+    """Returns the answer for margins or their fault."""
     if wanted in FAULTS:
         return f"fault {FAULTS[wanted]}"
     words = [millis(word) if scale else word for word in wanted.split(" ")]
@@ -65,7 +65,7 @@ def margins(wanted: str, scale: bool) -> str:
 
 
 def news(came: str) -> str:
-    """Returns what came to a service, in the driver's words."""
+    """Returns a service's news, in the driver's form."""
     if came == "-":
         return "nothing"
     words = came.split(" ")
@@ -73,7 +73,7 @@ def news(came: str) -> str:
 
 
 def reply(came: str) -> str:
-    """Returns the frame that came to a move."""
+    """Returns the frame that arrived at a move."""
     if came == "-":
         return came
     command, request, result, leader = came.split(" ")
@@ -82,7 +82,7 @@ def reply(came: str) -> str:
 
 
 def done_text(answer: str) -> str:
-    """Returns what is done as rows say it."""
+    """Returns an action in the form of the rows."""
     word, _, rest = answer.partition(" ")
     return f"{word} {code_of(int(rest))}" if word in ("refused", "stranded") else answer
 
@@ -118,7 +118,7 @@ class Reader:
         self.add(self.player, start, "")
 
     def take(self, line: str) -> None:
-        """Takes a line."""
+        """Handles a line."""
         first, _, rest = line.partition(" ")
         asked, found, wanted = rest.partition(" : ")
         if first == "*":
@@ -155,7 +155,7 @@ class Reader:
 
 
 def check(text: str, driver: Driver) -> Tuple[int, List[str]]:
-    """Plays the rows of a file. Returns how many there are, and what is wrong."""
+    """Plays the rows of a file. Returns how many there are, and their faults."""
     rows = Reader().read(text)
     answers: Dict[str, List[List[str]]] = {}
     for player in {row.player for row in rows}:

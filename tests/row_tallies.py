@@ -1,4 +1,4 @@
-"""What the replay of a member's journal tallies: the reading in use, what was held, what was sent, and what was not demanded.
+"""The tally of a replayed journal: the reading in use, the holdings, the sends, and the first undemanded call.
 
 It is imported by tests/rows.py, and not run by itself. A file of rows has these lines:
 
@@ -8,9 +8,10 @@ It is imported by tests/rows.py, and not run by itself. A file of rows has these
     * SENTENCE                 what the rows below it show
     PLACE of CONF: PARTS: TALLY
 
-A row has the place of the journal's member and its configuration, the parts of the journal, or `nothing`, and what is
-tallied: `last` with the reading in use; of each holding `held` with the ticket, the member, from when and until when; of
-each send `sent` with how many bytes it has; and `strays` with the line of the first call that was not demanded.
+A row has the place of the journal's member and its configuration, the parts of the journal, or `nothing`, and what
+is tallied: `last` with the reading in use; of each holding `held` with the ticket, the member, from when and until
+when; of each send `sent` with how many bytes it has; and `strays` with the line of the first call that was not
+demanded.
 """
 
 from typing import Dict, List, Tuple
@@ -45,7 +46,7 @@ def blocks_and_rows(text: str) -> Tuple[Dict[str, Dict[str, str]], List[str]]:
 
 
 def line_of(row: str, texts: Dict[str, Dict[str, str]]) -> Tuple[str, str]:
-    """Returns the line that plays a row, and what is wanted."""
+    """Returns the line that plays a row, and the wanted answer."""
     member, parts, wanted = row.split(": ")
     place, _, conf = member.partition(" of ")
     names = [] if parts == "nothing" else parts.split(", ")
@@ -58,7 +59,7 @@ def line_of(row: str, texts: Dict[str, Dict[str, str]]) -> Tuple[str, str]:
 
 
 def check(text: str, driver: Driver) -> Tuple[int, List[str]]:
-    """Plays the rows of a file. Returns how many there are, and what is wrong."""
+    """Plays the rows of a file. Returns how many there are, and their faults."""
     texts, rows = blocks_and_rows(text)
     played = [line_of(row, texts) for row in rows]
     answers = driver.play("tallies", [line for line, _ in played])

@@ -32,12 +32,12 @@ class Row(NamedTuple):
     text: List[str]
 
     def fault(self, why: str) -> str:
-        """Returns a line that tells what is wrong with this row."""
+        """Returns a line with the fault of this row."""
         return f"line {self.line} ({self.sentence}): {self.kind}: {self.given[:60]}: {why}"
 
 
 def rows_of(text: str) -> List[Row]:
-    """Returns the rows of a file. It raises `Malformed` if there is none, or a line that is no row."""
+    """Returns the rows of a file. Raises `Malformed` if there is none, or if a line is not a row."""
     rows: List[Row] = []
     sentence = ""
     for number, line in enumerate(text.split("\n"), 1):
@@ -69,7 +69,7 @@ def unescaped(text: str) -> bytes:
 
 
 def bytes_of(text: str) -> bytes:
-    """Returns the bytes of a text, or behind `# ` those of its hexadecimal words; `0b*20` is twenty times 0b."""
+    """Returns the bytes of a text, or after `# ` those of its hexadecimal words; `0b*20` is twenty times 0b."""
     if text != "#" and not text.startswith("# "):
         return unescaped(text)
     found = b""
@@ -80,12 +80,12 @@ def bytes_of(text: str) -> bytes:
 
 
 def hexadecimal(data: bytes) -> str:
-    """Returns bytes as the driver spells them."""
+    """Returns bytes in the driver's form."""
     return data.hex() or "-"
 
 
 def fields_of(text: str, names: str) -> Dict[str, str]:
-    """Returns the fields of `NAME VALUE, NAME VALUE`, each of which is one of these names."""
+    """Returns the fields in `NAME VALUE, NAME VALUE`. Each name must be one of these."""
     found = dict(part.split(" ", 1) for part in text.split(", ")) if text else {}
     if not set(found) <= set(names.split()):
         raise Malformed(f"a field is none of {names}: {text}")
@@ -93,12 +93,12 @@ def fields_of(text: str, names: str) -> Dict[str, str]:
 
 
 def told(rows: List[Row]) -> Dict[str, List[str]]:
-    """Returns the two lines in which the driver tells each fault, by the texts that a file's rows `told` say."""
+    """Returns the two lines with which the driver reports each fault, from the texts in a file's rows `told`."""
     return {row.given: [f"fault {row.given.split(' ')[-1]}", row.wanted] for row in rows if row.kind == "told"}
 
 
 def differences(row: Row, answer: List[str], wanted: List[str]) -> List[str]:
-    """Returns a line if an answer is not the one that is wanted, and else none."""
+    """Returns a line if an answer differs from the wanted one, otherwise none."""
     if answer == wanted:
         return []
     pairs = [pair for pair in zip(answer, wanted) if pair[0] != pair[1]]
@@ -112,10 +112,9 @@ Plays = Callable[["Row", List["Row"]], List[Play]]
 
 
 def check_rows(text: str, driver: Driver, player: str, plays: Dict[str, Plays]) -> Tuple[int, List[str]]:
-    """Plays a file's rows with this player, and returns how many there are, and what is wrong with some.
-
-    `plays` has for each kind what it plays: the driver's lines, each with the answer that is wanted. Rows `told` and
-    `let` say what others need, and are played by them: the text of a fault must be met by a row.
+    """Plays a file's rows with this player, and returns how many there are, and their faults. `plays` has a function
+    for each kind of row: it returns the driver's lines, each with the wanted answer. Rows `told` and `let` have texts
+    that other rows use, and are played with those: the text of a fault must be the wanted one of some row.
     """
     try:
         rows = rows_of(text)

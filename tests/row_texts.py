@@ -1,4 +1,4 @@
-r"""Which texts are journals, and which frames a stream has, however it is cut.
+r"""Which texts are journals, and which frames a stream has, wherever it is split.
 
 It is imported by tests/rows.py, and not run by itself. A file of rows has these lines:
 
@@ -25,7 +25,7 @@ from stream_data import bytes_of_word, frame, stream_of
 
 
 class Lines(NamedTuple):
-    """Lines that are played, where they come from, and the words that are expected of their answers."""
+    """Lines for the player, where they come from, and the expected words of their answers."""
 
     place: str
     lines: List[str]
@@ -40,7 +40,7 @@ def pieces(data: bytes, sizes: List[int]) -> List[str]:
 
 
 def journal(place: str, rest: str) -> Iterator[Lines]:
-    """Gives the line of a text of a journal."""
+    """Yields the line of a text of a journal."""
     text, _, line = rest.rpartition(" => ")
     whole = re.sub(r"\{(\d+) (\w+)\}", lambda found: found[2] * int(found[1]), text)
     wanted = "journal" if int(line) == 0 else str(int(line))
@@ -48,7 +48,7 @@ def journal(place: str, rest: str) -> Iterator[Lines]:
 
 
 def cut(place: str, rest: str) -> Iterator[Lines]:
-    """Gives the lines of a stream that is cut once."""
+    """Yields the lines of a stream that is cut once."""
     asked, _, marks = rest.rpartition(" => ")
     stream, found, sizes = asked.partition(" | ")
     if not found:
@@ -60,7 +60,7 @@ def cut(place: str, rest: str) -> Iterator[Lines]:
 
 
 def each(place: str, rest: str) -> Iterator[Lines]:
-    """Gives the lines of streams of two frames that are cut everywhere."""
+    """Yields the lines of streams of two frames that are cut at every place."""
     least, most, places = (int(word) for word in rest.split(" "))
     if places not in (1, 2):
         raise Trouble(f"{place}: no number of places")
@@ -74,7 +74,7 @@ def each(place: str, rest: str) -> Iterator[Lines]:
 
 
 def lines_of(text: str) -> Iterator[Lines]:
-    """Gives the lines that a file's rows are played by."""
+    """Yields the lines that play a file's rows."""
     sentence = ""
     for number, line in enumerate(text.split("\n"), 1):
         first, _, rest = line.partition(" ")
@@ -88,13 +88,13 @@ def lines_of(text: str) -> Iterator[Lines]:
 
 
 def words_of(answers: List[List[str]]) -> List[str]:
-    """Returns the words of the answers to the pieces of a stream, up to the one that says that it is broken."""
+    """Returns the words of the answers to the pieces of a stream, up to the answer that the stream is broken."""
     words = [word for answer in answers for line in answer for word in line.split()]
     return words[: words.index("broken") + 1] if "broken" in words else words
 
 
 def check(text: str, driver: Driver) -> Tuple[int, List[str]]:
-    """Plays the rows of a file. Returns how many there are, and what is wrong."""
+    """Plays the rows of a file. Returns how many there are, and their faults."""
     plays = list(lines_of(text))
     if not plays:
         raise Trouble("no rows")

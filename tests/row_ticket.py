@@ -30,7 +30,7 @@ CLIENT = bytes([192, 168, 201, 9])
 
 
 class Keep(NamedTuple):
-    """A record is kept, or is not."""
+    """A record is written, or the write fails."""
 
     record: Record
     ok: bool
@@ -40,7 +40,7 @@ class Keep(NamedTuple):
 
 
 class Start(NamedTuple):
-    """A handler is started, or could not be."""
+    """A handler is started, or cannot be started."""
 
     job: int
     expires: int
@@ -67,19 +67,19 @@ Act = Union[Keep, Start, Send]
 
 
 class Acts(tuple):
-    """The acts of a call."""
+    """The actions of a call."""
 
     def __str__(self) -> str:
         return "; ".join(str(act) for act in self) or "nothing"
 
 
 def port_of(client: int) -> int:
-    """Returns the port of a client, which is known by the number of its requests."""
+    """Returns the port of a client, which is identified by the number of its requests."""
     return client % 60_000
 
 
 def act(line: str) -> Act:
-    """Returns the act of a line."""
+    """Returns the action in a line."""
     found = re.fullmatch(r"(keep|start) (.*?)( failed)?", line)
     if found and found[1] == "keep":
         return Keep(record(found[2]), not found[3])
@@ -95,7 +95,7 @@ def act(line: str) -> Act:
 
 
 def printed_act(line: str) -> Act:
-    """Returns the act of a line of the driver."""
+    """Returns the action in a line of the driver."""
     words = line.split(" ")
     kind, how = words[0], words[1] if len(words) > 1 else ""
     if kind == "keep" and how in ("ok", "failed"):
@@ -110,7 +110,7 @@ def printed_act(line: str) -> Act:
 
 
 def opened(text: str) -> str:
-    """Returns the driver's words for the opening of a ticket."""
+    """Returns the opening of a ticket in the driver's form."""
     found = re.fullmatch(r"(\S+) of (\d+)( by hand)?(?: from (.*))?", text)
     if found is None:
         raise Trouble(f"no ticket: {text}")
@@ -120,14 +120,14 @@ def opened(text: str) -> str:
 
 
 def status(word: str) -> int:
-    """Returns how a handler ended."""
+    """Returns the status of a handler."""
     if word != "-1" and moment(word) > 255:
         raise Trouble(f"no status: {word}")
     return int(word)
 
 
 def call(text: str) -> Tuple[str, str]:
-    """Returns the driver's word of a call, and the words that it is given."""
+    """Returns the driver's word for a call, and its arguments."""
     name, _, rest = text.partition(" ")
     if name in ("grant", "revoke"):
         options, _, client = rest.partition(" of ")
@@ -145,7 +145,7 @@ def call(text: str) -> Tuple[str, str]:
 
 
 class Stage:
-    """The steps of one story, and what its calls are given beside what happens."""
+    """The steps of one story, and further arguments of its calls."""
 
     def __init__(self, story: str, opening: str) -> None:
         self.story = story
@@ -163,7 +163,7 @@ class Stage:
         self.add(row, line, lambda answer, _: (answer, []))
 
     def acts(self, turn: str, now: int, text: str, lines: List[str]) -> None:
-        """Adds a call with its acts."""
+        """Adds a call with its actions."""
         wanted = [act(line) for line in lines]
         failed = [isinstance(made, Keep) and not made.ok for made in wanted]
         hands = (failed[:1] == [True], any(failed), any(isinstance(made, Start) and not made.ok for made in wanted))
@@ -172,7 +172,7 @@ class Stage:
         self.add(turn, line, lambda answer, _: (Acts(map(printed_act, answer)), Acts(wanted)))
 
     def looks(self, row: str, now: int, wanted: List[Optional[int]], places: slice) -> None:
-        """Adds a look at the deadline, or at who is shown, until when."""
+        """Adds a look at the deadline, or at the shown owner and end."""
         def compared(answer: List[str], _before: List[str]) -> Tuple[object, object]:
             words = answer[0].split(" ")
             if len(answer) != 1 or len(words) != 4 or words[0] != "look":
@@ -182,7 +182,7 @@ class Stage:
         self.add(row, f"look {now}", compared)
 
     def owner(self, row: str, text: str) -> None:
-        """Adds a look at who is shown."""
+        """Adds a look at the shown owner."""
         found = re.fullmatch(r"(\d+): (?:nobody|(\S+) until (\d+))", text)
         if found is None:
             raise Trouble(f"nobody is shown so: {row}")
@@ -219,7 +219,9 @@ def words_of(text: str) -> List[str]:
 
 
 def each(text: str, behind: str) -> List[Tuple[str, str]]:
-    """Returns the text behind `each`, if it begins so, and what follows, with each of the words; else both once."""
+    """Returns the text after `each`, if it begins with that, and the lines after it, once with each of the words;
+    otherwise both once.
+    """
     if not text.startswith("each "):
         return [(text, behind)]
     words, colon, rest = text[len("each "):].partition(": ")
@@ -260,5 +262,5 @@ def steps_of(text: str) -> List[Step]:
 
 
 def check(text: str, driver: Driver) -> Tuple[int, List[str]]:
-    """Plays a file's stories, and returns how many rows there are, and what is wrong with some."""
+    """Plays a file's stories, and returns how many rows there are, and their faults."""
     return rule_words.checked("ticket", steps_of, text, driver)

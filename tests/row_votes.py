@@ -19,7 +19,7 @@ NEXT = 606_202
 
 
 def made(answer: List[str]) -> Deed:
-    """Returns the deed of an answer, behind which is the view."""
+    """Returns the action of an answer; the view comes after it."""
     printed_view(answer[-2:])
     return printed_deed(answer[:-2])
 
@@ -30,17 +30,17 @@ def vote(place: int) -> str:
 
 
 def keeps(story: str, row: str, line: str, wanted: bool) -> Step:
-    """Returns the step of a call that keeps a record, or none."""
+    """Returns the step of a call that writes a record, or none."""
     return Step(story, row, line, lambda answer, _: (made(answer).keep is not None, wanted))
 
 
 def unseen(story: str, row: str, line: str) -> Step:
-    """Returns the step of a call that only leads to what a row tells."""
+    """Returns the step of a call that only prepares what a row shows."""
     return Step(story, row, line, lambda answer, _: (bool(answer), True))
 
 
 def majority(story: str, row: str, given: List[int], wanted: str) -> List[Step]:
-    """Returns the steps of an election: the last of so many answers gives a lease or none, and no one before does."""
+    """Returns the steps of an election: only the last of this many answers gives a lease, or none does."""
     answered, members = given
     if not 0 < answered <= members:
         raise Trouble(f"so many cannot answer: {row}")
@@ -104,5 +104,5 @@ def steps_of(text: str) -> List[Step]:
 
 
 def check(text: str, driver: Driver) -> Tuple[int, List[str]]:
-    """Plays a file's tables, and returns how many calls they take, and what is wrong with some."""
+    """Plays a file's tables, and returns how many calls they need, and their faults."""
     return rule_words.checked("core", steps_of, text, driver)

@@ -1,8 +1,8 @@
 #!/usr/bin/env python3
-"""Plays every row below tests/rows/ with the proved driver, and compares what it answers.
+"""Plays every row below tests/rows/ with the proved driver, and compares its answers.
 
 Run it as `python3 tests/rows.py [PROGRAM [FILE ..]]`, PROGRAM being the built `trials`, which rt leaves at
-crates/trials/out/trials. It prints a line for each file, and has the status 1 if a row is another one.
+crates/trials/out/trials. It prints a line for each file, and has the status 1 if a row differs.
 """
 
 import importlib
@@ -25,10 +25,9 @@ def files() -> List[str]:
 
 
 def check(path: str, driver: Driver) -> bool:
-    """Plays a file's rows, prints what became of them, and says whether each was as it stands there.
-
-    The folder's name is that of the module that plays it: `row_NAME.py` has `check(text, driver)`, which returns how
-    many rows there are, and what is wrong with some.
+    """Plays a file's rows, prints the results, and returns whether every row passed. The folder's name is that of the
+    module that plays it: `row_NAME.py` has `check(text, driver)`, which returns how many rows there are, and their
+    faults.
     """
     module = importlib.import_module("row_" + os.path.basename(os.path.dirname(path)))
     name = os.path.relpath(path, ROWS)
@@ -47,7 +46,7 @@ def check(path: str, driver: Driver) -> bool:
 
 
 def main(words: List[str]) -> int:
-    """Plays the files that are named, or all."""
+    """Plays the named files, or all."""
     driver = Driver(os.path.abspath(words[0] if words else PROGRAM))
     done = [check(path, driver) for path in words[1:] or files()]
     return 0 if done and all(done) else 1

@@ -1,4 +1,4 @@
-"""Words of the stories about the rules of tickets, and the words of the proved driver for them.
+"""The words of the stories about the rules of tickets, and the words of the proved driver for them.
 
 It is imported by the modules that play rows, and not run by itself. A message is its nine numbers in the order of
 their frame: sender, command, request, options, reason, result, leader, term and seconds. A record is its term, and of
@@ -44,7 +44,7 @@ def optional(word: str) -> Optional[int]:
 
 
 def dashed(value: Optional[int]) -> str:
-    """Returns a number, or `-` for None, as the driver reads it."""
+    """Returns a number in the driver's form, or `-` for None."""
     return "-" if value is None else str(value)
 
 
@@ -55,7 +55,7 @@ def member_name(member: Optional[int]) -> str:
 
 
 def letters(value: int) -> str:
-    """Returns the four letters of a number that spells some, or the number."""
+    """Returns the four letters of a number, if it spells four letters, otherwise the number."""
     spelled = value.to_bytes(4, "big")
     is_code = 65 <= spelled[0] <= 90 and all(33 <= byte <= 126 for byte in spelled)
     return spelled.decode() if is_code else str(value)
@@ -75,7 +75,7 @@ class Record(NamedTuple):
     abstain: int = 0
 
     def words(self) -> str:
-        """Returns the nine words of the driver."""
+        """Returns the nine words of the driver's form."""
         return " ".join(dashed(field) for field in self)
 
     def __str__(self) -> str:
@@ -131,7 +131,7 @@ class Message(NamedTuple):
     ticket: bytes = TICKET
 
     def words(self) -> str:
-        """Returns the twelve words of the driver."""
+        """Returns the twelve words of the driver's form."""
         return " ".join(str(field) for field in self[:12])
 
     def __str__(self) -> str:
@@ -158,7 +158,7 @@ def printed_message(words: List[str]) -> Message:
 
 
 class Say(NamedTuple):
-    """What a rule says: to the asker, to all, or to the members of a set, whose bits are a number's."""
+    """A rule's message: to the client, to all members, or to a set of members, which are the bits of a number."""
 
     whom: str
     message: Message
@@ -168,7 +168,7 @@ class Say(NamedTuple):
 
 
 def say(text: str) -> Say:
-    """Returns what is said in a text."""
+    """Returns the message in a text."""
     whom, _, rest = text.partition(" ")
     if whom not in ("asker", "all"):
         moment(whom)
@@ -176,7 +176,7 @@ def say(text: str) -> Say:
 
 
 def printed_say(words: List[str]) -> Say:
-    """Returns what is said in a line of the driver."""
+    """Returns the message in a line of the driver."""
     return Say(words[0], printed_message(words[1:]))
 
 
@@ -191,7 +191,7 @@ def start_of(place: int, members: int, now: int, kept: Optional[Record]) -> str:
 
 
 class Story(NamedTuple):
-    """A story: the lines of its head, the first of which says what it shows, and the blocks behind them."""
+    """A story: the lines of its head, the first of which is its sentence, and the blocks after them."""
 
     head: List[str]
     blocks: List[str]
@@ -206,7 +206,7 @@ def without_comment(text: str) -> str:
 
 
 def stories(text: str) -> List[Story]:
-    """Returns the stories of a file: each begins with `## `, and its blocks stand between blank lines."""
+    """Returns the stories of a file: each begins with `## `, and blank lines separate its blocks."""
     found = []
     for block in without_comment(text).split("\n\n"):
         if block.startswith("## "):
@@ -221,7 +221,9 @@ def stories(text: str) -> List[Story]:
 
 
 def parts(folder: str) -> Dict[str, List[str]]:
-    """Returns what stories of a folder share: the blocks of each part, by its name, which stands before `: `."""
+    """Returns the parts that the stories of a folder share: the blocks of each part, by its name, which is followed by
+    `: `.
+    """
     with open(f"{TOP}/tests/rows/rules/{folder}/parts.txt", encoding="utf-8") as file:
         found = {}
         for part in stories(file.read()):
@@ -233,10 +235,8 @@ def parts(folder: str) -> Dict[str, List[str]]:
 
 
 class Step(NamedTuple):
-    """A row of a story: the driver's line, if it has one, and what is compared.
-
-    `compared` takes the answer of the line, or of the last one before, and the answer before that. It returns what is
-    given and what is wanted.
+    """A row of a story: the driver's line, if it has one, and the comparison. `compared` gets the answer of the line,
+    or the last answer, and the answer before that. It returns the given and the wanted value.
     """
 
     story: str
@@ -246,7 +246,7 @@ class Step(NamedTuple):
 
 
 def compare(step: Step, answer: List[str], before: List[str]) -> List[str]:
-    """Returns what is wrong with a step."""
+    """Returns the fault of a step."""
     try:
         given, wanted = step.compared(answer, before)
     except Trouble as trouble:
@@ -257,7 +257,7 @@ def compare(step: Step, answer: List[str], before: List[str]) -> List[str]:
 
 
 def play(player: str, steps: List[Step], driver: Driver) -> Tuple[int, List[str]]:
-    """Plays the steps, and returns how many there are, and what is wrong with some."""
+    """Plays the steps, and returns how many there are, and their faults."""
     answers = iter(driver.play(player, [step.line for step in steps if step.line is not None]))
     wrong: List[str] = []
     answer: List[str] = []
@@ -270,7 +270,7 @@ def play(player: str, steps: List[Step], driver: Driver) -> Tuple[int, List[str]
 
 
 def checked(player: str, steps_of: Callable[[str], List[Step]], text: str, driver: Driver) -> Tuple[int, List[str]]:
-    """Plays the rows of a file, of which `steps_of` makes steps."""
+    """Plays the rows of a file, from which `steps_of` makes steps."""
     try:
         return play(player, steps_of(text), driver)
     except (Trouble, Unplayed) as trouble:

@@ -22,7 +22,7 @@ RECORD_WORDS = 9
 
 
 class Run(NamedTuple):
-    """What a run did: the driver's line of each call, a letter for each, what was printed last, and how it ended."""
+    """A run: the driver's line of each call, a letter for each call, the last printed text, and the end."""
 
     lines: List[str]
     letters: str
@@ -36,7 +36,7 @@ class Run(NamedTuple):
         return "".join(f"{line}\n" for line in [*calls, f"ends {self.outcome} {self.status}"])
 
     def end(self) -> str:
-        """Returns the letters of the calls, the status, the outcome, and what was printed last or `-`."""
+        """Returns the letters of the calls, the status, the outcome, and the last printed text or `-`."""
         return f"{self.letters} {self.status} {self.outcome} {self.last}"
 
 
@@ -51,7 +51,7 @@ def address_text(word: str) -> str:
 
 
 def record_text(words: List[str]) -> str:
-    """Returns the text of a record: its term, and then what it has."""
+    """Returns the text of a record: its term, and then its other fields."""
     version, term, lease_term, lease_until, bound, to, promised, until, abstain = words
     parts = {"1": ["first"], "2": []}[version] + [term]
     if lease_term != "-":
@@ -66,7 +66,7 @@ def record_text(words: List[str]) -> str:
 
 
 def next_text(words: List[str]) -> str:
-    """Returns the text of what a wait brought."""
+    """Returns the text for the arrival at the end of a wait."""
     if words in (["quiet"], ["stop"], ["failed"]):
         return words[0]
     if words[0] == "handler":
@@ -77,7 +77,7 @@ def next_text(words: List[str]) -> str:
 
 
 def arrived_text(data: bytes) -> str:
-    """Returns the text of a datagram that arrived: of its frame, or `# ` and its bytes if it is none."""
+    """Returns the text of a datagram that arrived: that of its frame, or `# ` and its bytes if it is not a frame."""
     try:
         return frame_text(data)
     except Trouble:
@@ -91,7 +91,7 @@ def start_text(words: List[str]) -> str:
 
 
 def done_text(word: str) -> str:
-    """Returns the text behind a call's: ` failed`, or nothing."""
+    """Returns the text that follows a call's: ` failed`, or nothing."""
     return {"ok": "", "failed": " failed", "got": "", "taken": " not got"}[word]
 
 
@@ -125,19 +125,19 @@ def call_text(line: str) -> str:
 
 
 def last_text(line: str) -> str:
-    """Returns what the last call printed, or `-`."""
+    """Returns the text that the last call printed, or `-`."""
     name, *words = line.split(" ")
     return text_of(data_of(words[0])) if name in ("out", "err") else "-"
 
 
 def outcome_text(text: str) -> str:
-    """Returns an outcome, with the letters of the result that was refused with."""
+    """Returns an outcome, with the letters of the result for a refusal."""
     found = re.fullmatch(r"(Refused|Stranded)\((\d+)\)", text)
     return f"{found[1]} {code_of(int(found[2]))}" if found else text
 
 
 def run_of(answer: List[str]) -> Run:
-    """Returns the run that this answer tells."""
+    """Returns the run in this answer."""
     if not answer or not answer[-1].startswith("ends "):
         raise Trouble(f"no end: {answer}")
     *lines, end = answer

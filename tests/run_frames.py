@@ -28,7 +28,9 @@ NOTHING = "''"
 
 
 def bytes_of(text: str) -> bytes:
-    r"""Returns the bytes of a text: `$` ends a line, `\hh` is a byte, `''` none, and `# ` is before hexadecimal."""
+    r"""Returns the bytes of a text: `$` is a line end, `\hh` is a byte, `''` is no byte, and `# ` comes before
+    hexadecimal digits.
+    """
     if text.startswith("# "):
         return bytes.fromhex(text[2:])
     if text == NOTHING:
@@ -37,32 +39,33 @@ def bytes_of(text: str) -> bytes:
 
 
 def letter_of(byte: int) -> str:
-    """Returns what stands for a byte in a text."""
+    """Returns the text for a byte."""
     if byte == 10:
         return "$"
     return chr(byte) if 32 <= byte < 127 and byte not in b"$\\" else f"\\{byte:02x}"
 
 
 def text_of(data: bytes) -> str:
-    """Returns the text that these bytes have."""
+    """Returns the text for these bytes."""
     text = "".join(letter_of(byte) for byte in data)
     return text.replace("'", "\\27") if text == NOTHING else text or NOTHING
 
 
 def code_of(number: int) -> str:
-    """Returns the four letters of a command, a reason or a result, or its number if they are none."""
+    """Returns the four letters of a command, a reason or a result, or its number if it has none."""
     letters = number.to_bytes(4, "big")
     return text_of(letters) if all(33 <= letter < 127 for letter in letters) else str(number)
 
 
 def member_of(number: int) -> str:
-    """Returns the name of the member that has this id, `-` for 0, or the number."""
+    """Returns the name of the member with this id, `-` for 0, or the number."""
     names = [name for name, known in IDS.items() if known == number]
     return names[0] if names else str(number) if number else "-"
 
 
 def number_of(word: str) -> int:
-    """Returns the number of a word: a member's or nobody's id, the letters of a command or a result, or digits."""
+    """Returns the number of a word: the id of a member or of nobody, the letters of a command or a result, or digits.
+    """
     if word == "client":
         return 0
     if word in IDS:
@@ -94,7 +97,7 @@ def frame_of(text: str) -> bytes:
 
 
 def name_in(field: bytes) -> str:
-    """Returns the text of a name's or a value's field, which only zeros follow."""
+    """Returns the text of a name's or a value's field, in which only zeros follow the text."""
     name = field.rstrip(b"\0")
     if 0 in name or name == field:
         raise Trouble(f"no field: {field.hex()}")

@@ -35,7 +35,7 @@ def hexadecimal(data: bytes) -> str:
 
 
 def datagram(name: str, data: bytes) -> str:
-    """Returns the arrival of a datagram from this member, client or stranger."""
+    """Returns the arrival of a datagram from this member, client or unknown sender."""
     if name not in [*MEMBERS, "client", "stranger"]:
         raise Trouble(f"no sender: {name}")
     address, port = (MEMBERS[name], 9929) if name in MEMBERS else CLIENT
@@ -43,7 +43,7 @@ def datagram(name: str, data: bytes) -> str:
 
 
 def arrival(comes: str) -> str:
-    """Returns the arrival of a step's text."""
+    """Returns the arrival in a step's text."""
     first, _, rest = comes.partition(" ")
     if first == "nothing" or first == "failure":
         return {"nothing": "quiet", "failure": "failure"}[comes]
@@ -57,7 +57,7 @@ def arrival(comes: str) -> str:
 
 
 def step(line: str) -> str:
-    """Returns the step of a line: the reading and what arrives, behind the names of the calls that fail."""
+    """Returns the step of a line: the reading and the arrival, after the names of the calls that fail."""
     fails, found, rest = line.partition(": ")
     if not found or " " in fails:
         fails, rest = "", line
@@ -89,7 +89,7 @@ def hinder(text: str) -> str:
 
 
 def host_lines(lines: List[str]) -> List[str]:
-    """Returns the lines of the driver that make the host of these lines."""
+    """Returns the driver's lines that make the host of these lines."""
     files: Dict[str, bytes] = {"/etc/booth.conf": GOOD.encode(), "/k": b"", "/old": b""}
     made = []
     for line in lines:

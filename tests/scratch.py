@@ -11,8 +11,7 @@ from typing import Iterator
 
 @contextlib.contextmanager
 def scratch(prefix: str) -> Iterator[str]:
-    """A new folder that is removed at the end. A program that is still running may write into it then: what it leaves
-    fails no test."""
+    """A new folder that is removed at the end. If a program that still runs writes into it then, no test fails."""
     folder = tempfile.mkdtemp(prefix=prefix)
     try:
         yield folder

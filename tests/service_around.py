@@ -1,4 +1,4 @@
-"""Stories of what stands around follow-service: the handler, follow-unit, clock-wait and the unit's times.
+"""Stories of the programs around follow-service: the handler, follow-unit, clock-wait, and the times of the unit.
 
 It is imported by tests/service_words.py, and not run by itself.
 """
@@ -15,14 +15,14 @@ stories: List[Story] = []
 
 
 def story(function: Story) -> Story:
-    """Adds a story to those that are told."""
+    """Adds a story to the list of stories."""
     stories.append(function)
     return function
 
 
 @story
 def the_handler_refuses_what_failed(room: Room) -> None:
-    """the handler refuses while the state says failed, until its time is over or it is cleared"""
+    """the handler refuses while the state is failed, until the time is over or the state is cleared"""
     handler = lambda: room.call("handler-follow", BOOTH_TICKET=TICKET)
     same((handler().status, handler().printed), (0, ""), "where nothing is known")
     room.word("renew", str(KILL))
@@ -47,7 +47,7 @@ def the_handler_refuses_what_failed(room: Room) -> None:
 
 @story
 def units_are_checked_stopped_and_killed(room: Room) -> None:
-    """follow-unit tells what runs, stops a unit only where nothing of it is left, and kills until it is over"""
+    """follow-unit reports whether the unit runs; stop and kill succeed only when none of its processes is left"""
     unit = "db8.service"
     rows = [("active", 0), ("reloading", 0), ("inactive", 3), ("failed", 3)]
     rows += [("activating", 1), ("deactivating", 1), ("", 1)]
@@ -76,13 +76,13 @@ def units_are_checked_stopped_and_killed(room: Room) -> None:
     room.put(f"units/{unit}", "active\n")
     room.put("kill.hangs")
     done = room.call("follow-unit", unit, "kill")
-    need(done.status == 1 and "not over" in done.printed, f"a kill that does nothing: {done}")
+    need(done.status == 1 and "has not ended" in done.printed, f"a kill that does nothing: {done}")
     same(room.call("follow-unit", unit, "go").status, 2, "another word")
 
 
 @story
 def the_first_start_of_a_boot_waits_for_the_clock(room: Room) -> None:
-    """clock-wait waits in vain no longer than it may, says so, and waits for nothing after the first start of a boot"""
+    """clock-wait waits at most its time and reports that; it waits for nothing after the first start of a boot"""
     given = {"BOOTH_BOOT_ID": f"{room.folder}/boot", "BOOTH_TIMESYNC": f"{room.folder}/timesync", "CLOCK_SECONDS": "1"}
     boot = "0123abcd-" * 4
     room.put("boot", f"{boot}\n")
@@ -109,7 +109,7 @@ def the_first_start_of_a_boot_waits_for_the_clock(room: Room) -> None:
 
 @story
 def times_of_the_unit_fit(room: Room) -> None:
-    """the unit leaves what runs before and after the follower its time, and restarts it soon"""
+    """the unit gives the steps before and after the follower their time, and restarts soon"""
     unit = read(f"{PACKAGING}/booth-follow@.service")
     value = lambda key: re.search(rf"^{key}=(.*)$", unit, re.M)[1]
     limits = dict(re.findall(r"\b([A-Z]+_LIMIT)=(\d+)", read(f"{PACKAGING}/follow-service")))
@@ -123,7 +123,7 @@ def times_of_the_unit_fit(room: Room) -> None:
 
 
 def await_service(room: Room, wanted: str, what: str) -> None:
-    """Waits until the state says this of the service."""
+    """Waits until the state of the service is this one."""
     until = time.monotonic() + SLACK
     while room.state()["service"] != wanted and time.monotonic() < until:
         time.sleep(0.05)
@@ -132,7 +132,7 @@ def await_service(room: Room, wanted: str, what: str) -> None:
 
 @story
 def what_ended_by_itself_is_told(room: Room) -> None:
-    """a renewal has the service looked for, and the state says that it ended by itself, and that it runs again"""
+    """a renewal checks the service; the state then shows that it ended by itself, and later that it runs again"""
     room.begun()
     for number, (status, wanted) in enumerate((("0", "running"), ("1", "running"), ("3", "ended"), ("1", "ended"))):
         room.put("check.status", status)

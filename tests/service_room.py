@@ -1,4 +1,4 @@
-"""A room without systemd in which follow-service and what stands around it are run: stand-ins on PATH note each call.
+"""A room without systemd for follow-service and the programs around it: stand-ins on PATH note each call.
 
 It is imported by tests/service_words.py, and not run by itself. The stand-ins keep timers and units as files, and fail,
 hang or are late where a file says so.
@@ -80,7 +80,7 @@ word=$2
 
 
 class Ended(NamedTuple):
-    """How a run ended, what it printed, and how long it took in seconds."""
+    """The outcome of a run: its status, what it printed, and how long it took in seconds."""
 
     status: int
     printed: str
@@ -88,7 +88,7 @@ class Ended(NamedTuple):
 
 
 class Ran(NamedTuple):
-    """A run of the service's program: its word, what stands behind that, and what it was told of the end."""
+    """A run of the service's program: its word, the arguments after it, and the end that it was given."""
 
     word: str
     more: List[str]
@@ -123,13 +123,13 @@ class Room:
             file.write(text)
 
     def drop(self, *names: str) -> None:
-        """Removes files of the room that are there."""
+        """Removes those files of the room that exist."""
         for name in names:
             if os.path.exists(f"{self.folder}/{name}"):
                 os.remove(f"{self.folder}/{name}")
 
     def text(self, name: str) -> str:
-        """What a file of the room has, nothing where it is missing."""
+        """The text of a file of the room, empty if it is missing."""
         try:
             with open(f"{self.folder}/{name}", encoding="utf-8") as file:
                 return file.read()
@@ -137,7 +137,7 @@ class Room:
             return ""
 
     def environment(self, more: Dict[str, str]) -> Dict[str, str]:
-        """The environment of a run: that of the follower, with what is more."""
+        """The environment of a run: that of the follower, with additional variables."""
         given = {name: text for name, text in os.environ.items() if not name.startswith(("BOOTH_", "JOURNAL_"))}
         given["PATH"] = f"{self.folder}/bin:{os.environ['PATH']}"
         given["BOOTH_FOLLOW_RUN"] = self.run_folder
@@ -145,7 +145,7 @@ class Room:
         return {**given, **more}
 
     def call(self, *words: str, **more: str) -> Ended:
-        """Runs a program of the package with these words, and with these variables more."""
+        """Runs a program of the package with these arguments, and with these additional variables."""
         path, *rest = words
         begun = time.monotonic()
         done = subprocess.run(
@@ -161,23 +161,23 @@ class Room:
         return Ended(done.returncode, done.stdout, time.monotonic() - begun)
 
     def word(self, *words: str, ticket: str = TICKET, ends: int = ENDS, left: int = LEFT, **more: str) -> Ended:
-        """Runs follow-service with a word for the program, as the follower does."""
+        """Runs follow-service with a word and the program, as the follower does."""
         told = {"BOOTH_TICKET": ticket, "BOOTH_TICKET_EXPIRES": str(ends), "BOOTH_TICKET_LEFT": str(left), **more}
         return self.call("follow-service", ticket, self.program, "fast", *words, **told)
 
     def by_unit(self, word: str, **more: str) -> Ended:
-        """Runs follow-service as the unit and the switch do, which know of no lease."""
+        """Runs follow-service as the unit and the switch do, which know no lease."""
         return self.call("follow-service", TICKET, self.program, "fast", *word.split(), BOOTH_TICKET=TICKET, **more)
 
     def begun(self, **more: str) -> None:
-        """The service runs, and its end is armed; what was noted until then is forgotten."""
+        """The service runs, and its end is armed; earlier notes of the stand-ins are deleted."""
         for words in (("renew", str(KILL)), ("start",)):
             ended = self.word(*words, **more)
             assert ended.status == 0, ended
         self.drop("calls", "ran")
 
     def ran(self) -> List[Ran]:
-        """The runs of the service's program since the room was made or told to forget them."""
+        """The runs of the service's program since the room was made or these notes were deleted."""
         found = []
         for line in self.text("ran").splitlines():
             _, word, *more, expires, left = line.split()
@@ -193,15 +193,15 @@ class Room:
         return self.text("calls").splitlines()
 
     def timers(self) -> List[str]:
-        """The names of the timers that are armed, without the number of the run that armed them."""
+        """The names of the armed timers, without the number of the run that armed them."""
         return sorted(re.sub(r"^(booth-end-.*-\d+)-\d+(\.timer)$", r"\1\2", name) for name in self.timer_files())
 
     def timer_files(self) -> List[str]:
-        """The names of the timers that are armed."""
+        """The names of the armed timers."""
         return os.listdir(f"{self.folder}/timers")
 
     def armed(self, ticket: str = TICKET) -> Optional[str]:
-        """What the file of the end has, or None where it is missing."""
+        """The content of the file of the end, or None if it is missing."""
         return self.text(f"run/{ticket}.end") or None
 
     def state(self, ticket: str = TICKET) -> Dict[str, str]:
@@ -209,7 +209,7 @@ class Room:
         return dict(line.split("=", 1) for line in self.text(f"run/{ticket}.state").splitlines())
 
     def leftovers(self) -> List[str]:
-        """The files of the state's folder that no run should leave there."""
+        """The files in the state's folder that no run may leave there."""
         return [name for name in os.listdir(self.run_folder) if ".new." in name]
 
 
@@ -219,7 +219,7 @@ def since_boot() -> float:
 
 
 def same(found: object, wanted: object, what: str) -> None:
-    """Refuses another value."""
+    """Raises an error if the two values differ."""
     need(found == wanted, f"{what}: {found!r}, and not {wanted!r}")
 
 
@@ -228,6 +228,6 @@ stories: List[Story] = []
 
 
 def story(function: Story) -> Story:
-    """Adds a story to those of the words."""
+    """Adds a story to the stories of the words."""
     stories.append(function)
     return function

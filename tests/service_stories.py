@@ -1,4 +1,4 @@
-"""What booth-status shows of services that follow a ticket on its machine: of states and units that a test arranged.
+"""The output of booth-status about services that follow a ticket on its machine, with arranged states and units.
 
 It is imported by tests/status.py, and not run by itself. Of the package follow-service alone writes what is looked at
 here, in one story; the others write the files of booth-follow(8) themselves.
@@ -47,7 +47,7 @@ NOWHERE = "/nonexistent"
 
 
 class Machine:
-    """A machine that is arranged in a folder: states of services, variables of units, and what systemd says."""
+    """A machine that is arranged in a folder: states of services, variables of units, and the answers of systemd."""
 
     def __init__(self, folder: str, site: Optional[str] = None) -> None:
         self.folder = folder
@@ -66,19 +66,19 @@ class Machine:
             file.write(text)
 
     def drop(self, *names: str) -> None:
-        """Removes files that are there."""
+        """Removes those files that exist."""
         for name in names:
             if os.path.lexists(os.path.join(self.folder, name)):
                 os.remove(os.path.join(self.folder, name))
 
     def unit(self, state: Optional[str], ticket: str = "web") -> None:
-        """Has systemd list the follower of this ticket alone, in this state; or none."""
+        """Makes systemd list only the follower of this ticket, in this state; or none."""
         self.put("units", f"booth-follow@{ticket}.service {state} What has a service follow\n" if state else "")
 
     def state(
         self, service: Optional[str], ticket: str = "web", *, paused: bool = False, lasts: float = 42, **said: float
     ) -> None:
-        """Has the service be in this state for so many seconds; times of `said` count from now."""
+        """Sets the service to this state for this many seconds; times of `said` count from now."""
         self.drop(f"run/{ticket}.state", f"run/{ticket}.paused")
         if paused:
             self.put(f"run/{ticket}.paused")
@@ -93,7 +93,7 @@ class Machine:
 
     @contextlib.contextmanager
     def here(self, path: Optional[str] = None) -> Iterator[None]:
-        """The programs that are run in this block are run on this machine."""
+        """Programs that are run in this block see this machine."""
         before, kept = dict(os.environ), configuration.FOLDER
         os.environ["BOOTH_FOLLOW_RUN"] = self.run
         os.environ["PATH"] = f"{self.bin}:/usr/bin:/bin" if path is None else path
@@ -107,13 +107,13 @@ class Machine:
 
 
 def arranged(folder: str, **more: Any) -> Tuple[Three, Machine]:
-    """Three members of the cluster booth, and the machine of the first."""
+    """Three members of the cluster booth, and the first member's machine."""
     three = Three(folder, name="booth", **more)
     return three, Machine(folder, three.one)
 
 
 def texts(told: Dict[str, Any]) -> List[str]:
-    """What is said of each problem."""
+    """The text of each problem."""
     return [each["text"] for each in told["problems"]]
 
 
@@ -131,7 +131,7 @@ def table_of(three: Three) -> Tuple[List[List[str]], int]:
 
 @story
 def each_state_of_a_service(folder):
-    """the column of services has each state, and what is wrong with it is told at the holder and elsewhere"""
+    """the column of services has each state, and a problem of it is reported at the holder and elsewhere"""
     three, machine = arranged(folder)
     one, two, _ = three.addresses
     down, gone = critical("service-down", one, ticket="web"), critical("no-follower", one, ticket="web")
@@ -181,20 +181,20 @@ def each_state_of_a_service(folder):
 
 @story
 def what_is_said_of_a_service(folder):
-    """each problem of a service says since when, until when, and what to do"""
+    """each problem of a service has its begin, its end, and a remedy"""
     three, machine = arranged(folder)
     one = three.one
     with machine.here(), well(three, held=three.held(one, one)):
         machine.unit(LIVE)
         machine.state("stopped")
-        down = "web: this site holds it, and its service has been"
-        says(document("-c", three.path), rf"{down} stopped for 4\d s: journalctl -u booth-follow@web says why")
+        down = "web: this site holds it, but its service has been"
+        says(document("-c", three.path), rf"{down} stopped for 4\d s: journalctl -u booth-follow@web has the cause")
         machine.state("ended")
-        ended = "web: this site holds it, and its service ended by itself, which was seen 4\\d s ago"
-        says(document("-c", three.path), rf"{ended}: systemctl restart booth-follow@web has it started again")
+        ended = "web: this site holds it, but its service ended by itself, as was seen 4\\d s ago"
+        says(document("-c", three.path), rf"{ended}: systemctl restart booth-follow@web starts it again")
         # (longer than a lease)
         machine.state("starting", lasts=130)
-        says(document("-c", three.path), f"{down} starting for 2 min: journalctl -u booth-follow@web says why")
+        says(document("-c", three.path), f"{down} starting for 2 min: journalctl -u booth-follow@web has the cause")
         machine.state("running", kill_at=30, paused=True)
         says(document("-c", three.path), "web: its service is paused here, and runs: booth-service resume web")
         machine.state("failed", failed_starts=3, failed_until=500)
@@ -205,13 +205,13 @@ def what_is_said_of_a_service(folder):
         says(document("-c", three.path), f"{refused}: booth-service clear web")
         machine.unit(GONE)
         machine.state("running", kill_at=30)
-        killed = r"web: no follower lives, and its service runs here, and is killed in [12]\d s"
+        killed = r"web: no follower runs, but its service runs here, and is killed in [12]\d s"
         says(document("-c", three.path), f"{killed}: systemctl start booth-follow@web")
         machine.unit(LIVE)
         machine.put("run/web.state", "since=many\n")
         told = document("-c", three.path)
         require_problems(told, warning("service-unknown", one, ticket="web"))
-        says(told, f"web: {machine.run}/web.state or the end beside it is no state of a service: .*")
+        says(told, f"web: {machine.run}/web.state, or the file of its end, is not a state of a service: .*")
         require_same(told["tickets"][0]["service"]["shown"], "unknown")
 
 
@@ -249,7 +249,7 @@ def services_for_programs(folder):
 
 @story
 def what_follow_service_writes(folder):
-    """what follow-service says of a service through its starts, a pause and its stops is what is shown"""
+    """booth-status shows the state that follow-service writes through a service's starts, a pause and its stops"""
     three, machine = arranged(folder)
     os.makedirs(f"{folder}/room")
     room = Room(f"{folder}/room")
@@ -284,7 +284,7 @@ def what_follow_service_writes(folder):
 
 @story
 def whose_services_are_looked_at(folder):
-    """services of another cluster, manual tickets and states of other names are left out, and the site is the unit's"""
+    """services of another cluster, manual tickets and states with other names are left out; the unit's site is used"""
     three, machine = arranged(folder)
     one, two, _ = three.addresses
     machine.unit(LIVE)
@@ -308,13 +308,13 @@ def whose_services_are_looked_at(folder):
 
 
 def problems(told: Dict[str, Any]) -> List[str]:
-    """The kinds of what is wrong."""
+    """The kinds of the problems."""
     return [each["kind"] for each in told["problems"]]
 
 
 @contextlib.contextmanager
 def follower_of(ticket: str) -> Iterator[None]:
-    """A process runs in this block that has the name and the words of a follower."""
+    """In this block a process runs with the name and the arguments of a follower."""
     words = ["booth-follow", "-c", "sleep 100; :", ticket, "a-program"]
     with subprocess.Popen(words, executable="/bin/sh", start_new_session=True) as process:
         try:
@@ -325,7 +325,7 @@ def follower_of(ticket: str) -> Iterator[None]:
 
 @story
 def a_follower_without_systemd(folder):
-    """where systemd does not answer, or has no such unit, a follower lives that runs as a process"""
+    """if systemd does not answer, or has no such unit, a follower that runs as a process is found"""
     three, machine = arranged(folder)
     machine.state("running")
     gone = critical("no-follower", three.one, ticket="web")
@@ -353,13 +353,13 @@ def a_follower_without_systemd(folder):
 
 
 def of_web(told: Dict[str, Any]) -> str:
-    """What is said of the silent holder of this ticket."""
+    """The text about the silent holder of this ticket."""
     return next(each["text"] for each in told["problems"] if (each["kind"], each["ticket"]) == ("silent-owner", "web"))
 
 
 @story
 def when_a_takeover_comes(folder):
-    """of a holder that is silent or did not renew it is told when the ticket is free, and who is next"""
+    """for a holder that is silent or did not renew, the report has when the ticket is free, and which site is next"""
     three = Three(folder, more="acquire-after = 30\n")
     one, two, third = three.addresses
     held = three.held(one, two)
@@ -382,7 +382,7 @@ def when_a_takeover_comes(folder):
     with well(three, held=late):
         told = document("-c", three.path)
     require_problems(told, warning("unrenewed", one, ticket="web"))
-    late = rf"web: its holder {one} did not renew it in time, and holds it for \d+ s more"
+    late = rf"web: its holder {one} did not renew the lease in time, and holds it for \d+ s more"
     says(told, f"{late}: free at .*, {two} is next")
     with all_of([three.fake(third, held)]):
         told = document("-c", three.path, "-t", 0.8)
@@ -391,7 +391,7 @@ def when_a_takeover_comes(folder):
 
 @story
 def who_takes_over_first(folder):
-    """the site of the greatest weight is next, and of equal weight the one that stands earlier in the file"""
+    """the site with the greatest weight is next; with equal weights the one that comes earlier in the file"""
     for weights, wanted in (("", 0), ("weights = 1,5,9,2\n", 3), ("weights = 0,0,9,1\n", 3), ("weights = 3,3\n", 0)):
         three = Three(folder, more=weights)
         fourth = three.third.rsplit(".", 1)[0] + ".250"
@@ -409,7 +409,7 @@ def who_takes_over_first(folder):
 
 @story
 def a_ticket_that_was_held(folder):
-    """with a state, a ticket that was held and is free is critical until it is held again, with when it is free"""
+    """with a state, a ticket that was held is critical until it is held again, with the time at which it is free"""
     three = Three(folder)
     one, two, _ = three.addresses
     state = os.path.join(folder, "state")
@@ -426,13 +426,13 @@ def a_ticket_that_was_held(folder):
     for _ in range(2):
         told = looked(three.held(None, two))
         require_problems(told, free)
-        when = rf"(at .*, {two} is next|for \d s, and not taken over)"
+        when = rf"(at .*, {two} is next|for \d s, but not taken over)"
         says(told, f"web: nobody holds it, and {one} held it until {until}: free {when}")
     require_problems(looked(three.held(None, two), "-f", "web"))
     require_problems(looked(three.held(two, two)))
     told = looked(three.held(None, two))
     require_problems(told, free)
-    says(told, f"web: nobody holds it, and {two} gave it back")
+    says(told, f"web: nobody holds it, and {two} released it")
     require_same(told["tickets"][0]["takeover"], None)
     # what an earlier booth-status remembered says nothing of holders
     with open(state, encoding="ascii") as file:

@@ -1,9 +1,9 @@
 #!/usr/bin/env python3
-"""Holds follow-service, and what stands around it, to what HANDLERS.md and booth-follow(8) say of each word.
+"""Checks each argument of follow-service, and the programs around it, against HANDLERS.md and booth-follow(8).
 
-Run it as `python3 tests/service_words.py [WORD..]`, which tells the stories whose name has one of the words, or all. It
+Run it as `python3 tests/service_words.py [WORD..]`, which runs the stories whose name has one of the words, or all. It
 needs no systemd and nothing that is built: stand-ins on PATH note what is called (tests/service_room.py). It takes less
-than a minute, prints a line for each story, and has the status 1 where one failed.
+than a minute, prints a line for each story, and has the status 1 if one failed.
 """
 
 import concurrent.futures
@@ -32,7 +32,7 @@ TIMER = f"booth-end-{TICKET}-{ENDS}.timer"
 
 @story
 def words_are_taken_from_the_end(room: Room) -> None:
-    """words that are none of its own, and names that no file can have, are refused with a line"""
+    """unknown words, and names that no file can have, are refused with a line"""
     behind = ["", "start", "/bin/true go", "/bin/true renew", "renew 5", "/bin/true stop 5", "/bin/true renew -5"]
     for words in behind:
         done = room.call("follow-service", TICKET, *words.split())
@@ -47,7 +47,7 @@ def words_are_taken_from_the_end(room: Room) -> None:
 
 @story
 def the_program_has_what_a_handler_has(room: Room) -> None:
-    """the program has its arguments, the word and the variables, and nothing that speaks for the follower's unit"""
+    """the program gets its arguments, the word and the variables, but not the notify socket of the follower's unit"""
     socket = {"NOTIFY_SOCKET": "/run/none", "WATCHDOG_USEC": "3000000", "WATCHDOG_PID": "1"}
     done = room.word("stop", BOOTH_LOCAL="192.0.2.10", BOOTH_CONF_NAME="booth", AS_POSTGRES="x y", **socket)
     same(done.status, 0, done.printed)
@@ -69,7 +69,7 @@ def the_program_has_what_a_handler_has(room: Room) -> None:
 
 @story
 def a_run_that_is_killed_ends_its_program(room: Room) -> None:
-    """a run that the follower ends by SIGKILL ends its program with it"""
+    """if the follower ends a run by SIGKILL, the run's program ends with it"""
     for name in ("stop.hangs", "stop.pid"):
         room.put(name)
     words = [f"{PACKAGING}/follow-service", TICKET, room.program, "fast", "stop"]
@@ -93,7 +93,7 @@ def a_run_that_is_killed_ends_its_program(room: Room) -> None:
 
 @story
 def check_passes_the_status_on(room: Room) -> None:
-    """a check passes the status on, is told as running where it is 0, and is bounded"""
+    """a check returns the program's status, counts as running if that is 0, and is bounded"""
     done = room.word("check")
     need(done.status == 1 and "no end is armed" in done.printed and not room.words(), f"without an armed end: {done}")
     room.word("renew", str(KILL))
@@ -116,7 +116,7 @@ def check_passes_the_status_on(room: Room) -> None:
 
 @story
 def renew_arms_the_switch(room: Room) -> None:
-    """a renewal arms a timer that runs the switch at the end less the kill's time, and tells the end and the state"""
+    """a renewal arms a timer that runs the switch at the end less the kill's time, and writes the end and the state"""
     before, clock = since_boot(), int(time.monotonic() * 1000)
     done = room.word("renew", str(KILL), BOOTH_LOCAL="192.0.2.10", BOOTH_CONF_NAME="booth")
     same((done.status, done.printed), (0, ""), "the renewal")
@@ -144,7 +144,7 @@ def renew_arms_the_switch(room: Room) -> None:
 
 @story
 def renew_replaces_the_switch(room: Room) -> None:
-    """a later end is armed before the earlier one goes, the same end by another name, and other tickets' timers stay"""
+    """a later end is armed before the earlier is removed, an equal end has another name, other timers stay"""
     for name in ("booth-end-db80-5.timer", "booth-end-db8\\x2d1-5.timer", "booth-end-db8-x.timer"):
         room.put(f"timers/{name}")
     room.word("renew", str(KILL))
@@ -166,7 +166,7 @@ def renew_replaces_the_switch(room: Room) -> None:
 
 @story
 def renew_that_fails_changes_nothing(room: Room) -> None:
-    """a renewal that fails, hangs, has no time or was overtaken by a stop leaves the end before it in force"""
+    """a renewal that fails, hangs, has no time or was overtaken by a stop leaves the earlier end in force"""
     room.begun()
 
     def is_refused(why: str, **more: str) -> None:
@@ -208,7 +208,7 @@ def renew_that_fails_changes_nothing(room: Room) -> None:
 
 @story
 def starts_need_an_armed_end(room: Room) -> None:
-    """a start without an armed end runs nothing, and does not count as one that failed"""
+    """a start without an armed end runs nothing, and does not count as a failed start"""
     done = room.word("start")
     need(done.status == 1 and "no end is armed" in done.printed, f"{done}")
     room.word("renew", str(KILL))
@@ -220,7 +220,7 @@ def starts_need_an_armed_end(room: Room) -> None:
 
 @story
 def starts_that_fail_count(room: Room) -> None:
-    """starts that fail count, and N in a row make the state failed once what they left is stopped"""
+    """failed starts are counted; after N in a row the state is failed once the remaining processes are stopped"""
     room.word("renew", str(KILL))
     room.put("start.status", "5")
     for number, service in ((1, "stopped"), (2, "stopped"), (3, "failed")):
@@ -238,7 +238,7 @@ def starts_that_fail_count(room: Room) -> None:
 
 @story
 def a_service_that_failed_is_left_so(room: Room) -> None:
-    """a service that failed is not started before a renewal was due, and says that it starts before it does"""
+    """a failed service is not started before a renewal was due; before the next start the state shows that it starts"""
     more = {"FAILED_STARTS": "1", "FAILED_SECONDS": "2"}
     room.word("renew", str(KILL), **more)
     room.put("start.status", "5")
@@ -275,7 +275,7 @@ def a_service_that_failed_is_left_so(room: Room) -> None:
 
 @story
 def stops_and_kills_release_the_end(room: Room) -> None:
-    """a stop and a kill with status 0 take the end and the switch away; another status leaves both"""
+    """a stop and a kill with status 0 remove the end and the switch; with another status both stay"""
     for word, meanwhile in (("stop", "stopping"), ("kill", "killing")):
         room.begun()
         same(room.state()["service"], "running", "the state")
@@ -292,7 +292,7 @@ def stops_and_kills_release_the_end(room: Room) -> None:
 
 @story
 def a_renewal_runs_beside_a_start(room: Room) -> None:
-    """a renewal beside a start and a stop loses nothing of what either says"""
+    """a renewal during a start and a stop overwrites nothing that either of them writes"""
     room.word("renew", str(KILL))
     for word in ("start", "stop"):
         room.put(f"{word}.slow")
@@ -316,7 +316,7 @@ def a_renewal_runs_beside_a_start(room: Room) -> None:
 
 @story
 def a_start_that_is_overtaken_says_nothing(room: Room) -> None:
-    """a start that ends after a kill does not say that the service runs"""
+    """if a kill overtakes a start, the start does not write that the service runs"""
     room.word("renew", str(KILL))
     room.put("start.slow")
     with concurrent.futures.ThreadPoolExecutor() as pool:
@@ -329,7 +329,7 @@ def a_start_that_is_overtaken_says_nothing(room: Room) -> None:
 
 @story
 def a_pause_starts_nothing(room: Room) -> None:
-    """a paused service is not started, and is stopped and killed as ever"""
+    """a paused service is not started, but it is stopped and killed as usual"""
     room.put(f"units/{UNIT}", "active\n")
     done = room.call("booth-service", "pause", TICKET)
     same(done.status, 0, done.printed)
@@ -353,7 +353,7 @@ def a_pause_starts_nothing(room: Room) -> None:
 
 @story
 def a_follower_that_comes_back_leaves_it_running(room: Room) -> None:
-    """after a follower that is restarted or crashed the service runs on; after one that is stopped it is stopped"""
+    """if the follower restarts or crashes, the service runs on; if the follower is stopped, so is the service"""
     for jobs, words in (("", ""), (f"7 {UNIT} restart running\n", ""), (f"7 {UNIT} stop running\n", "stop")):
         room.begun()
         room.put("jobs", f"5 other.service stop running\n{jobs}")
@@ -369,7 +369,7 @@ def a_follower_that_comes_back_leaves_it_running(room: Room) -> None:
 
 @story
 def what_no_switch_ends_is_stopped(room: Room) -> None:
-    """after a crash a service without a switch, or one that was being stopped, is stopped all the same"""
+    """after a crash a service without a switch, or one that was being stopped, is stopped"""
     room.begun()
     room.drop(f"timers/{room.timer_files()[0]}")
     same((room.by_unit("ended").status, room.words()), (0, "stop"), "without a switch")
@@ -384,7 +384,7 @@ def what_no_switch_ends_is_stopped(room: Room) -> None:
 
 @story
 def a_stop_after_the_follower_has_a_limit(room: Room) -> None:
-    """after the follower a stop that hangs or fails is followed by a kill, within the time that there is"""
+    """after the follower's end a stop that hangs or fails is followed by a kill, within the remaining time"""
     room.put("jobs", f"7 {UNIT} stop running\n")
     room.begun()
     room.put("stop.status", "1")
@@ -409,7 +409,7 @@ def a_stop_after_the_follower_has_a_limit(room: Room) -> None:
 
 @story
 def a_first_start_of_a_boot_stops(room: Room) -> None:
-    """at the first start of a boot the service is stopped, within the configuration's margin, and at no later one"""
+    """the first start of a boot stops the service, within the configuration's margin, and no later start does"""
     room.put("stop.hangs")
     done = room.by_unit("begin")
     # (expire 10 and renewal-freq 7)
@@ -427,7 +427,7 @@ def a_first_start_of_a_boot_stops(room: Room) -> None:
 
 @story
 def margins_are_read_as_the_daemon_does(room: Room) -> None:
-    """the margin by default is that of the ticket, of __default__, or of a file that says nothing"""
+    """the default margin is that of the ticket, of __default__, or of a file without either"""
     rows = [
         ("ticket = __default__\nexpire = 4\nticket = other\nexpire = 900\nticket = 'db8' # x\n", 1),
         ("ticket = \"db8\"\n expire=6 # seconds\n  renewal-freq = \"4\"\nticket = a\nexpire=800\n", 1),
@@ -446,7 +446,7 @@ def margins_are_read_as_the_daemon_does(room: Room) -> None:
 
 @story
 def the_switch_kills(room: Room) -> None:
-    """the switch kills until that is done, and does nothing once a later end is armed"""
+    """the switch kills until a kill succeeds, and does nothing if a later end is armed"""
     room.begun()
     same((room.by_unit(f"switch {ENDS - 5}").status, room.words()), (0, ""), "an earlier switch")
     same(room.armed(), f"{ENDS}\n", "the end after an earlier switch")
@@ -468,7 +468,7 @@ def the_switch_kills(room: Room) -> None:
 
 
 def outcome(told: Story) -> bool:
-    """Whether a story passes, in a room of its own."""
+    """Whether a story passes, in its own room."""
     with scratch("booth-words-") as folder:
         begun = time.monotonic()
         try:
@@ -481,7 +481,7 @@ def outcome(told: Story) -> bool:
 
 
 def main(words: List[str]) -> int:
-    """Tells the stories, or those whose name has one of the words."""
+    """Runs the stories, or those whose name has one of the words."""
     begun = time.monotonic()
     all_stories = stories + service_around.stories
     chosen = [each for each in all_stories if not words or any(word in each.__name__ for word in words)]

@@ -1,5 +1,5 @@
 #!/usr/bin/env python3
-"""Shows that booth-setup sets members up as OPERATING.md says, refuses what it must not touch, and undoes a failure.
+"""Checks that booth-setup sets up members as in OPERATING.md, refuses what it must not touch, and undoes a failure.
 
 Run it as `python3 tests/setup.py`, in some seconds. systemctl is a stand-in that notes its calls. Most runs write below
 a directory of their own (--root). Those that start units write into a mount namespace, and are left out if this machine
@@ -77,7 +77,7 @@ exec "$@"
 
 
 class Ran(NamedTuple):
-    """How a run ended, and what it printed."""
+    """The outcome of a run: its status, and what it printed."""
 
     status: int
     out: str
@@ -109,7 +109,7 @@ class Room:
             file.write(text)
 
     def root(self, name: str) -> str:
-        """Returns the root of a machine that has the user of the daemon, with the numbers of this process."""
+        """Returns the root of a machine that has the daemon's user, with the user and group ids of this process."""
         path = f"{self.folder}/{name}"
         if not os.path.isdir(path):
             os.makedirs(f"{path}/etc")
@@ -122,7 +122,7 @@ class Room:
         return self.call([f"{self.folder}/bin/booth-setup", *words, *(["--root", self.root(root)] if root else [])])
 
     def inside(self, machine: str, address: str, *words: str) -> Ran:
-        """Runs booth-setup in a mount and a network namespace, as on a machine that has that address."""
+        """Runs booth-setup in its own mount and network namespace, as on a machine that has that address."""
         space = ["unshare", "--mount", "--net", "sh", "-c", INSIDE, "sh", self.root(machine), address]
         return self.call([*space, f"{self.folder}/bin/booth-setup", *words])
 
@@ -135,7 +135,7 @@ class Room:
         return Ran(done.returncode, done.stdout, done.stderr)
 
     def calls(self) -> List[str]:
-        """Returns the calls of systemctl since the last look, without the root."""
+        """Returns the calls of systemctl since the last look, without the path of the root."""
         path = f"{self.folder}/calls"
         found = read(path).splitlines() if os.path.exists(path) else []
         with contextlib.suppress(FileNotFoundError):
@@ -159,7 +159,7 @@ Story = Callable[[Room], Optional[str]]
 
 
 def begun(room: Room, root: str = "one", *more: str) -> Ran:
-    """Sets the first member up below a root, and returns what that printed."""
+    """Sets the first member up below a root, and returns what the setup printed."""
     done = room.run("init", *CLUSTER, "--ticket", "db8", "--address", ONE, *more, root=root)
     need(done.status == 0 and not done.err, f"init: status {done.status}, {done.err}")
     return done
@@ -217,7 +217,7 @@ def dry_runs_change_nothing(room: Room) -> None:
 
 
 def runs_again_change_nothing(room: Room) -> None:
-    """a run with the same arguments changes nothing, and an environment of another form is left as it is"""
+    """a run with the same arguments changes nothing, and an environment file of another form stays unchanged"""
     begun(room)
     # (with more variables, and one that an earlier version wrote)
     for first in (f"ADDRESS={ONE}\nBOOTH_ADDRESS={ONE}\n", f"ADDRESS={ONE}\n"):
@@ -229,7 +229,7 @@ def runs_again_change_nothing(room: Room) -> None:
 
 
 def names_and_units_may_differ(room: Room) -> None:
-    """another cluster's name and another unit stand in the follower's environment and in its drop-in"""
+    """the follower's environment and its drop-in have another cluster's name and another unit"""
     done = room.run(
         "init", "--name", "east", *CLUSTER, "--ticket", "web=apache2.service", "--address", ONE, "--no-journal",
         root="one",
@@ -246,7 +246,7 @@ def names_and_units_may_differ(room: Room) -> None:
 
 
 def failures_are_undone(room: Room) -> None:
-    """whichever step fails, nothing is left of the steps before it, and the cause is named"""
+    """whichever step fails, nothing is left of the earlier steps, and the cause is named"""
     before = room.tree("one")
     for step in ("enable booth@booth", "enable booth-follow@db8"):
         room.write("fails", step)
@@ -257,7 +257,7 @@ def failures_are_undone(room: Room) -> None:
 
 
 def nothing_is_written_over(room: Room) -> None:
-    """a file with other content, records of an earlier cluster, and another bundle are named, and left as they are"""
+    """a file with other content, records of an earlier cluster, and another bundle are named, and left unchanged"""
     files = ("booth.conf", "booth.env")
     for name in files:
         path = f"{room.root('one')}/etc/booth/{name}"
@@ -266,7 +266,7 @@ def nothing_is_written_over(room: Room) -> None:
             file.write("# mine\n")
         before = room.tree("one")
         done = room.run("init", *CLUSTER, "--ticket", "db8", "--address", ONE, root="one")
-        is_named = f"/etc/booth/{name} is there already" in done.err
+        is_named = f"/etc/booth/{name} exists already" in done.err
         need(done.status == 1 and is_named and room.tree("one") == before, f"{name}: {done.status}, {done.err}")
         os.unlink(path)
     records = f"{room.root('one')}/var/lib/booth/booth"
@@ -281,30 +281,30 @@ def nothing_is_written_over(room: Room) -> None:
     os.makedirs(f"{room.root('two')}/etc/booth")
     os.rename(other.name, f"{room.root('two')}/etc/booth/authkey")
     done = room.run("join", bundle_of(room), TWO, root="two")
-    need(done.status == 1 and "/etc/booth/authkey is there already" in done.err, f"{done.status}, {done.err}")
+    need(done.status == 1 and "/etc/booth/authkey exists already" in done.err, f"{done.status}, {done.err}")
     os.unlink(f"{room.root('two')}/etc/booth/authkey")
     done = room.run("init", *CLUSTER, "--ticket", "web", "--address", ONE, "--bundle", bundle_of(room), root="two")
-    need(done.status == 1 and "is the bundle of another cluster" in done.err, f"{done.status}, {done.err}")
+    need(done.status == 1 and "as the bundle of another cluster" in done.err, f"{done.status}, {done.err}")
 
 
 def arguments_are_refused(room: Room) -> None:
-    """each argument that cannot be is refused, with what was found and what is allowed"""
+    """each invalid argument is refused, with its value and the allowed ones"""
     db8 = ("--ticket", "db8", "--address", ONE)
     rows = [
-        (("--site", ONE, *db8), "two sites at least"),
+        (("--site", ONE, *db8), "at least two sites"),
         ((*CLUSTER, "--address", ONE), "needs a ticket"),
         ((*CLUSTER, *db8, "--ticket", "db8"), "--ticket db8 is named twice"),
         ((*CLUSTER, "--ticket", "a b"), "letters, digits"),
-        ((*CLUSTER, "--ticket", "db8=other"), "'other' is no unit of systemd"),
-        ((*CLUSTER, *db8, "--name", "../x"), "is no name of a cluster"),
-        (("--site", "alpha", "--site", TWO, *db8), "--site alpha: is no IP address"),
+        ((*CLUSTER, "--ticket", "db8=other"), "'other' is not the name of a systemd unit"),
+        ((*CLUSTER, *db8, "--name", "../x"), "cannot be the name of a cluster"),
+        (("--site", "alpha", "--site", TWO, *db8), "--site alpha: is not an IP address"),
         ((*CLUSTER, "--ticket", "db8", "--address", "192.0.2.99"), "192.0.2.99 is not a member"),
-        ((*CLUSTER, "--ticket", "db8"), "name this member by --address"),
-        ((*CLUSTER, *db8, "--retries", "2"), "'2' is no whole number from 3 to 100"),
-        ((*CLUSTER, *db8, "--expire", "soon"), "'soon' is no whole number from 1 to"),
-        ((*CLUSTER, *db8, "--restart"), "--restart is for --postgresql"),
+        ((*CLUSTER, "--ticket", "db8"), "give this member's address with --address"),
+        ((*CLUSTER, *db8, "--retries", "2"), "'2' is not a whole number from 3 to 100"),
+        ((*CLUSTER, *db8, "--expire", "soon"), "'soon' is not a whole number from 1 to"),
+        ((*CLUSTER, *db8, "--restart"), "--restart needs --postgresql"),
         ((*CLUSTER, *db8, "--postgresql", "web=15/main", "--ticket", "x"), "there is no --ticket web"),
-        ((*CLUSTER, *db8, "--bundle", f"{room.folder}/none/b"), "there is no directory"),
+        ((*CLUSTER, *db8, "--bundle", f"{room.folder}/none/b"), "does not exist"),
     ]
     if built_program():
         rows.append(((*CLUSTER, *db8, "--expire", "10", "--timeout", "9"), "do not fit renewal-freq"))
@@ -318,7 +318,7 @@ def arguments_are_refused(room: Room) -> None:
 
 
 def bundles_are_checked(room: Room) -> None:
-    """a bundle that is cut, changed, of another version, of another form, or open to others is refused"""
+    """a bundle that is cut, changed, of another version, of another form, or readable by others is refused"""
     begun(room)
     with open(bundle_of(room), "rb") as file:
         whole = file.read()
@@ -326,10 +326,10 @@ def bundles_are_checked(room: Room) -> None:
     rows = [
         (whole[:-1], 0o600, "its checksum is wrong"),
         (whole.replace(TWO.encode(), b"198.51.100.11"), 0o600, "its checksum is wrong"),
-        (b"booth-setup bundle, version 2\n" + rest, 0o600, "version 2, and this booth-setup reads version 1"),
-        (b"hello\n", 0o600, "is no bundle of booth-setup"),
-        (b"", 0o600, "is no bundle of booth-setup"),
-        (whole, 0o640, "others may read it, by its mode 0640"),
+        (b"booth-setup bundle, version 2\n" + rest, 0o600, "version 2, but this booth-setup reads version 1"),
+        (b"hello\n", 0o600, "is not a bundle of booth-setup"),
+        (b"", 0o600, "is not a bundle of booth-setup"),
+        (whole, 0o640, "its mode 0640 allows others to read it"),
     ]
     read_again = setup_bundle.of_document({**json_of(rest), "postgresql": None})
     need(setup_bundle.spelled(read_again) == whole, "a bundle is spelled in two ways")
@@ -348,14 +348,14 @@ def bundles_are_checked(room: Room) -> None:
 
 
 def json_of(rest: bytes) -> Dict[str, object]:
-    """Returns the document of a bundle, which stands behind its checksum."""
+    """Returns the document in a bundle, which comes after its checksum."""
     import json
 
     return json.loads(rest.partition(b"\n")[2])
 
 
 def documents_name_commands_that_are_taken(room: Room) -> None:
-    """each command of booth-setup in a document is one that it takes"""
+    """booth-setup accepts each of its commands that a document has"""
     found = []
     for name in ("README.md", "docs/OPERATING.md", "docs/POSTGRESQL.md"):
         text = read(f"{TOP}/{name}").replace("\\\n", " ")
@@ -375,7 +375,7 @@ def documents_name_commands_that_are_taken(room: Room) -> None:
 
 
 def has_namespaces() -> bool:
-    """Returns whether this machine gives a mount and a network namespace."""
+    """Returns whether this machine allows mount and network namespaces."""
     if not shutil.which("unshare") or not shutil.which("ip"):
         return False
     probe = subprocess.run(["unshare", "--mount", "--net", "true"], capture_output=True, check=False, timeout=20)
@@ -383,7 +383,7 @@ def has_namespaces() -> bool:
 
 
 def units_are_started(room: Room) -> Optional[str]:
-    """on a machine it finds its own address, starts daemon and follower, and stops no service that runs"""
+    """on a machine it finds its own address, starts daemon and follower, and does not stop a running service"""
     if not has_namespaces():
         return "this machine gives no namespaces"
     for unit, states in (("db8.service", "cat\n"), ("web.service", "cat\nis-active\nis-enabled\n")):
@@ -395,10 +395,10 @@ def units_are_started(room: Room) -> Optional[str]:
     wanted = ["daemon-reload", "enable --now booth@booth.service", "enable --now booth-follow@db8.service"]
     wanted += ["disable web.service", "enable booth-follow@web.service"]
     need(asked == wanted, f"systemctl {asked}")
-    for line in ("web.service runs on.", "there is no none.service here", f"booth grant -w -s {ONE} db8"):
+    for line in ("web.service keeps running.", "there is no none.service here", f"booth grant -w -s {ONE} db8"):
         need(line in done.out, f"it does not print {line!r}: {done.out}")
     done = room.inside("two", "192.0.2.77", "join", bundle_of(room), TWO)
-    need(done.status == 1 and f"{TWO} is no address of this machine" in done.err, f"{done.status}, {done.err}")
+    need(done.status == 1 and f"{TWO} is not an address of this machine" in done.err, f"{done.status}, {done.err}")
     room.write("fails", "enable --now booth@booth")
     done = room.inside("two", TWO, "join", bundle_of(room), TWO)
     need(done.status == 1 and "Address already in use" in done.err, f"{done.status}, {done.err}")
@@ -447,7 +447,7 @@ STORIES: List[Story] = [
 
 
 def told(story: Story) -> str:
-    """Runs a story in a room of its own, and returns how it ended."""
+    """Runs a story in its own room, and returns the result."""
     with scratch("booth-setup-test-") as folder:
         try:
             left_out = story(Room(folder))
@@ -459,7 +459,7 @@ def told(story: Story) -> str:
 
 
 def main() -> int:
-    """Tells each story, and returns the exit status."""
+    """Runs each story, and returns the exit status."""
     outcomes = [told(story) for story in STORIES]
     print("setup: " + ", ".join(f"{outcomes.count(each)} {each}" for each in ("passed", "left out", "failed")))
     return 1 if "failed" in outcomes else 0

@@ -1,4 +1,4 @@
-"""What the programs in tests/ that run other programs stand on.
+"""The base of the programs in tests/ that run other programs.
 
 It is imported by the programs in tests/, and not run by itself.
 """
@@ -7,7 +7,7 @@ import subprocess
 
 
 class Wrong(Exception):
-    """What a check found."""
+    """A check failed; the text has the finding."""
 
 
 def need(holds, what):

@@ -1,9 +1,9 @@
 #!/usr/bin/env python3
-"""Holds the resource agent of a site, and what keeps its configuration, to what booth-pacemaker(8) says of them.
+"""Checks the resource agent of a site, and site-keep, against booth-pacemaker(8).
 
-Run it as `python3 tests/site_agent.py [WORD..]`, which tells the stories whose name has one of the words, or all. It
+Run it as `python3 tests/site_agent.py [WORD..]`, which runs the stories whose name has one of the words, or all. It
 needs no Pacemaker and nothing that is built: stand-ins on PATH note what is called, and the agent's folders lie in a
-room. It takes less than a minute, prints a line for each story, and has the status 1 where one failed.
+room. It takes less than a minute, prints a line for each story, and has the status 1 if one failed.
 """
 
 import concurrent.futures
@@ -84,7 +84,7 @@ ocf_log() { echo "log: $*" >&2; }
 
 
 class Ended(NamedTuple):
-    """How a run ended, and what it printed."""
+    """The outcome of a run: its status, and what it printed."""
 
     status: int
     printed: str
@@ -126,7 +126,7 @@ class Room:
         os.chmod(f"{self.folder}/{name}", stat.S_IRWXU)
 
     def text(self, name: str) -> str:
-        """What a file of the room has, nothing where it is missing."""
+        """The text of a file of the room, empty if it is missing."""
         try:
             with open(f"{self.folder}/{name}", encoding="utf-8") as file:
                 return file.read()
@@ -134,7 +134,7 @@ class Room:
             return ""
 
     def drop(self, *names: str) -> None:
-        """Removes files of the room that are there."""
+        """Removes those files of the room that exist."""
         for name in names:
             if os.path.exists(f"{self.folder}/{name}"):
                 os.remove(f"{self.folder}/{name}")
@@ -150,7 +150,7 @@ class Room:
         return Ended(done.returncode, done.stdout)
 
     def ends(self, action: str, status: int, text: str = "", **more: str) -> str:
-        """Refuses an action that ends otherwise, or without this text."""
+        """Raises an error if an action ends with another status, or without this text."""
         done = self.action(action, **more)
         need(done.status == status and text in done.printed, f"{action}: {done}, and not {status} with {text!r}")
         return done.printed
@@ -161,7 +161,7 @@ stories: List[Story] = []
 
 
 def story(function: Story) -> Story:
-    """Adds a story to those that are told."""
+    """Adds a story to the list of stories."""
     stories.append(function)
     return function
 
@@ -209,7 +209,7 @@ def systemd_reads_drop_ins_once(room: Room) -> None:
 
 @story
 def a_bad_file_takes_nothing(room: Room) -> None:
-    """a file that became bad, or is gone, ends nothing that works: the monitor and a restart use the last good copy"""
+    """if a file becomes invalid or is deleted, the last good copy is used, and nothing that works is ended"""
     room.ends("validate-all", SUCCESS)
     room.ends("start", SUCCESS)
     copy = room.text("run/booth-site/booth/booth.conf")
@@ -218,7 +218,7 @@ def a_bad_file_takes_nothing(room: Room) -> None:
     room.ends("monitor", SUCCESS)
     room.ends("validate-all", CONFIGURED, "line 1: syntax")
     room.ends("stop", SUCCESS)
-    room.ends("start", SUCCESS, "is not taken: the daemon starts with the copy of the last start")
+    room.ends("start", SUCCESS, "is refused: the daemon starts with the copy of the last start")
     need(room.text("run/booth-site/booth/booth.conf") == copy, "the copy was changed")
     room.ends("stop", SUCCESS)
     for name in ("booth.conf", "authfile"):
@@ -236,7 +236,7 @@ def stale_records_are_refused(room: Room) -> None:
         need(room.text("cib/booth-generation.booth") == f"{generation} a1\n", room.text("cib/booth-generation.booth"))
     # another daemon ran on a2 since, over other records
     room.put("cib/booth-generation.booth", "3 a2\n")
-    printed = room.ends("start", GENERIC, "and the last daemon had 3 (on a2): they are stale")
+    printed = room.ends("start", GENERIC, "but the last daemon had 3 (on a2): they are stale")
     need("records of generation 2 (a1)" in printed, printed)
     need(room.text("records/.booth-site") == "2 a1\n", "the records' generation was raised")
     # a start that was cut off between the two
@@ -247,7 +247,7 @@ def stale_records_are_refused(room: Room) -> None:
 
 @story
 def a_late_clock_starts_nothing(room: Room) -> None:
-    """a node whose wall clock is behind that of the last daemon starts none, and raises no generation"""
+    """a node whose wall clock is behind that of the last daemon starts no daemon, and does not raise the generation"""
     room.put("late")
     room.ends("start", GENERIC, "ocf-exit-reason:this node's clock is late")
     need(room.text("records/.booth-site") == "0 none\n", room.text("records/.booth-site"))
@@ -261,26 +261,26 @@ def a_late_clock_starts_nothing(room: Room) -> None:
 
 @story
 def what_cannot_be_told_starts_nothing(room: Room) -> None:
-    """without the marker, the CIB's answer or a number no daemon starts"""
+    """without the marker, the CIB's answer or a valid number, no daemon starts"""
     room.put("cib.fails")
-    room.ends("start", GENERIC, "cannot ask the CIB for the records' generation")
+    room.ends("start", GENERIC, "cannot read the records' generation in the CIB")
     room.drop("cib.fails")
     room.put("cib.full")
-    room.ends("start", GENERIC, "the CIB does not take the records' generation")
+    room.ends("start", GENERIC, "cannot write the records' generation into the CIB")
     room.drop("cib.full")
     for text in ("x a1\n", "\n"):
         room.put("records/.booth-site", text)
-        room.ends("start", GENERIC, "is no number")
+        room.ends("start", GENERIC, "is not a number")
     room.drop("records/.booth-site")
-    room.ends("start", GENERIC, "is missing, so the records' storage is not there")
+    room.ends("start", GENERIC, "is missing: the records' storage is not mounted")
     need("start booth@booth" not in room.text("calls"), "a daemon was started")
 
 
 @story
 def parameters_are_looked_at(room: Room) -> None:
-    """other modes of records, addresses that are not here, and tickets without a lease are refused with a reason"""
-    room.ends("start", CONFIGURED, "records_mode=local is not built", records_mode="local")
-    room.ends("start", CONFIGURED, "records_mode is shared, and not other", records_mode="other")
+    """other modes of records, addresses that this node lacks, and tickets without a lease are refused with a reason"""
+    room.ends("start", CONFIGURED, "records_mode=local is not supported", records_mode="local")
+    room.ends("start", CONFIGURED, "records_mode must be shared, and is other", records_mode="other")
     room.ends("start", CONFIGURED, "mail has no lease in the CIB", tickets="db8 mail")
     room.ends("start", INSTALLED, "is missing or cannot be read", config="/nowhere/booth.conf")
     room.put("addresses", "2: eth0 inet 192.0.2.10/24\n2: eth0 inet 198.51.100.10/24\n")
@@ -288,12 +288,12 @@ def parameters_are_looked_at(room: Room) -> None:
     room.ends("start", SUCCESS, address="198.51.100.10")
     room.ends("stop", SUCCESS)
     room.put("addresses", "2: eth0 inet 192.0.2.100/24\n")
-    room.ends("start", GENERIC, "has the address of no site line")
+    room.ends("start", GENERIC, "this node has no address of a site line")
 
 
 @story
 def a_daemon_that_does_not_start_is_told(room: Room) -> None:
-    """a daemon that ends again and again fails the start with its own words, and a stop clears what is left"""
+    """if a daemon ends again and again, the start fails with its message, and a stop clears what is left"""
     room.put("booth@booth.service.fails")
     begun = time.monotonic()
     room.ends("start", GENERIC, "does not answer: boothd: cannot open")
@@ -302,12 +302,12 @@ def a_daemon_that_does_not_start_is_told(room: Room) -> None:
     room.drop("booth@booth.service.fails")
     room.ends("start", SUCCESS)
     room.put("booth@booth.service.stays")
-    room.ends("stop", GENERIC, "is not over")
+    room.ends("stop", GENERIC, "has not ended")
 
 
 @story
 def it_tells_what_it_is(room: Room) -> None:
-    """the agent's description is a document, and other actions are not known"""
+    """the agent's meta-data is an XML document, and other actions are refused"""
     import xml.etree.ElementTree as ElementTree
 
     printed = room.ends("meta-data", SUCCESS)
@@ -320,7 +320,7 @@ def it_tells_what_it_is(room: Room) -> None:
 
 
 def outcome(told: Story) -> bool:
-    """Whether a story passes, in a room of its own."""
+    """Whether a story passes, in its own room."""
     with scratch("booth-agent-") as folder:
         begun = time.monotonic()
         try:
@@ -333,7 +333,7 @@ def outcome(told: Story) -> bool:
 
 
 def main(words: List[str]) -> int:
-    """Tells the stories, or those whose name has one of the words."""
+    """Runs the stories, or those whose name has one of the words."""
     begun = time.monotonic()
     chosen = [each for each in stories if not words or any(word in each.__name__ for word in words)]
     # (most of their time they wait)

@@ -1,12 +1,12 @@
 #!/usr/bin/env python3
-"""Holds the pool of linked nodes and the timer to their speed at large sizes.
+"""Checks that the pool of linked nodes and the timer stay fast at large sizes.
 
 Run it as `python3 tests/sizes.py [PROGRAM]`, PROGRAM being the built `trials`, which rt leaves at
 crates/trials/out/trials. It takes some seconds, prints a line for each check, and has the status 1 if one failed
 or took more than a minute. If `trials` is not built it checks nothing, with status 0.
 
-What the lists and the answers are is proved, and in how many counted looks a slot is found. Time is not: a pool that moves
-all later items, or a timer that looks without counting, would only be slow, and take hours here.
+What the lists and the answers are is proved, and in how many counted looks a slot is found. Time is not: a pool
+that moves all later items, or a timer that looks without counting, would only be slow, and take hours here.
 """
 
 import os
@@ -31,7 +31,7 @@ CHECKS = (
 
 
 def trouble(program, words, line):
-    """What is wrong with a run, and how long it took."""
+    """The fault of a run, and how long it took."""
     started = time.monotonic()
     try:
         done = subprocess.run([program, *map(str, words)], stdout=subprocess.PIPE, timeout=SECONDS)

@@ -1,5 +1,5 @@
 #!/usr/bin/env python3
-"""Has services follow their tickets through hundreds of takeovers by drawn faults, and sees that no two ever overlap.
+"""Has services follow their tickets through hundreds of takeovers by random faults, and checks that none overlap.
 
 Run it as `python3 tests/soak.py [TAKEOVERS [CLUSTERS [SEED]]] [BOOTHD BOOTH BOOTH-FOLLOW]`, by default 200 takeovers
 in 8 clusters side by side, of the programs that `make build` leaves. It takes some ten minutes, in which it mostly
@@ -43,8 +43,8 @@ members.SECONDS_BETWEEN_LOOKS = 0.03
 
 
 class Takeover(NamedTuple):
-    """What became of a fault: its parts, how long it took until a service ran, and how long before its lease's end the
-    old one was over.
+    """The result of a fault: its parts, how long it took until a service ran, and how long before its lease's end the
+    old service ended.
     """
 
     trouble: str
@@ -55,7 +55,7 @@ class Takeover(NamedTuple):
 
 
 class Scene:
-    """A cluster, its services, and the faults that one of its sites has."""
+    """A cluster, its services, and the faults that one of its sites can have."""
 
     def __init__(self, cluster, services, draw):
         self.cluster, self.services, self.draw = cluster, services, draw
@@ -95,7 +95,7 @@ class Scene:
 
     @contextlib.contextmanager
     def others_stand_still(self, holder):
-        """Nobody can take over meanwhile, so they go on soon after the service's stop."""
+        """Stops the other members. Nobody can take over then, so they continue soon after the service's stop."""
         others = self.others(holder)
         with self.stands_still(*others):
             require(self.services.await_down(holder, TIMES.expire + PATIENCE), "the service runs on")
@@ -103,7 +103,7 @@ class Scene:
         yield
 
     def trouble(self):
-        """A fault of the daemon or its ways: its name, and a block in which it lasts."""
+        """A fault of the daemon or its links: its name, and a block in which it lasts."""
         kinds = [
             ("daemon killed", self.killed),
             ("daemon stands still", self.stands_still),
@@ -115,7 +115,7 @@ class Scene:
     # ---- what befalls the service and its follower
 
     def worsen(self, holder):
-        """Draws a fault of the service. Gives its name, and what ends it."""
+        """Draws a fault of the service. Returns its name, and the function that ends it."""
         kind = self.draw.choice(("well", "slow stop", "hanging stop", "follower killed"))
         if kind == "slow stop":
             self.services.set("slow", holder, f"{self.draw.uniform(0, MARGIN - KILL - 0.2):.2f}")
@@ -128,7 +128,7 @@ class Scene:
         return kind, lambda: self.mend(holder)
 
     def unit_follows_anew(self, holder):
-        """The follower dies, and its unit starts another one a second later, which takes the service over."""
+        """The follower dies, and a second later its unit starts another one, which takes the service over."""
         time.sleep(self.draw.uniform(0, 1))
         self.services.kill(holder)
         time.sleep(SECONDS_TO_FOLLOW)
@@ -142,7 +142,7 @@ class Scene:
     # ---- one after the other
 
     def ended_before(self, holder, until):
-        """How long before the lease's end the holder's service wrote last."""
+        """Returns how long before the lease's end the holder's service wrote last."""
         last = max(spell.last for spell in self.services.spells() if spell.site == holder.address)
         require(last < until, f"the service at {holder.address} wrote {last - until:.3f} s after its lease's end")
         return until - last
@@ -167,7 +167,7 @@ class Scene:
 
 
 def soaked(place, count, seed, programs):
-    """So many takeovers of one cluster, and what was wrong, if anything was."""
+    """This many takeovers of one cluster, and the first failure, if there is one."""
     done, draw = [], random.Random(seed * 1_000 + place)
     try:
         with scratch("booth-soak-") as folder, contextlib.ExitStack() as stack:
@@ -193,7 +193,7 @@ def middle(values):
 
 
 def told(done, took):
-    """The lines of the result."""
+    """The lines about the result."""
     moved = [each for each in done if each.moved]
     kinds = sorted({(each.trouble, each.service) for each in done})
     yield f"{len(done)} faults of {len(kinds)} kinds, {len(moved)} takeovers, in {took / 60:.1f} minutes"
@@ -203,7 +203,7 @@ def told(done, took):
 
 
 def run(takeovers, clusters, seed, programs):
-    """Says how many clusters failed."""
+    """Runs the clusters. Prints how many failed."""
     began, each = time.monotonic(), -(-takeovers // clusters)
     # (each has a process of its own, and so addresses of its own)
     with multiprocessing.get_context("fork").Pool(clusters, maxtasksperchild=1) as pool:

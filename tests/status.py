@@ -1,8 +1,8 @@
 #!/usr/bin/env python3
-"""Holds booth-status and booth-record to what they show: of members and files that are arranged, and of real clusters.
+"""Checks booth-status and booth-record: with arranged members and files, and with real clusters.
 
-Run it as `python3 tests/status.py [BOOTHD]`, BOOTHD being what `make build` leaves where it is left out. It takes less
-than a minute, prints a line for each story, ends all that it started, and has the status 1 where a story failed. Where
+Run it as `python3 tests/status.py [BOOTHD]`, by default the one that `make build` leaves. It takes less
+than a minute, prints a line for each story, ends all that it started, and has the status 1 if a story failed. If
 boothd is not built it leaves the real clusters out.
 """
 
@@ -30,7 +30,7 @@ SECONDS_OF_A_STORY = 120
 
 
 class Hangs(Exception):
-    """A story that did not end."""
+    """A story did not end in time."""
 
 
 def hangs(*_):
@@ -38,7 +38,7 @@ def hangs(*_):
 
 
 def passes(story, call):
-    """Whether a story passes. It says what it left out, or nothing."""
+    """Whether a story passes. The story returns what it left out, or nothing."""
     begun = time.monotonic()
     signal.signal(signal.SIGALRM, hangs)
     signal.alarm(SECONDS_OF_A_STORY)
@@ -55,7 +55,7 @@ def passes(story, call):
 
 
 def alone(story):
-    """A story in a folder of its own. What it looks at it arranges itself, so on a busy machine it is told again."""
+    """Runs a story in its own folder. It arranges everything that it looks at, so on a busy machine it is repeated."""
 
     def once():
         with scratch("booth-status-") as folder:
@@ -65,7 +65,7 @@ def alone(story):
 
 
 def run(program):
-    """Runs each story in a folder of its own, and those of real clusters in one. Says how many failed."""
+    """Runs each story in its own folder, and those of real clusters in one. Prints how many failed."""
     started = time.monotonic()
     outcomes = [passes(story, lambda story=story: alone(story)) for story in stories]
     if program is None:

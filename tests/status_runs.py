@@ -1,4 +1,4 @@
-"""Runs booth-status and booth-record for the tests beside it, and reads what they print.
+"""Runs booth-status and booth-record for the tests, and reads their output.
 
 It is imported by tests/status.py and its stories, and not run by itself.
 """
@@ -20,9 +20,9 @@ from serving import NotServing
 
 TOP = os.path.dirname(os.path.dirname(os.path.abspath(__file__)))
 SECONDS_OF_A_RUN = 30
-# how long Python takes to start and to end, on a machine that does much else
+# how long Python takes to start and to end, on a busy machine
 SECONDS_OF_PYTHON = 3
-# how long it may take there until a look shows what it has to
+# how long it may take there until a look shows what it must
 SECONDS_TO_BE_SO = 30
 SECONDS_BETWEEN_TRIES = 0.1
 
@@ -30,7 +30,7 @@ stories = []
 
 
 class Wrong(Exception):
-    """What a story found."""
+    """A story failed; the text has the finding."""
 
 
 def require(holds, why):
@@ -43,13 +43,13 @@ def require_same(found, wanted, what=""):
 
 
 def story(function):
-    """Takes a function, whose docstring says what it shows, into the list."""
+    """Adds a function to the list of stories. Its docstring is the sentence that it checks."""
     stories.append(function)
     return function
 
 
 class Ran(NamedTuple):
-    """What a run left. `took` is in seconds."""
+    """The outcome of a run. `took` is in seconds."""
 
     status: int
     printed: str
@@ -58,7 +58,7 @@ class Ran(NamedTuple):
 
 
 class Loaded:
-    """The main function of a program that is no module by its name."""
+    """The main function of a program whose file name is not a module's."""
 
     def __init__(self, name):
         loader = importlib.machinery.SourceFileLoader(name.replace("-", "_"), f"{TOP}/packaging/{name}")
@@ -78,7 +78,7 @@ def loaded(name):
 
 
 def run(name, *words):
-    """A run of booth-status or booth-record, in this process: to start Python a hundred times would take long."""
+    """A run of booth-status or booth-record in this process, because starting Python a hundred times would be slow."""
     started, streams = time.monotonic(), [io.TextIOWrapper(io.BytesIO(), write_through=True) for _ in range(2)]
     with contextlib.redirect_stdout(streams[0]), contextlib.redirect_stderr(streams[1]):
         result = loaded(name).status([str(word) for word in words])
@@ -86,7 +86,7 @@ def run(name, *words):
 
 
 def run_apart(name, *words, **more):
-    """The same in a process of its own, as an operator runs it."""
+    """The same in its own process, as an operator runs it."""
     started = time.monotonic()
     command = [sys.executable, "-IS", f"{TOP}/packaging/{name}", *map(str, words)]
     more.update(stdin=subprocess.DEVNULL, stdout=subprocess.PIPE, stderr=subprocess.PIPE, universal_newlines=True)
@@ -104,7 +104,7 @@ def record(*words):
 
 
 def refuses(name, words, text, result):
-    """A run that prints nothing, and says this on the first line of standard error."""
+    """A run that prints nothing on standard output, and this on the first line of standard error."""
     ran = run(name, *words)
     wanted = (result, "", f"{name}: {text}")
     found = (ran.status, ran.printed, ran.said.split("\n")[0])
@@ -112,7 +112,7 @@ def refuses(name, words, text, result):
 
 
 def document(*words):
-    """The document of a look, which has the same status as its run."""
+    """The JSON document of a look, which has the same status as its run."""
     ran = status("-j", *words)
     require(ran.printed.count("\n") == 1 and not ran.said, f"--json printed {ran.printed}{ran.said}")
     told = json.loads(ran.printed)
@@ -121,7 +121,7 @@ def document(*words):
 
 
 def problems_of(told):
-    """What is wrong by a document, without the texts."""
+    """The problems in a document, without the texts."""
     names = ("severity", "kind", "member", "other", "ticket")
     return {tuple(each[name] for name in names) for each in told["problems"]}
 
@@ -143,8 +143,9 @@ def require_problems(told, *wanted):
 
 
 def in_time(check, state=None):
-    """What the check gives. A busy machine is late: so one that finds something wrong is done again and again, for so
-    many seconds, and then what it found stands. A state file is put back before each further try."""
+    """Returns the result of a check. A busy machine may be late: if the check fails, it is repeated for this many
+    seconds, and then its last failure counts. A state file is restored before each repetition.
+    """
     kept, end = content_of(state), time.monotonic() + SECONDS_TO_BE_SO
     while True:
         try:
@@ -157,7 +158,7 @@ def in_time(check, state=None):
 
 
 def content_of(path):
-    """The bytes of a file, or None where there is none."""
+    """The bytes of a file, or None if it is missing."""
     if path is None or not os.path.exists(path):
         return None
     with open(path, "rb") as file:
@@ -165,7 +166,7 @@ def content_of(path):
 
 
 def put_back(path, kept):
-    """The file as it was."""
+    """Restores the file."""
     if kept is not None:
         with open(path, "wb") as file:
             file.write(kept)
@@ -174,7 +175,7 @@ def put_back(path, kept):
 
 
 def shows(look, *wanted, state=None):
-    """The document of a look with these words, in which these problems are told and no others, once they are."""
+    """The document of a look with these arguments, once it has exactly these problems."""
     words = [*look, "-s", state] if state else look
 
     def check():
@@ -186,12 +187,14 @@ def shows(look, *wanted, state=None):
 
 
 def first_text(told):
-    """What is said of the worst problem."""
+    """The text of the worst problem."""
     return told["problems"][0]["text"]
 
 
 def metrics_of(text):
-    """Each sample of metrics by its name and its labels, as Prometheus reads them, below its name's help and type."""
+    """Each sample of the metrics by its name and its labels, as Prometheus reads them, after the help and type of its
+    name.
+    """
     form = re.compile(r'([a-z_]+)(?:\{((?:[a-z_]+="(?:[^"\\\n]|\\.)*",?)*)\})? (-?[0-9.]+(?:e-?[0-9]+)?)')
     samples, known, place = {}, {}, None
     for line in text.splitlines():
@@ -210,11 +213,11 @@ def metrics_of(text):
 
 
 def sample(samples, name, **labels):
-    """The value of a sample, or None where there is none."""
+    """The value of a sample, or None if it is missing."""
     return samples.get((name, frozenset(labels.items())))
 
 
 def tables_of(printed):
-    """The rows of each table that was printed, as lists of fields, without the rows of names."""
+    """The rows of each printed table, as lists of fields, without the header rows."""
     blocks = [block.splitlines() for block in printed.rstrip("\n").split("\n\n")]
     return [[re.split(r" {2,}", line.strip()) for line in block] for block in blocks]

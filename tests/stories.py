@@ -1,4 +1,4 @@
-"""What the stories of tests/cluster.py stand on: what a cluster is held to, and how that is said.
+"""The base of the stories of tests/cluster.py: the requirements for a cluster, and how they are printed.
 
 It is imported by the programs in tests/, and not run by itself.
 """
@@ -22,7 +22,7 @@ stories = []
 
 
 class Wrong(Exception):
-    """The cluster did not do what it must."""
+    """The cluster did not act as it must."""
 
 
 def require(holds, why):
@@ -31,13 +31,13 @@ def require(holds, why):
 
 
 def story(function):
-    """Takes a function, whose docstring says what its cluster is, into the list."""
+    """Adds a function to the list of stories. Its docstring describes its cluster."""
     stories.append(function)
     return function
 
 
 def slack():
-    """How much later than it may a thing happens at most now."""
+    """How much later than its limit an event may happen on this machine now."""
     return SLACK if os.getloadavg()[0] <= (os.cpu_count() or 1) else SLACK_LOADED
 
 
@@ -52,7 +52,7 @@ def is_held_by(cluster, member):
 
 
 def grants(cluster, place, seconds=PATIENCE):
-    """A client asks this member for a grant, again if it is busy, and then the member holds."""
+    """A client requests a grant from this member, again if it is busy, and then the member holds."""
     member = cluster.members[place]
     result = wait_for(lambda: (answer := member.about("CGnt")) != "Busy" and answer, seconds)
     require(result in ("ok", "Asyn"), f"a grant is answered {result or 'Busy, or not at all'}")
@@ -61,21 +61,23 @@ def grants(cluster, place, seconds=PATIENCE):
 
 
 def left(ran, wanted):
-    """Whether a run left what is wanted, and behind a refusal perhaps a line with its cause, as tests/causes.py has."""
+    """Whether a run printed the wanted text, possibly followed by a line with a refusal's cause, as tests/causes.py has
+    it.
+    """
     more = ran.said[len(wanted.said) :]
     is_cause = bool(wanted.said) and more.endswith("\n") and more.count("\n") == 1
     return ran == wanted._replace(said=wanted.said + more) and (not more or is_cause)
 
 
 def says(member, words, status, text):
-    """Runs booth at this member, and holds it to this status and this text, of which only one stream has some."""
+    """Runs booth at this member, and checks its status and its text, which only one of the streams has."""
     wanted = Ran(status, "", text) if status else Ran(status, text, "")
     ran = member.booth(*words)
     require(left(ran, wanted), f"booth {' '.join(words)} at {member.address} left {ran}, and not {wanted}")
 
 
 def keeps(member, words, status, text, ticket=TICKET):
-    """Runs geostore at this member, and holds it to this status and this text."""
+    """Runs geostore at this member, and checks its status and its text."""
     wanted = Ran(status, "", text) if status else Ran(status, text, "")
     ran = member.geostore(*words, ticket=ticket)
     require(left(ran, wanted), f"geostore {' '.join(words)} at {member.address} left {ran}, and not {wanted}")
@@ -86,7 +88,7 @@ def date(moment):
 
 
 def lists(cluster, owner):
-    """Every member that runs lists this owner, with the end of the lease in its record, by booth."""
+    """Every running member lists this owner, with the end of the lease in the owner's record, by booth."""
     for member in cluster.members:
         if not member.is_running():
             continue
@@ -107,8 +109,9 @@ def lease_of(member):
 
 
 def stands(cluster, owner):
-    """Every member that runs tells, of the one ticket, this owner and the seconds that are left of the lease in its
-    record. The owner alone tells the term of that lease. Returns the term."""
+    """Every running member shows, for the only ticket, this owner and the remaining seconds of the lease in its record.
+    Only the owner shows the term of that lease. Returns the term.
+    """
     leases = []
     for member in cluster.members:
         if not member.is_running():
@@ -132,7 +135,7 @@ def stands(cluster, owner):
 
 
 def counts_as(member):
-    """What booth prints of the members is what the daemon counts."""
+    """The figures that booth prints for the members are the daemon's counters."""
     drops, others = member.counts()
     ran = member.booth("peers")
     first, *lines = ran.printed.splitlines()
@@ -147,5 +150,5 @@ def counts_as(member):
 
 
 def abstains(cluster, started):
-    """The moment from which each of the members that started without a record until this moment answers rounds."""
+    """The moment from which each member answers rounds, if it started before now and without a record."""
     time.sleep(max(0, started + cluster.times.abstention() + 0.05 - now()))

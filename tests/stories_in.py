@@ -2,7 +2,7 @@
 
 It is imported by the programs in tests/, and not run by itself.
 
-Blank lines part the paragraphs of a file, and a line that begins with blanks goes on with the line before it. The
+Blank lines part the paragraphs of a file, and a line that begins with blanks continues with the line before it. The
 first paragraph of a file, each line of which begins with `# `, says what the file shows. A text begins with `# ` and
 its name: in a file of parts or of configurations `: ` and what it is stand behind the name, and in a file of stories
 the name is what the story shows.
@@ -23,13 +23,13 @@ FOR = re.compile(r"\[for (\d+) to (\d+):( |\n\n|\n)([^\[\]]*)\]")
 
 
 def repeated(match: "re.Match[str]") -> str:
-    """Returns the texts of a `for`."""
+    """Returns the texts that a `for` makes."""
     first, last, between, text = match.groups()
     return between.strip(" ").join(text.format(n=n) for n in range(int(first), int(last) + 1))
 
 
 def whole(text: str) -> str:
-    """Returns a file's text without what its lines leave to be put together."""
+    """Returns a file's text with the parts of each line put together."""
     return FOR.sub(repeated, re.sub(r"\n +", "", text.strip("\n")))
 
 
@@ -54,7 +54,7 @@ def named(text: str) -> Dict[str, str]:
 
 
 def read_file(folder: str, name: str) -> str:
-    """Returns what stands in this file of a folder of rows."""
+    """Returns the content of this file of a folder of rows."""
     path = os.path.join(os.path.dirname(os.path.abspath(__file__)), "rows", folder, name)
     with open(path, encoding="utf-8") as file:
         return file.read()
@@ -72,7 +72,7 @@ def named_in(folder: str, names: List[str]) -> Dict[str, str]:
 
 
 def text_of(texts: Dict[str, Text], name: str) -> Text:
-    """Returns the text of this name."""
+    """Returns the text with this name."""
     if name not in texts:
         raise Trouble(f"there is no text {name!r}")
     return texts[name]

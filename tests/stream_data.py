@@ -1,4 +1,4 @@
-"""Bytes of streams from their texts.
+"""Makes the bytes of streams from their texts.
 
 It is imported by the programs in tests/, and not run by itself.
 
@@ -16,7 +16,7 @@ LENGTH_AT, LENGTH_END = 24, 28
 
 
 def frame(said: int, mark: str) -> bytes:
-    """Returns a frame of so many bytes with this mark."""
+    """Returns a frame of this many bytes with this mark."""
     fill = mark.encode()
     return fill * LENGTH_AT + said.to_bytes(4, "big") + fill * (said - LENGTH_END)
 

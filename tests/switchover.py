@@ -1,9 +1,9 @@
 #!/usr/bin/env python3
-"""Holds booth-switchover to the order of its steps, and to what it undoes.
+"""Checks the order of the steps of booth-switchover, and what it undoes.
 
-Run it as `python3 tests/switchover.py [WORD..]`: it tells the stories whose name has one of the words, or all. Members,
+Run it as `python3 tests/switchover.py [WORD..]`: it runs the stories whose name has one of the words, or all. Members,
 booth and systemctl are arranged, so it needs nothing that is built. It takes less than a minute, prints a line for each
-story, and has the status 1 where one failed.
+story, and has the status 1 if one failed.
 """
 
 import contextlib
@@ -69,14 +69,14 @@ esac
 
 
 class Ended(NamedTuple):
-    """How a run ended, and what it printed."""
+    """The outcome of a run: its status, and what it printed."""
 
     status: int
     printed: str
 
 
 class Member(FakeMember):
-    """A member that names the holder of the moment."""
+    """A member that names the current holder."""
 
     def __init__(self, room: "Room", address: str) -> None:
         others = [each for each in room.addresses if each != address]
@@ -85,7 +85,7 @@ class Member(FakeMember):
         self.room = room
 
     def answers(self, request: bytes) -> List[bytes]:
-        """What is sent to who asks this."""
+        """The datagrams that are sent to the client that asks this."""
         self.texts["CLst"] = [f"db8 {self.room.text('holder').strip()} {int(time.time()) + 50}", "hand none 0"]
         return super().answers(request)
 
@@ -115,7 +115,7 @@ class Room:
             file.write(text)
 
     def text(self, name: str) -> str:
-        """What a file of the room has, nothing where it is missing."""
+        """The text of a file of the room, empty if it is missing."""
         try:
             with open(f"{self.folder}/{name}", encoding="utf-8") as file:
                 return file.read()
@@ -123,7 +123,7 @@ class Room:
             return ""
 
     def started(self, *words: str) -> "subprocess.Popen[str]":
-        """A switchover with these words that runs."""
+        """A running switchover with these arguments."""
         path = {"PATH": f"{self.folder}/bin:{os.environ['PATH']}", "BOOTH_FOLLOW_RUN": f"{self.folder}/state"}
         path["BOOTH_CIB"] = f"{self.folder}/cib.xml"
         command = [f"{TOP}/packaging/booth-switchover", "-c", f"{self.folder}/booth.conf", "-s", self.one, *words]
@@ -131,7 +131,7 @@ class Room:
         return subprocess.Popen(command, env={**os.environ, **path}, text=True, **streams)
 
     def run(self, *words: str) -> Ended:
-        """How a switchover with these words ends."""
+        """The outcome of a switchover with these arguments."""
         with self.started(*words) as switchover:
             printed, _ = switchover.communicate(timeout=60)
         return Ended(switchover.returncode, printed)
@@ -143,7 +143,7 @@ class Room:
         return ", ".join(" ".join(call.split()[:2]) for call in kept)
 
     def is_cluster(self) -> None:
-        """This site is a Pacemaker cluster, whose ticket is granted."""
+        """Makes this site a Pacemaker cluster whose ticket is granted."""
         self.put(
             "cib.xml",
             "<cib><configuration><resources><primitive id='svc' class='ocf' type='Service'/></resources><constraints>"
@@ -156,7 +156,7 @@ class Room:
 
     @contextlib.contextmanager
     def members(self, *silent: str) -> Iterator[None]:
-        """All members but these answer in this block."""
+        """All members except these answer in this block."""
         with contextlib.ExitStack() as stack:
             for address in self.addresses:
                 if address not in silent:
@@ -169,7 +169,7 @@ stories: List[Story] = []
 
 
 def story(function: Story) -> Story:
-    """Adds a story to those that are told."""
+    """Adds a story to the list of stories."""
     stories.append(function)
     return function
 
@@ -198,7 +198,7 @@ def moves_in_order(room: Room) -> None:
 
 @story
 def what_is_there_is_left(room: Room) -> None:
-    """a ticket that is at the other site already is left there"""
+    """a ticket that the other site already has stays there"""
     room.put("holder", f"{room.two}\n")
     with room.members():
         ends_with(room, 0, "already: nothing is changed", "")
@@ -206,14 +206,14 @@ def what_is_there_is_left(room: Room) -> None:
 
 @story
 def what_cannot_be_moved_is_refused(room: Room) -> None:
-    """what could not be moved is refused before anything is stopped"""
+    """a move that is not possible is refused before anything is stopped"""
     with room.members():
         rows: List[Tuple[str, str, str]] = [
             ("none", room.two, "has no ticket none"),
             ("hand", room.two, "is manual"),
-            ("db8", room.third, "is no site"),
-            ("db8", "192.0.2.77", "is no site"),
-            ("db8", "elsewhere", "is no address"),
+            ("db8", room.third, "is not a site"),
+            ("db8", "192.0.2.77", "is not a site"),
+            ("db8", "elsewhere", "is not an IP address"),
             ("db8", room.one, "is this site"),
         ]
         for ticket, to, text in rows:
@@ -235,7 +235,7 @@ def what_cannot_be_moved_is_refused(room: Room) -> None:
 
 @story
 def a_service_that_does_not_stop_stays(room: Room) -> None:
-    """a service that is not seen to stop is not moved, and its follower runs again"""
+    """a service whose stop is not confirmed is not moved, and its follower runs again"""
     with room.members():
         room.put("stop.leaves")
         ends_with(room, 1, f"was not moved, and is held by {room.one}", "systemctl stop, systemctl start")
@@ -247,7 +247,7 @@ def a_service_that_does_not_stop_stays(room: Room) -> None:
 
 @story
 def a_move_that_is_refused_is_undone(room: Room) -> None:
-    """a move that is refused leaves the ticket, and the service is started again; one that lost it has it back"""
+    """after a refused move the ticket stays and the service starts; a site that lost the ticket gets it back"""
     with room.members():
         room.put("move.fails", "ticket is not granted\n")
         printed = ends_with(room, 1, f"is held by {room.one}, where its service is started again", ALL)
@@ -265,7 +265,7 @@ def a_move_that_is_refused_is_undone(room: Room) -> None:
 
 @story
 def a_move_without_an_answer_is_looked_for(room: Room) -> None:
-    """after a move without an answer the members say where the ticket is"""
+    """after a move without an answer the members are asked who holds the ticket"""
     with room.members():
         room.put("move.fails", "no reply\n")
         room.put("move.moves", f"{room.two}\n")
@@ -279,7 +279,7 @@ def a_move_without_an_answer_is_looked_for(room: Room) -> None:
 
 @story
 def a_follower_that_does_not_start_is_told(room: Room) -> None:
-    """a follower that does not run again is told, with the status 2"""
+    """a follower that does not run again is reported, with status 2"""
     with room.members():
         room.put("start.fails")
         printed = ends_with(room, 2, f"ticket db8 moved to {room.two}", ALL)
@@ -288,7 +288,7 @@ def a_follower_that_does_not_start_is_told(room: Room) -> None:
 
 @story
 def a_signal_leaves_a_follower(room: Room) -> None:
-    """a signal in the middle of a move has the follower run again"""
+    """after a signal in the middle of a move the follower runs again"""
     room.put("move.hangs")
     with room.members(), room.started("-t", "50", "db8", room.two) as switchover:
         until = time.monotonic() + 20
@@ -317,7 +317,7 @@ def a_cluster_is_moved_by_standby(room: Room) -> None:
 
 @story
 def a_cluster_that_is_not_moved_has_its_service_back(room: Room) -> None:
-    """at a Pacemaker site a move that is refused ends the standby, and revokes nothing"""
+    """if a move at a Pacemaker site is refused, the standby ends, and nothing is revoked"""
     room.is_cluster()
     with room.members():
         room.put("move.fails", "ticket is not granted\n")
@@ -330,7 +330,7 @@ def a_cluster_that_is_not_moved_has_its_service_back(room: Room) -> None:
 
 @story
 def a_cluster_that_could_not_be_moved_is_refused(room: Room) -> None:
-    """at a Pacemaker site nothing is done in a standby, without the ticket, or if Pacemaker says nothing"""
+    """at a Pacemaker site nothing is done in a standby, without the ticket, or if Pacemaker does not answer"""
     room.is_cluster()
     with room.members():
         room.put("standby", "true\n")
@@ -339,11 +339,11 @@ def a_cluster_that_could_not_be_moved_is_refused(room: Room) -> None:
         room.put("status", "revoked\n")
         ends_with(room, 1, "is not granted here", "")
         room.put("mon.fails")
-        ends_with(room, 1, "this site's cluster says nothing", "")
+        ends_with(room, 1, "this site's cluster does not answer", "")
 
 
 def outcome(told: Story) -> bool:
-    """Whether a story passes, in a room of its own."""
+    """Whether a story passes, in its own room."""
     with scratch("booth-switchover-") as folder:
         try:
             told(Room(folder))
@@ -355,7 +355,7 @@ def outcome(told: Story) -> bool:
 
 
 def main(words: List[str]) -> int:
-    """Tells the stories, or those whose name has one of the words."""
+    """Runs the stories, or those whose name has one of the words."""
     chosen = [each for each in stories if not words or any(word in each.__name__ for word in words)]
     outcomes = [outcome(each) for each in chosen]
     print(f"switchover: {outcomes.count(True)} passed, {outcomes.count(False)} failed")

@@ -1,4 +1,4 @@
-"""Links over TCP to a daemon, as a client has them, for tests/links.py and bench/links.py.
+"""Links over TCP to a daemon, as a client opens them, for tests/links.py and bench/links.py.
 
 It is imported by those, and not run by itself.
 """
@@ -18,7 +18,7 @@ numbers = itertools.count(1)
 
 
 class Closed(Exception):
-    """The daemon closed the link, or has not taken it."""
+    """The daemon closed the link, or has not accepted it."""
 
 
 class Link:
@@ -49,7 +49,7 @@ class Link:
         self.socket.close()
 
     def receive(self, count):
-        """The next so many bytes, however they are cut, and no faster than this link takes them."""
+        """The next bytes, exactly this many, however they are cut, and read no faster than this link allows."""
         came = bytearray()
         while len(came) < count:
             try:
@@ -65,7 +65,7 @@ class Link:
         return bytes(came)
 
     def frame(self):
-        """The next frame, by the length that its head says."""
+        """The next frame, by the length in its head."""
         head = self.receive(frames.HEAD_BYTES)
         return head + self.receive(frames.Head.read(head).length - frames.HEAD_BYTES)
 
@@ -75,7 +75,7 @@ class Link:
         return number, frames.request_now(letters, number, body, self.key)
 
     def ask(self, letters="CLst", body=b"", cut=None, pause=0.001):
-        """The reply to a request that is sent whole, or in two pieces, cut there."""
+        """The reply to a request that is sent whole, or in two pieces that are cut at this place."""
         number, request = self.request(letters, body)
         if cut is None:
             self.socket.sendall(request)
@@ -94,7 +94,7 @@ class Link:
         return frame
 
     def ends(self, seconds):
-        """Whether the daemon closes the link within this time. What comes before is ignored."""
+        """Whether the daemon closes the link within this time. Bytes that arrive before are ignored."""
         end = time.monotonic() + seconds
         while time.monotonic() < end:
             self.socket.settimeout(max(0.001, end - time.monotonic()))
@@ -110,7 +110,7 @@ class Link:
 
 @contextlib.contextmanager
 def links(count, address, key=None):
-    """So many links at once."""
+    """This many links at once."""
     with contextlib.ExitStack() as stack:
         yield [stack.enter_context(Link(address, key)) for _ in range(count)]
 
@@ -121,7 +121,7 @@ def open_files(process):
 
 
 class Busy:
-    """Sixteen links, each of which asks for lists without a pause, in a `with` block."""
+    """Sixteen links that ask for lists without a pause, in a `with` block."""
 
     def __init__(self, address, key=None, count=16):
         self.address, self.key, self.count = address, key, count

@@ -1,10 +1,9 @@
 #!/usr/bin/env python3
-"""Holds three real boothd with 4,096 tickets to what one ticket has: lists, grants, a restart, a takeover.
+"""Checks three real boothd with 4,096 tickets: lists, grants, a restart and a takeover work as with one ticket.
 
-Run it as `python3 tests/thousands.py [BOOTHD BOOTH BOOTH-FOLLOW [TICKETS]]`, which are what `make build` leaves if
-they are left out. It takes some 40 seconds, most of which it waits for leases, prints a line for each check, ends all
-that it started, and has the status 1 if a check failed. If a program is not built it checks nothing, with status
-0.
+Run it as `python3 tests/thousands.py [BOOTHD BOOTH BOOTH-FOLLOW [TICKETS]]`, by default those that `make build`
+leaves. It takes some 40 seconds, most of which it waits for leases, prints a line for each check, ends all that it
+started, and has the status 1 if a check failed. If a program is not built it checks nothing, with status 0.
 
 A list of so many tickets comes in parts. Of each part's tickets some are granted, the first and the last among them,
 and a service follows one of the last part.
@@ -26,7 +25,7 @@ from stories import PATIENCE, Wrong, passed, require
 from tcp_links import Link
 
 TICKETS = 4_096
-# a lease that is over soon, renewed early enough on a machine that does much else
+# a lease that is over soon, renewed early enough on a busy machine
 TIMES = Times(expire=12, timeout=1, retries=3, renewal=6)
 # how many tickets of each part are granted
 GRANTED_OF_A_PART = 4
@@ -40,7 +39,7 @@ def names(count):
 
 
 def peak_memory(process):
-    """The most memory that a process had, in bytes."""
+    """The greatest memory of a process, in bytes."""
     with open(f"/proc/{process.pid}/status", encoding="ascii") as file:
         return next(int(line.split()[1]) * 1024 for line in file if line.startswith("VmHWM:"))
 
@@ -61,13 +60,15 @@ def parts_of_list(member):
 
 
 def some_of(parts):
-    """The first and the last ticket of each part, and some between."""
+    """The first and the last ticket of each part, and some between them."""
     places = range(GRANTED_OF_A_PART)
     return [part[place * (len(part) - 1) // (GRANTED_OF_A_PART - 1)] for part in parts for place in places if part]
 
 
 def line_of(ticket, holder):
-    """The lines of booth, of which one is right: a member that only heard of a lease counts whole seconds."""
+    """The possible lines of booth, one of which must be printed: a member that only heard of a lease counts whole
+    seconds.
+    """
     name = ticket.decode()
     record = holder and holder.record(ticket)
     if record is None or not record.holds(now()):
@@ -93,7 +94,7 @@ def lists_right(member, tickets, holder=None, held=()):
 
 
 def all_list(cluster, tickets, holder=None, held=()):
-    """Every member that runs lists all tickets rightly, once it has heard of them."""
+    """Every running member lists all tickets correctly, once it has heard of them."""
     for member in cluster.members:
         if member.is_running():
             is_right = wait_for(lambda member=member: lists_right(member, tickets, holder, held), PATIENCE)
@@ -121,7 +122,7 @@ def grant_all(member, tickets):
 
 
 def restarts(cluster, member):
-    """Ends a member as a crash does, and starts it again. How long that takes."""
+    """Ends a member as a crash does, and starts it again. Returns how long that takes."""
     member.kill()
     begun = now()
     member.start(cluster.program, cluster.conf)
@@ -129,7 +130,7 @@ def restarts(cluster, member):
 
 
 def check_memory(peaks):
-    """What each member had at most. (A program that `rt try` builds has more, for its own checks.)"""
+    """Checks the greatest memory of each member. (A program that `rt try` builds needs more, for its own checks.)"""
     shown = ", ".join(f"{peak / 1e6:.1f}" for peak in peaks)
     require(max(peaks) < MOST_MEMORY, f"{shown} MB of memory, and not below {MOST_MEMORY / 1e6:.0f}")
     passed(f"no member ever had more memory than {MOST_MEMORY / 1e6:.0f} MB ({shown} MB)")
@@ -178,7 +179,7 @@ def story(cluster, follower):
 
 
 def run(programs, count):
-    """Says how many checks failed: the story ends at the first."""
+    """Runs the checks. Prints how many failed: the story ends at the first failure."""
     begun, failed = time.monotonic(), 0
     with scratch("booth-thousands-") as folder:
         tickets = names(count)

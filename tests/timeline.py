@@ -1,5 +1,5 @@
 #!/usr/bin/env python3
-"""Holds tools/timeline.py to what it draws: of leases that are drawn by chance, of each kind of line, and of no line.
+"""Checks the drawings of tools/timeline.py: with random leases, with each kind of line, and without a line.
 
 Run it as `python3 tests/timeline.py`. It takes some seconds, prints a line for each check, and has the status 1 if a
 check failed. When two sites hold is found here moment by moment, and never by the tool's own way.
@@ -25,7 +25,7 @@ SVG = "{http://www.w3.org/2000/svg}"
 
 
 class Wrong(Exception):
-    """The tool did not do what it must."""
+    """The tool did not act as it must."""
 
 
 def require(holds, why):
@@ -34,7 +34,7 @@ def require(holds, why):
 
 
 def run(text, *words):
-    """The status, the picture and what was said, of a run over these lines."""
+    """The status, the picture and the standard error of a run over these lines."""
     done = subprocess.run([sys.executable, PROGRAM, *words], input=text.encode(), capture_output=True, timeout=SECONDS)
     return done.returncode, done.stdout.decode(), done.stderr.decode()
 
@@ -44,7 +44,7 @@ def line(ticket, site, start, until):
 
 
 def shapes(text):
-    """The bars of a picture, as (kind, where it begins, how wide it is, what is said of it), and its texts."""
+    """The bars of a picture, as (kind, left edge, width, title), and its texts."""
     root = trees.fromstring(text)
     bars = [each for each in root.iter(f"{SVG}rect") if each.get("class") in ("held", "both")]
     told = [(each.get("class"), float(each.get("x")), float(each.get("width")), each[0].text) for each in bars]
@@ -60,7 +60,7 @@ def covers(spans, moment):
 
 
 def red_is_where_two_sites_hold():
-    """a row has a bar if its site holds, and red if another one does too, at each moment"""
+    """at each moment, a row has a bar if its site holds, and the bar is red if another site holds too"""
     chance, red = random.Random(SEED), 0
     for _ in range(DRAWN):
         holdings = []
@@ -78,7 +78,7 @@ def red_is_where_two_sites_hold():
 
 
 def the_incident_is_the_picture_of_the_page():
-    """the picture of docs/AUDIT.md is drawn from the lines that stand there"""
+    """the picture in docs/AUDIT.md is drawn from the lines of that document"""
     with open(f"{TOP}/docs/AUDIT.md", encoding="utf-8") as file:
         incident = file.read().split("## An incident")[1]
     text = "".join(f"{found}\n" for found in re.findall(r"^ +(ticket .* until [0-9]+)$", incident, re.M))
@@ -92,7 +92,7 @@ def the_incident_is_the_picture_of_the_page():
 
 
 def what_is_no_line_is_refused():
-    """a line that is no holding is refused by its number, and nothing is drawn"""
+    """a line that is not a holding is refused with its number, and nothing is drawn"""
     good = line("db8", "10.0.0.1", 1000, 2000)
     bad = (
         "ticket db8, site 10.0.0.1, from 1000 until",
@@ -107,7 +107,7 @@ def what_is_no_line_is_refused():
     )
     for each in bad:
         status, drawn, said = run(good + each + "\n" + good)
-        begins = f"timeline: standard input: line 2: no holding: {each[:60]!r}"[:-1]
+        begins = f"timeline: standard input: line 2: not a holding: {each[:60]!r}"[:-1]
         require((status, drawn) == (1, "") and said.startswith(begins), f"{each[:80]!r}: {status}, {said}")
         require(said.count("\n") == 1 and len(said) < 200, f"it says {said[:300]}")
     status, drawn, said = run("", "/no/such/file")
@@ -119,7 +119,7 @@ def what_is_no_line_is_refused():
 
 
 def nothing_is_a_picture_too():
-    """no line at all is a picture without a row, and so is a lease that was over when it was found"""
+    """an empty input gives a picture without a row, and so does a lease that was over when it was found"""
     for text, row in (("", None), (line("db8", "::1", 2000, 1000), "db8 at ::1")):
         status, drawn, said = run(text)
         bars, texts = shapes(drawn)
@@ -129,7 +129,7 @@ def nothing_is_a_picture_too():
 
 
 def all_that_a_line_may_have_is_drawn():
-    """names of any letters, leases without an end, the greatest numbers, and times of one millisecond"""
+    """names of any letters, leases without an end, the greatest numbers, and times of one millisecond are drawn"""
     name = "<&\"'],site>"
     endless = line("by-hand", "10.0.0.1", 1_795_622_400_000, 2**62)
     endless += line("by-hand", "10.0.0.2", 1_795_622_460_000, 2**62)
@@ -158,7 +158,7 @@ def all_that_a_line_may_have_is_drawn():
 
 
 def axes_are_readable():
-    """an axis has two marks and more, apart from one another, whatever the time is that it shows"""
+    """an axis has at least two marks, which do not overlap, whatever time it shows"""
     first = 1_795_622_400_123
     for length in [1, 7, 100, 5_000, 59_999, *(3_600_000 * 3**power for power in range(14))]:
         axis = timeline.Axis(timeline.Span(first, first + length), 200)
@@ -170,7 +170,7 @@ def axes_are_readable():
 
 
 def a_month_is_drawn_soon():
-    """renewals of a month are drawn in seconds, a bar for each site"""
+    """renewals of a month are drawn within seconds, as one bar for each site"""
     text = []
     for ticket in range(TICKETS):
         for number in range(RENEWALS):

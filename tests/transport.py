@@ -1,8 +1,8 @@
 #!/usr/bin/env python3
-"""Holds `booth` to the ways by which it asks a member: datagrams, links over TCP, and one after the other.
+"""Checks how `booth` asks a member: by datagrams, over TCP, and by one after the other.
 
-Run it as `python3 tests/transport.py [BOOTH [BOOTHD]]`, which are what `make build` leaves if they are left out. It takes
-some half a minute, prints a line for each check with what it measured, ends all that it started, and has the status 1 if
+Run it as `python3 tests/transport.py [BOOTH [BOOTHD]]`, by default those that `make build` leaves. It takes some
+half a minute, prints a line for each check with what it measured, ends all that it started, and has the status 1 if
 a check failed. If a program is not built it checks nothing, with status 0.
 
 Most members here are none: each takes datagrams, or links, or both, and answers what docs/PROTOCOL.md has. The last
@@ -30,7 +30,7 @@ from serving import NotServing, built_program, end_by_signals, own_addresses
 KEY = b"a-key-of-the-cluster"
 # as booth(8) says: how long a member is silent before it is asked over TCP, and how long one waits for an answer
 SECONDS_OF_SILENCE, SECONDS_OF_PATIENCE = 1.0, 5.0
-# how late a thing may be on a machine that does much else
+# how late a thing may be on a busy machine
 SLACK = 2.0
 LINE = "ticket-db8 192.0.2.10 4102444800\n"
 # senders of the flood, how long it lasts, and how many times a command is tried in it
@@ -38,7 +38,7 @@ SENDERS, SECONDS_OF_FLOOD, TRIES = 3, 12, 20
 
 
 class Wrong(Exception):
-    """The client did not what it has to."""
+    """The client did not act as it must."""
 
 
 def require(holds: bool, why: str) -> None:
@@ -48,7 +48,8 @@ def require(holds: bool, why: str) -> None:
 
 
 class Ran(NamedTuple):
-    """What a run of booth left: its status, what it printed and said, and how many seconds it took."""
+    """The outcome of a run of booth: its status, its standard output and standard error, and how many seconds it took.
+    """
 
     status: int
     printed: str
@@ -57,10 +58,9 @@ class Ran(NamedTuple):
 
 
 class FakeMember:
-    """A member in a `with` block that answers each list that it is asked for, by the ways that it has.
-
-    It counts what came, as datagrams and over links. One without `datagrams` takes these and answers none; one without
-    `links` refuses them; one that is `deaf` takes links, and answers nothing over them.
+    """A member, in a `with` block, that answers each request for a list over the transports that it has. It counts what
+    arrives, as datagrams and over links. Without `datagrams` it accepts datagrams and answers none; without `links` it
+    refuses links; with `deaf` it accepts links, and answers nothing over them.
     """
 
     def __init__(self, address: str, datagrams: bool, links: bool, deaf: bool = False) -> None:
@@ -97,7 +97,7 @@ class FakeMember:
         return frames.reply_due("CLst", head.request, self.address, LINE.encode(), key=KEY, clock=head)
 
     def serve(self) -> None:
-        """Answers what comes, until the block is left."""
+        """Answers requests until the block ends."""
         links: Dict[socket.socket, bytes] = {}
         while True:
             watched = [self.stop_at, self.socket, *links] + ([self.listener] if self.listener else [])
@@ -147,14 +147,14 @@ class Scene:
         os.chmod(self.key, 0o600)
 
     def conf_of(self, address: str) -> str:
-        """Writes the configuration of a cluster of this site, and returns its path."""
+        """Writes the configuration of a cluster that has only this site, and returns its path."""
         path = os.path.join(self.folder, f"{address}.conf")
         with open(path, "w", encoding="ascii") as file:
             file.write(f'authfile = "{self.key}"\nsite = "{address}"\nticket = "{TICKET.decode()}"\n')
         return path
 
     def run(self, address: str, *words: str, transport: Optional[str] = None) -> Ran:
-        """Runs booth with these words, at the member of this address."""
+        """Runs booth with these arguments, at the member with this address."""
         env = {name: value for name, value in os.environ.items() if name != "BOOTH_TRANSPORT"}
         if transport is not None:
             env["BOOTH_TRANSPORT"] = transport
@@ -189,7 +189,7 @@ def answered_datagram_opens_no_link(scene: Scene) -> str:
 
 
 def udp_opens_no_link(scene: Scene) -> str:
-    """BOOTH_TRANSPORT=udp opens no link, and no answer is none"""
+    """BOOTH_TRANSPORT=udp opens no link, and a missing answer is reported"""
     with FakeMember(next(scene.addresses), datagrams=False, links=True) as member:
         ran = scene.run(member.address, "list", transport="udp")
     require(ran.status != 0 and "no reply" in ran.said and not member.frames, f"{ran}")
@@ -220,7 +220,7 @@ def options_win(scene: Scene) -> str:
 
 
 def refused_link_is_told(scene: Scene) -> str:
-    """BOOTH_TRANSPORT=tcp at a member that refuses links asks it by a datagram, and says why"""
+    """if a member refuses links, BOOTH_TRANSPORT=tcp asks it by a datagram, and prints the cause"""
     with FakeMember(next(scene.addresses), datagrams=True, links=False) as member:
         ran = scene.run(member.address, "list", transport="tcp")
     require(ran.status == 0 and len(member.datagrams) == 1, f"{ran}")
@@ -229,7 +229,7 @@ def refused_link_is_told(scene: Scene) -> str:
 
 
 def silence_has_its_reason(scene: Scene) -> str:
-    """a member that answers nothing gives no answer, after the time of one; a second line says what its TCP port does"""
+    """if a member does not answer, `no reply` is printed after the wait; a second line has the state of its TCP port"""
     told = []
     for links, reason in ((False, "refuses links over TCP too"), (True, "takes links over TCP, and does not answer")):
         with FakeMember(next(scene.addresses), datagrams=False, links=links, deaf=True) as member:
@@ -244,7 +244,7 @@ def silence_has_its_reason(scene: Scene) -> str:
 
 
 def unknown_transport_is_refused(scene: Scene) -> str:
-    """a transport that there is not is refused, and nobody is asked"""
+    """an unknown transport is refused, and no member is asked"""
     with FakeMember(next(scene.addresses), datagrams=True, links=True) as member:
         ran = scene.run(member.address, "list", transport="sctp")
     require(ran.status == 1 and not member.datagrams and not member.frames, f"{ran}")
@@ -253,7 +253,7 @@ def unknown_transport_is_refused(scene: Scene) -> str:
 
 
 def started(scene: Scene) -> Tuple[Member, str]:
-    """Starts a real daemon that is a cluster by itself, and returns it with its configuration."""
+    """Starts a real daemon that is a cluster alone, and returns it with its configuration."""
     address = next(scene.addresses)
     member = Member("site", address, os.path.join(scene.folder, address), key=KEY)
     remember(member.records, [TICKET])
@@ -263,7 +263,7 @@ def started(scene: Scene) -> Tuple[Member, str]:
 
 
 def real_daemon_answers_alike(scene: Scene) -> str:
-    """a real daemon answers list, peers, grant and revoke over TCP as by datagrams"""
+    """a real daemon gives the same answers to list, peers, grant and revoke over TCP and by datagrams"""
     member, address = started(scene)
     try:
         told = {}
@@ -278,7 +278,7 @@ def real_daemon_answers_alike(scene: Scene) -> str:
 
 
 def flood(address: str, until: float) -> None:
-    """Sends a daemon datagrams with a wrong MAC as quickly as one process can, until this moment."""
+    """Sends a daemon datagrams with a wrong MAC, as fast as one process can, until this moment."""
     request = bytearray(frames.request_now("CLst", 1, key=KEY))
     request[-1] ^= 1
     with socket.socket(socket.AF_INET, socket.SOCK_DGRAM) as sender:
@@ -292,7 +292,7 @@ def flood(address: str, until: float) -> None:
 
 
 def flooded_daemon_is_heard(scene: Scene) -> str:
-    """while others send a daemon more datagrams than it can read, each list is answered"""
+    """while others send a daemon more datagrams than it can read, it answers each request for a list"""
     member, address = started(scene)
     senders: List[int] = []
     try:

@@ -1,4 +1,4 @@
-"""What booth-status tells of ways, clocks, counters and moments, of members that answer what a test arranged.
+"""The output of booth-status about network paths, clocks, counters and times, of members with arranged answers.
 
 It is imported by tests/status.py, and not run by itself.
 """
@@ -30,7 +30,7 @@ from status_runs import (
 
 @story
 def ways_that_carry_nothing(folder):
-    """a way that only one of two members can use is told, by what both count of one another"""
+    """a link that works in one direction only is reported, by what both members count of each other"""
     three = Three(folder)
     one, two, third = three.addresses
 
@@ -43,7 +43,8 @@ def ways_that_carry_nothing(folder):
     # (last heard, received, sent, errors)
     told = looked((None, 0, 2, 0), (7000, 1, 3, 0))
     require_problems(told, warning("one-way", two, third))
-    require_same(first_text(told), f"{two}: hears nothing of {third} (since it started), which heard it 116 min ago")
+    deaf = f"{two}: receives nothing from {third} (since it started), which heard from it 116 min ago"
+    require_same(first_text(told), deaf)
     require_problems(looked((None, 0, 2, 0), (None, 0, 2, 0)), warning("no-way", two, third))
     # members that hold nothing may be silent for days
     require_problems(looked((90_000, 5, 6, 0), (90_000, 5, 6, 0)))
@@ -51,7 +52,8 @@ def ways_that_carry_nothing(folder):
     told = looked((2, 7, 8, 0), (2, 7, 8, 0), of_one=(90, 5, 6, 0))
     require_problems(told, warning("one-way", one, third))
     text = first_text(told)
-    require(re.fullmatch(f"{one}: hears nothing of {third} \\(for 9\\d s\\), which heard it \\d s ago", text), text)
+    deaf = f"{one}: receives nothing from {third} \\(for 9\\d s\\), which heard from it \\d s ago"
+    require(re.fullmatch(deaf, text), text)
     told = looked((2, 7, 8, 0), (2, 7, 8, 0), of_one=(90, 5, 6, 0), heard=(80, 5, 6, 0))
     require_problems(told, warning("no-way", one, third))
     require_problems(looked((2, 7, 8, 0), (2, 7, 8, 0), of_one=(40, 5, 6, 0), heard=(40, 5, 6, 0)))
@@ -59,7 +61,7 @@ def ways_that_carry_nothing(folder):
 
 @story
 def counters_that_rose(folder):
-    """with a state it tells what rose since the last look, who was started anew, and ways that lost messages"""
+    """with a state it reports risen counters, restarted members, and links that lost messages since the last look"""
     three = Three(folder)
     one, two, third = three.addresses
     state = os.path.join(folder, "state")
@@ -75,8 +77,8 @@ def counters_that_rose(folder):
     of_two = three.peers(two, "dropped 9 0 6 0 0 0 0 1", third=(2, 9, 12, 5))
     told = looked(of_two, three.peers(third, two=(2, 11, 10, 0)))
     require_problems(told, warning("dropped", two), warning("send-errors", two, third))
-    texts = [f"{two}: dropped more since the last look: badmac 2, leader 1"]
-    texts.append(f"{two}: could not send 5 more to {third} since the last look")
+    texts = [f"{two}: dropped datagrams since the last look: badmac 2, leader 1"]
+    texts.append(f"{two}: could not send 5 datagrams to {third} since the last look")
     require_same([each["text"] for each in told["problems"]], texts)
     member = told["members"][1]
     require_same((member["dropped_more"]["badmac"], member["started_anew"]), (2, False))
@@ -87,13 +89,13 @@ def counters_that_rose(folder):
     told = looked(three.peers(two, dropped, third=(2, 10, 15, 5)), third_lines)
     require_problems(told, warning("one-way", third, two))
     require("(3 messages since the last look)" in told["summary"], told["summary"])
-    # counters that fell are those of a daemon that was started anew: they count from 0
+    # counters that fell are those of a daemon that restarted: they count from 0
     of_two = three.peers(two, "dropped 0 0 1 0 0 0 0 0", one=(2, 1, 1, 0), third=(2, 1, 1, 0))
     told = looked(of_two, three.peers(third, two=(2, 12, 11, 0)))
     require_problems(told, warning("dropped", two), notice("restarted", two))
-    require(f"{two}: dropped more since the last look: badmac 1" in told["summary"], told["summary"])
+    require(f"{two}: dropped datagrams since the last look: badmac 1" in told["summary"], told["summary"])
     text = next(each["text"] for each in told["problems"] if each["kind"] == "restarted")
-    form = f"{two}: was started anew since the last look, and without records of version 2 it answers no election until"
+    form = f"{two}: restarted since the last look; without records of version 2 it votes in no election until"
     found = re.fullmatch(f"{form} (.*)", text)
     # a promise lasts expire, acquire-after and a guard; of db, without times of its own, 600 s and 1.203 s
     ends = [date(told["time"] + 601.203 + more) for more in (-1, 0, 1)]
@@ -102,19 +104,20 @@ def counters_that_rose(folder):
 
 @story
 def a_state_is_its_own(folder):
-    """a state of another configuration, and a file that is none, are refused and not written over"""
+    """a state of another configuration, and a file that is not a state, are refused and not overwritten"""
     three, other = Three(folder), Three(folder)
     state = os.path.join(folder, "own-state")
     with well(three):
         require(status("-b", "-c", three.path, "-s", state).status == 0, "a first look")
     words = ["-b", "-c", other.path, "-s", state]
-    refuses("booth-status", words, f"{state}: is the state of {three.path}: each configuration has one of its own", 3)
+    why = f"{state}: is the state of {three.path}: use another file for this configuration"
+    refuses("booth-status", words, why, 3)
     with open(state, encoding="ascii") as file:
         another = file.read().replace("booth-status state 1", "booth-status state 2")
     for text in ("", "no state\n", '{"form": 1}', "[]", json.dumps({"form": "booth-status state 1"}), another):
         with open(state, "w", encoding="ascii") as file:
             file.write(text)
-        why = f"{state}: is no state of booth-status: name another file, or remove it"
+        why = f"{state}: is not a state of booth-status: name another file, or remove it"
         refuses("booth-status", ["-c", three.path, "-s", state], why, 3)
         with open(state, encoding="ascii") as file:
             require(file.read() == text, "it was written over")
@@ -126,7 +129,7 @@ def a_state_is_its_own(folder):
 
 @story
 def clocks_with_a_key(folder):
-    """with a key, clocks that are further apart than maxtimeskew are told, and without one they are not"""
+    """with a key, clocks that differ by more than maxtimeskew are reported; without a key they are not"""
     path = os.path.join(folder, "key")
     with open(path, "wb") as file:
         file.write(KEY + b"\n")
@@ -138,13 +141,13 @@ def clocks_with_a_key(folder):
             told = document("-c", three.path)
         texts = [each["text"] for each in told["problems"] if each["kind"] == "clock"]
         require_same(len(texts), 1 if key else 0)
-        form = f"{third}: its clock is (29|30|31) s behind that of {two}, more than maxtimeskew"
+        form = f"{third}: its clock is (29|30|31) s behind the clock of {two}, more than maxtimeskew"
         require(all(re.fullmatch(form, text) for text in texts), f"{texts}")
 
 
 @story
 def what_is_so_for_a_moment(folder):
-    """what a second look does not find, as while a ticket moves, is not told"""
+    """a problem that a second look does not find, for example while a ticket moves, is not reported"""
     three = Three(folder)
     one, two, third = three.addresses
     # (the answers to the second look: all is well, or something else is so, which the first did not find)
@@ -164,7 +167,7 @@ def what_is_so_for_a_moment(folder):
 
 @story
 def a_watch_looks_again(folder):
-    """a watch looks again and again, tells what rose, and ends with the status of its last look"""
+    """a watch looks again and again, reports counters that rose, and ends with the status of its last look"""
     three = Three(folder)
     one, two, third = three.addresses
     restless = three.fake(two)
@@ -191,7 +194,7 @@ def a_watch_looks_again(folder):
 
 @story
 def words_that_are_not_taken(folder):
-    """words, files and keys that cannot be taken are refused with status 3, and each refusal names its cause"""
+    """invalid arguments, files and keys are refused with status 3, and each refusal names its cause"""
     three = Three(folder)
     bad, none = os.path.join(folder, "bad.conf"), os.path.join(folder, "none.conf")
     with open(bad, "w", encoding="ascii") as file:
@@ -201,8 +204,8 @@ def words_that_are_not_taken(folder):
     with open(short_key, "wb") as file:
         file.write(b"seven77\n")
     short = Three(folder, authfile=f"authfile = {short_key}\n")
-    nan = "'nan' is no number above 0, and at most 86400"
-    no_prom = "'booth.txt' does not end with .prom, as a file that the node exporter reads"
+    nan = "'nan' is not a number above 0 and up to 86400"
+    no_prom = "'booth.txt' does not end with .prom, but the node exporter reads only such files"
     nowhere = f"{folder}/none/x.prom"
     cases = [
         (["-x"], "unrecognized arguments: -x"),
@@ -210,10 +213,10 @@ def words_that_are_not_taken(folder):
         (["-t", "0"], f"argument -t/--timeout: {nan.replace('nan', '0')}"),
         (["-t", "nan"], f"argument -t/--timeout: {nan}"),
         (["-w", "soon"], f"argument -w/--watch: {nan.replace('nan', 'soon')}"),
-        (["-b", "-j"], "--brief and --json are two forms: name one"),
+        (["-b", "-j"], "--brief and --json exclude each other"),
         (["-m", "booth.txt"], f"argument -m/--metrics: {no_prom}"),
-        (["--members"], "--members and --sync go with --check alone"),
-        (["--check", "x", "-w"], "--check goes with --members, --sync, --timeout, --brief and --json alone"),
+        (["--members"], "--members and --sync need --check"),
+        (["--check", "x", "-w"], "--check allows only --members, --sync, --timeout, --brief and --json"),
         (["-c", none], f"cannot read {none}: No such file or directory"),
         (["-c", folder], f"cannot read {folder}: Is a directory"),
         (["-c", "no-such-name"], "cannot read /etc/booth/no-such-name.conf: No such file or directory"),
@@ -229,12 +232,12 @@ def words_that_are_not_taken(folder):
 
 @story
 def what_cannot_be_printed(folder):
-    """where nothing can be printed, or standard output is closed, nothing but a line is said, and the status tells"""
+    """if printing fails, or standard output is closed, only standard error has a line, and the status shows it"""
     three = Three(folder)
     record = os.path.join(folder, "61.rec")
     with open(record, "wb") as file:
         file.write(slot(1, 1, 7))
-    look, said = ["booth-status", "-c", three.path], "cannot go on: No space left on device\n"
+    look, said = ["booth-status", "-c", three.path], "cannot continue: No space left on device\n"
     cases = [
         (look, ">/dev/full", 3, f"booth-status: {said}"),
         (["booth-record", record], ">/dev/full", 2, f"booth-record: {said}"),

@@ -1,10 +1,10 @@
 #!/usr/bin/env python3
 """Asks one daemon for its tickets or its members, or to grant or revoke a ticket, and prints the answer.
 
-Run it as `python3 tools/ask.py [--peers | --grant TICKET | --revoke TICKET] [--key FILE] HOST [PORT]`,
-HOST being an address or a name that has one. With --key the request has the MAC of the key in FILE, and
-so must the reply. The status is 1 if the daemon refused, if no answer came in 5 seconds, or one
-that is not as docs/PROTOCOL.md says.
+Run it as `python3 tools/ask.py [--peers | --grant TICKET | --revoke TICKET] [--key FILE] HOST [PORT]`. HOST is an
+address, or a name that has one. With --key the request has the MAC of the key in FILE, and the reply must have it too.
+The status is 1 if the daemon refused, if no answer came within 5 seconds, or if the answer is not as docs/PROTOCOL.md
+says.
 """
 
 import argparse
@@ -18,7 +18,7 @@ import lists
 SECONDS_TO_ANSWER = 5
 
 
-# what is said of a grant's or a revocation's result
+# the texts for the results of a grant or a revocation
 DONE = {"CGnt": "ticket {} granted", "CRvk": "ticket {} revoked"}
 BEGUN = {"CGnt": "grant of {} requested", "CRvk": "revoke of {} requested"}
 REFUSED = {
@@ -37,12 +37,12 @@ class Refused(Exception):
 
 
 def ask(where, request):
-    """Sends one request, and gives each datagram that comes back."""
+    """Sends one request, and yields each datagram that is received."""
     family, kind, _, _, address = where
     with socket.socket(family, kind) as asker:
         asker.settimeout(SECONDS_TO_ANSWER)
         asker.setsockopt(socket.SOL_SOCKET, socket.SO_RCVBUF, lists.ROOM)
-        # connected: so no other's datagram comes, and a port that nobody reads is told at once
+        # (connected, so that only this daemon's datagrams are received, and the system reports if nobody listens)
         asker.connect(address)
         asker.send(request)
         while True:
@@ -50,7 +50,7 @@ def ask(where, request):
 
 
 def whole(replies, read):
-    """The text of the list whose parts these are, once all have come."""
+    """Returns the text of the list when all its parts have arrived."""
     parts = lists.Parts()
     for reply in replies:
         parts.take(*read(reply))
@@ -61,14 +61,14 @@ def whole(replies, read):
 
 
 def tickets(text):
-    """A line for each ticket."""
+    """Yields a line for each ticket."""
     for name, owner, end in lists.held_in(text):
         expires = f", expires: {date(end)}" if end else ""
         yield f"ticket: {name}, leader: {owner or 'none'}{expires}"
 
 
 def outcome(letters, ticket, result):
-    """The line that says what became of a grant or a revocation, where it was not refused."""
+    """Returns the line about a grant or a revocation. Raises `Refused` if it was refused."""
     letters_of_result = result.to_bytes(4, "big").decode("ascii", errors="replace")
     if result == 0:
         return DONE[letters].format(ticket)
@@ -78,7 +78,7 @@ def outcome(letters, ticket, result):
 
 
 def date(seconds):
-    """The date, or `never` for 0. A number of seconds that has none stays as it is."""
+    """Returns the date, or `never` for 0, or the number of seconds if there is no such date."""
     try:
         return time.strftime("%F %T", time.gmtime(seconds)) if seconds else "never"
     except (OverflowError, OSError, ValueError):
@@ -86,7 +86,7 @@ def date(seconds):
 
 
 def peers(text):
-    """A line of what was dropped, and one for each other member."""
+    """Yields a line about dropped datagrams, and one for each other member."""
     counts = lists.counts_in(text)
     yield "dropped: " + ", ".join(f"{fault} {count}" for fault, count in counts.dropped.items())
     for role, address, last, received, sent, errors in counts.peers:
@@ -95,7 +95,7 @@ def peers(text):
 
 
 def told(options):
-    """The lines that tell what the daemon answered."""
+    """Returns the lines of the daemon's answer."""
     key = None
     if options.key:
         with open(options.key, "rb") as file:
@@ -124,7 +124,7 @@ def main():
     what = parser.add_mutually_exclusive_group()
     what.add_argument("--peers", action="store_true", help="ask for its members instead")
     what.add_argument("--grant", metavar="TICKET", help="have it acquire this ticket")
-    what.add_argument("--revoke", metavar="TICKET", help="have it give this ticket back")
+    what.add_argument("--revoke", metavar="TICKET", help="have it release this ticket")
     parser.add_argument("--key", metavar="FILE", help="the file of the key that the daemon has")
     parser.add_argument("host", metavar="HOST")
     parser.add_argument("port", metavar="PORT", nargs="?", type=int, default=frames.PORT)
@@ -133,8 +133,8 @@ def main():
     try:
         lines = told(options)
     except socket.timeout:
-        hint = "" if options.key else " (with a key it answers none without --key)"
-        sys.exit(f"ask.py: no answer from {name} in {SECONDS_TO_ANSWER} seconds{hint}")
+        hint = "" if options.key else " (a daemon with a key answers only with --key)"
+        sys.exit(f"ask.py: no answer from {name} within {SECONDS_TO_ANSWER} seconds{hint}")
     except ConnectionRefusedError:
         sys.exit(f"ask.py: nobody listens at {name}")
     except (OSError, OverflowError, ValueError) as error:

@@ -1,6 +1,6 @@
-"""Which counters rose since the last look, and who held a ticket then.
+"""Computes which counters rose since the last look, and remembers who held a ticket.
 
-It is imported by what booth-status is made of, and not run by itself.
+It is imported by the modules of booth-status, and not run by itself.
 """
 
 from typing import Dict, NamedTuple, Optional
@@ -17,7 +17,7 @@ class Rise(NamedTuple):
 
 
 class Change(NamedTuple):
-    """What became of a member's counters. Of one that was started anew they count from 0."""
+    """How a member's counters changed. The counters of a member that restarted count from 0."""
 
     restarted: bool
     dropped: Dict[str, int]
@@ -25,7 +25,7 @@ class Change(NamedTuple):
 
 
 class Holding(NamedTuple):
-    """Who held a ticket when it was last held, the second in which that lease ends, and whether it was given back."""
+    """The last holder of a ticket, the second in which its lease ends, and whether it released the ticket."""
 
     owner: str
     end: Optional[int]
@@ -33,7 +33,7 @@ class Holding(NamedTuple):
 
 
 class Memory(NamedTuple):
-    """What is remembered of looks: the counters of members by their addresses, and the holders of tickets."""
+    """The results of earlier looks: the counters of members by their addresses, and the holders of tickets."""
 
     counts: Dict[str, Counts]
     held: Dict[str, Holding]
@@ -48,7 +48,7 @@ def rise(before, now):
 
 
 def change_of(before, now):
-    """What became of these counts."""
+    """Returns how these counters changed."""
     old, new = {peer.address: peer for peer in before.peers}, {peer.address: peer for peer in now.peers}
     pairs = [(count, now.dropped[fault]) for fault, count in before.dropped.items()]
     pairs += [pair for name in old.keys() & new.keys() for pair in zip(counters(old[name]), counters(new[name]))]
@@ -60,7 +60,7 @@ def change_of(before, now):
 
 
 def since(before, answers):
-    """What became of the counters of each member of which some are remembered, by its address."""
+    """Returns how the counters of each member with earlier counters changed, by its address."""
     changed = {}
     for answer in answers:
         address = answer.member.address
@@ -70,7 +70,7 @@ def since(before, answers):
 
 
 def remembered(before: Optional[Memory], answers, held: Dict[str, Holding]) -> Memory:
-    """What is remembered of this look, in which these are held; of what is silent now, what was remembered."""
+    """Returns the memory after this look, with these holders. Members that are silent keep their earlier counters."""
     counts, known = before or Memory({}, {})
     new = {answer.member.address: answer.counts for answer in answers if answer.counts}
     return Memory({**counts, **new}, {**known, **held})

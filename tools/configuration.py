@@ -1,7 +1,7 @@
-"""A configuration as booth.conf(5) has it, for programs that ask its members.
+"""Reads a configuration, in the form of booth.conf(5), for programs that ask its members.
 
-Whether a daemon takes it, boothd alone says. It is imported by booth-status, booth-record and the tests, and not run by
-itself.
+Only boothd decides whether a configuration is valid. It is imported by booth-status, booth-record and the tests, and
+not run by itself.
 """
 
 import ipaddress
@@ -47,7 +47,7 @@ OF_TICKET |= {"weights", "mode", "attr-prereq", "before-acquire-handler"}
 
 
 class Unreadable(Exception):
-    """A file cannot be read, or is no configuration or no key; the text says which and why."""
+    """A file that cannot be read, or that is not a configuration or a key. The text has the file and the cause."""
 
     def __str__(self):
         return wording.plain(super().__str__())
@@ -69,11 +69,11 @@ class Ticket(NamedTuple):
     retries: int
     renewal: float
     handler: Optional[str]
-    # of the members, in their order; a missing one is 0
+    # the weights of the members, in their order; a missing one counts as 0
     weights: Tuple[int, ...] = ()
 
     def promise(self):
-        """How long a member keeps a promise, and answers no election after a start."""
+        """Returns how long a member keeps a promise, and how long it votes in no election after a first start."""
         guard = (2 + 2 * self.expire * 1000 // 999) / 1000
         return self.expire + self.after + guard
 
@@ -89,25 +89,25 @@ class Configuration(NamedTuple):
     authhash: str = HASHES[0]
 
     def key_files(self):
-        """The files of the keys. Without the first one the other is without effect."""
+        """Returns the files of the keys. Without the first one, the other has no effect."""
         paths = [] if self.authfile is None else [self.authfile, self.authfile_old]
         return [path for path in paths if path is not None]
 
     def key(self):
-        """The keys as a ring, or None where the file names none."""
+        """Returns the keys as a ring, or `None` if the file names none."""
         keys = [key_of(path) for path in self.key_files()]
         return frames.Ring(*keys, hash=self.authhash) if keys else None
 
 
 def path_of(word):
-    """The path of a word as `-c` has it: a path with a slash, or a name in /etc/booth."""
+    """Returns the path for an argument of `-c`: a path with a slash, or a name in /etc/booth."""
     if "/" in word:
         return word
     return f"{FOLDER}/{word}" if word.endswith(".conf") else f"{FOLDER}/{word}.conf"
 
 
 def bytes_of(path, most):
-    """What a regular file has, up to so many bytes. Nothing else is opened, and so waited for."""
+    """Returns the first `most` bytes of a regular file. Does not open any other kind of file, which could block."""
     try:
         handle = os.open(path, os.O_RDONLY | os.O_NONBLOCK | os.O_CLOEXEC)
         with os.fdopen(handle, "rb") as file:
@@ -121,7 +121,7 @@ def bytes_of(path, most):
 
 
 def key_of(path):
-    """The key in this file."""
+    """Returns the key in this file."""
     try:
         return frames.key_in(bytes_of(path, KEY_FILE_BYTES))
     except ValueError as why:
@@ -129,12 +129,12 @@ def key_of(path):
 
 
 def weight_of(text: str) -> int:
-    """One of the weights of a ticket. (boothd refuses what is none.)"""
+    """Returns one of the weights of a ticket, 0 if it is not valid. (boothd refuses such a weight.)"""
     return int(text) if NUMBER.fullmatch(text.strip()) else 0
 
 
 class Reading:
-    """What the lines before one have said."""
+    """The values of the lines that were read so far."""
 
     def __init__(self, path):
         self.path = path
@@ -142,7 +142,7 @@ class Reading:
         self.top = {}
         self.defaults = {}
         self.tickets = []
-        # the section of the ticket's keys that follow, or None before the first ticket
+        # the section to which the next keys of a ticket belong, or `None` before the first ticket
         self.section = None
 
     def take(self, number, line):
@@ -170,7 +170,7 @@ class Reading:
 
     def address(self, number, key, value):
         try:
-            # (an address has no zone here)
+            # (an address must not have a zone)
             return str(ipaddress.ip_address(value.replace("%", " ")))
         except ValueError as why:
             raise self.fault(number, f"bad value for {key}") from why
@@ -192,7 +192,7 @@ class Reading:
         return Unreadable(f"{self.path}: line {number}: {what}")
 
     def ticket(self, name, section):
-        """The ticket of a section, with what `__default__` says and what holds if nothing does."""
+        """Returns the ticket of a section, with the values of `__default__` and the program's defaults."""
         said = {**{key: default for key, (_, _, default) in NUMBERS.items()}, **self.defaults, **section}
         expire = said["expire"]
         renewal = expire / 2 if said["renewal-freq"] is None else said["renewal-freq"]
@@ -202,7 +202,7 @@ class Reading:
 
 
 def read(path):
-    """The configuration in this file."""
+    """Returns the configuration in this file."""
     text = bytes_of(path, TEXT_BYTES + 1)
     if len(text) > TEXT_BYTES:
         raise Unreadable(f"{path}: too large")

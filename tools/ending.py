@@ -1,6 +1,6 @@
-"""How booth-status and booth-record end: what goes wrong is one line on standard error, and never a traceback.
+"""Runs a program of the package: a failure is one line on standard error, and never a traceback.
 
-It is imported by the two, and not run by itself.
+It is imported by the programs, and not run by itself.
 """
 
 import os
@@ -10,8 +10,8 @@ from configuration import Unreadable
 
 
 def status_of(name, call, failed):
-    """The status that the call gives, or `failed` if it cannot go on, which is said."""
-    # (a stream that was closed takes everything, and nothing that is opened later gets in its place)
+    """Returns the result of the call, or `failed` after an error, which is printed."""
+    # (a closed stream is replaced by one that discards everything, so no file that is opened later takes its place)
     for number, stream in ((0, "stdin"), (1, "stdout"), (2, "stderr")):
         if getattr(sys, stream) is None:
             os.open(os.devnull, os.O_RDWR)
@@ -21,7 +21,7 @@ def status_of(name, call, failed):
         try:
             result = call()
         except SystemExit as end:
-            # (words that are not taken, help and version)
+            # (after refused arguments, help or version)
             result = end.code
         sys.stdout.flush()
         return result
@@ -32,7 +32,7 @@ def status_of(name, call, failed):
     except BrokenPipeError:
         give_up_printing()
     except OSError as why:
-        print(f"{name}: cannot go on: {why.strerror or why}", file=sys.stderr)
+        print(f"{name}: cannot continue: {why.strerror or why}", file=sys.stderr)
         give_up_printing()
     except Exception as why:
         print(f"{name}: {type(why).__name__}: {why}", file=sys.stderr)
@@ -40,5 +40,5 @@ def status_of(name, call, failed):
 
 
 def give_up_printing():
-    """Has what is still to be printed go nowhere."""
+    """Discards the output that is not printed yet."""
     os.dup2(os.open(os.devnull, os.O_WRONLY), sys.stdout.fileno())

@@ -1,6 +1,6 @@
-"""What booth-status gives to programs: a document of JSON, and metrics for Prometheus.
+"""The output of booth-status for programs: a JSON document, and metrics for Prometheus.
 
-booth-status(8) states both forms. It is imported by booth-status, and not run by itself.
+booth-status(8) specifies both forms. It is imported by booth-status, and not run by itself.
 """
 
 import json
@@ -15,18 +15,18 @@ from service_state import RUNNING
 from services import Service
 from takeovers import Takeover
 
-# the version of the document: a field more leaves it as it is, and any other change raises it
+# the version of the document: a new field does not change it, any other change raises it
 VERSION = 1
 
 
 def seconds(number):
-    """A number of seconds, to the millisecond."""
-    # (+ 0.0 leaves no sign at 0)
+    """Returns a number of seconds, rounded to milliseconds."""
+    # (+ 0.0 turns -0.0 into 0.0)
     return None if number is None else round(number, 3) + 0.0
 
 
 def of_member(answer, changed):
-    """A member, with what it counts and what it lists."""
+    """Returns a member with its counters and its list."""
     change = changed.get(answer.member.address)
     return {
         "role": answer.member.role,
@@ -59,7 +59,7 @@ def of_held(answer, held):
 
 
 def of_service(service: Optional[Service]) -> Optional[Dict[str, Any]]:
-    """The service of a ticket on this machine, or None if nothing follows it here."""
+    """Returns the service of a ticket on this machine, or `None` if no service follows it here."""
     if service is None:
         return None
     told = {"shown": shown(service), "follower": service.lives, "why": service.why or None}
@@ -76,7 +76,7 @@ def of_service(service: Optional[Service]) -> Optional[Dict[str, Any]]:
 
 
 def of_cluster(service: Optional[ClusterService]) -> Optional[Dict[str, Any]]:
-    """The service of a ticket that this site's Pacemaker runs, or None."""
+    """Returns the service of a ticket that this site's Pacemaker runs, or `None`."""
     if service is None:
         return None
     told = {"shown": service.shown(), "nodes": service.nodes, "whole": service.is_whole, "granted": service.granted}
@@ -84,7 +84,7 @@ def of_cluster(service: Optional[ClusterService]) -> Optional[Dict[str, Any]]:
 
 
 def of_takeover(takeover: Optional[Takeover]) -> Optional[Dict[str, Any]]:
-    """The takeover of a ticket that may come, or None."""
+    """Returns the possible takeover of a ticket, or `None`."""
     return takeover and {"free_at": takeover.free_at, "next": takeover.next, "due": takeover.is_due}
 
 
@@ -106,7 +106,7 @@ def of_problem(problem):
 
 
 def document(view, line):
-    """The whole view, as one line of JSON."""
+    """Returns the whole view as one line of JSON."""
     told = {
         "version": VERSION,
         "configuration": view.path,
@@ -136,15 +136,15 @@ HELP = {
     "booth_peer_received_total": ("counter", "Messages of another member that the member accepted"),
     "booth_peer_sent_total": ("counter", "Messages that the member sent to another one"),
     "booth_peer_errors_total": ("counter", "Messages that the member could not send to another one"),
-    "booth_peer_last_seconds_ago": ("gauge", "How long ago the member heard another one last"),
+    "booth_peer_last_seconds_ago": ("gauge", "How long ago the member last heard from another one"),
     "booth_ticket_held": ("gauge", "1 if the members that answer name one holder of the ticket"),
     "booth_ticket_owners": ("gauge", "How many sites hold the ticket by their own lists"),
     "booth_ticket_views": ("gauge", "How many different views of the ticket the members that answer have"),
-    "booth_ticket_holder": ("gauge", "1 for the holder that a member sees"),
-    "booth_ticket_left_seconds": ("gauge", "How long the lease still runs as a member sees it"),
+    "booth_ticket_holder": ("gauge", "1 for the holder according to a member"),
+    "booth_ticket_left_seconds": ("gauge", "How long the lease still runs according to a member"),
     "booth_ticket_takeover_seconds": ("gauge", "In how long another site may take over if it is not renewed"),
     "booth_ticket_problem": ("gauge", "1 for a warning about the ticket, 2 if it is critical, by the kind of problem"),
-    "booth_follower_up": ("gauge", "1 if a follower of the ticket lives on this machine"),
+    "booth_follower_up": ("gauge", "1 if a follower of the ticket runs on this machine"),
     "booth_service_running": ("gauge", "1 if the service of the ticket runs on this machine"),
     "booth_service_state": ("gauge", "1 for the state of the ticket's service on this machine"),
     "booth_service_state_seconds": ("gauge", "For how long the service has been in that state"),
@@ -159,7 +159,7 @@ def quoted(value):
 
 
 def sample(name, value, **labels):
-    """A metric's name, and its line."""
+    """Returns a metric's name and its line."""
     shown = ",".join(f"{label}={quoted(text)}" for label, text in labels.items())
     return name, f"{name}{{{shown}}} {value}" if shown else f"{name} {value}"
 
@@ -198,7 +198,7 @@ def samples_of_ticket(view, answers):
 
 
 def samples_of_service(service: Service) -> Iterator[Tuple[str, str]]:
-    """The samples of one service of this machine."""
+    """Yields the samples of one service of this machine."""
     name, state = service.ticket, service.state
     if service.lives is not None:
         yield sample("booth_follower_up", int(service.lives), ticket=name)
@@ -215,7 +215,7 @@ def samples_of_service(service: Service) -> Iterator[Tuple[str, str]]:
 
 
 def samples_of_problems(view) -> Iterator[Tuple[str, str]]:
-    """What is wrong with tickets, the worst of each kind."""
+    """Yields the problems of tickets, the worst one of each kind."""
     worst: Dict[Tuple[str, str], int] = {}
     for problem in view.problems:
         if problem.ticket is not None and problem.severity > NOTICE:
@@ -226,7 +226,7 @@ def samples_of_problems(view) -> Iterator[Tuple[str, str]]:
 
 
 def metrics(view):
-    """The text for the node exporter, each metric with its lines together."""
+    """Returns the text for the node exporter, in which the lines of each metric are together."""
     samples = [
         sample("booth_status", view.status()),
         sample("booth_look_time_seconds", seconds(view.moment)),

@@ -1,4 +1,4 @@
-"""A configuration, and the units of this machine, as services that follow their ticket need them.
+"""Checks the times of a configuration, and the units of this machine, for services that follow their ticket.
 
 It is imported by tools/checking.py, and not run by itself. It changes nothing.
 """
@@ -14,20 +14,20 @@ from configuration import Configuration, Ticket
 from problems import NOTICE, WARNING, Problem
 from wording import several
 
-# In seconds, by the units of daemon and follower: after so long one that ended is started again (RestartSec); and how
-# long each takes then.
+# in seconds: after this time systemd restarts a daemon or follower that ended (RestartSec), and each start takes this
+# long
 RESTART, START = 1, 1
-# a follower asks its daemon once a second, and has an end armed within another
+# in seconds: a follower asks its daemon at this interval, and then arms an end within this time
 LIST, ARM = 1, 1
-# how long systemd may take to answer
+# in seconds: how long systemd may take to answer
 QUESTION = 3.0
 UNIT_PROGRAM = "follow-unit"
-# what `systemctl is-enabled` says of a unit that the system starts at boot
+# the answers of `systemctl is-enabled` for a unit that the system starts at boot
 ENABLED = ("enabled", "enabled-runtime")
 
 
 def problems(conf: Configuration) -> Iterator[Problem]:
-    """What is wrong with the times of services that follow a ticket, and with their units here."""
+    """Yields the problems of services that follow a ticket: their times, and their units here."""
     units = services.Units().answer(QUESTION)
     followed = followed_here(conf, units)
     yield from restarts(conf, followed)
@@ -36,7 +36,7 @@ def problems(conf: Configuration) -> Iterator[Problem]:
 
 
 def followed_here(conf: Configuration, units: Optional[Dict[str, bool]]) -> List[str]:
-    """The tickets that are followed on this machine, or are set up to be."""
+    """Returns the tickets that are followed on this machine, or are set up for it."""
     found = set(services.followed(conf, units))
     for ticket in conf.tickets:
         name = ticket.name
@@ -50,7 +50,7 @@ def followed_here(conf: Configuration, units: Optional[Dict[str, bool]]) -> List
 
 
 def restarts(conf: Configuration, followed: List[str]) -> Iterator[Problem]:
-    """Tickets whose lease, or whose service, does not outlive a restart of what runs for it."""
+    """Yields tickets whose lease or service may end during a restart of daemon or follower."""
     daemon, both = RESTART + START, RESTART + START + LIST + ARM + LIST
     others = []
     for ticket in conf.tickets:
@@ -58,24 +58,25 @@ def restarts(conf: Configuration, followed: List[str]) -> Iterator[Problem]:
         if ticket.is_manual:
             continue
         if left <= daemon:
-            text = f"{ticket.name}: the lease runs {left:g} s on from the start of a renewal"
-            text += f", and a restart of the daemon takes {daemon} s: it can end the lease"
+            text = f"{ticket.name}: when a renewal starts, the lease has {left:g} s left"
+            text += f", but a restart of the daemon takes {daemon} s, and can end the lease"
             yield Problem(WARNING, "restart", text, ticket=ticket.name)
             continue
         room = left - margin_of(ticket)
         if room < both and ticket.name in followed:
-            text = f"{ticket.name}: from a renewal it is {room:g} s to the margin of its service"
-            text += f", and a restart of daemon and follower takes {both} s: it can stop the service"
+            text = f"{ticket.name}: the margin of its service begins {room:g} s after the start of a renewal"
+            text += f", but a restart of daemon and follower takes {both} s, and can stop the service"
             yield Problem(WARNING, "restart", text, ticket=ticket.name)
         elif room < both:
             others.append(ticket.name)
     if others:
         text = f"if a service follows {several('ticket', others)}, a restart of daemon and follower can stop it"
-        yield Problem(NOTICE, "restart", f"{text}: that takes {both} s, longer than from a renewal to the margin")
+        text += f": the restart takes {both} s, more than the time between a renewal and the margin"
+        yield Problem(NOTICE, "restart", text)
 
 
 def margin_of(ticket: Ticket) -> float:
-    """The margin of a service that follows the ticket, in seconds: that of its options, or half of what is left."""
+    """Returns a service's margin in seconds: the one of its options, or half of what a lease has at its renewal."""
     margin = (ticket.expire - ticket.renewal) / 2
     words = (services.variable_of(ticket.name, "OPTIONS") or "").split()
     for option, value in zip(words, words[1:]):
@@ -88,7 +89,7 @@ def margin_of(ticket: Ticket) -> float:
 
 
 def unit_of(ticket: str) -> Optional[str]:
-    """The unit that follows the ticket here, or None if that is another program's."""
+    """Returns the unit that follows the ticket here, or `None` if another program is used."""
     command = services.variable_of(ticket, "PROGRAM")
     if command is None:
         return f"{ticket}.service"
@@ -100,7 +101,7 @@ def unit_of(ticket: str) -> Optional[str]:
 
 
 def enabled(ticket: str) -> Iterator[Problem]:
-    """What is wrong if the system itself starts the unit at boot, as far as systemd says."""
+    """Yields a problem if the system itself starts the unit at boot, as far as systemd answers."""
     unit = unit_of(ticket)
     if unit is not None and state_of(unit) in ENABLED:
         text = f"{ticket}: {unit} is enabled, so the system starts it at boot, whoever holds the ticket"
@@ -108,7 +109,7 @@ def enabled(ticket: str) -> Iterator[Problem]:
 
 
 def state_of(unit: str) -> str:
-    """What systemd says of the unit's start at boot; nothing if it does not."""
+    """Returns systemd's answer about the unit's start at boot, or an empty text."""
     found = services.systemctl()
     if found is None:
         return ""

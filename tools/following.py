@@ -1,7 +1,7 @@
-"""Services that follow their ticket on a cluster of real daemons: booth-follow at a site, and what it starts and stops.
+"""Services that follow their ticket on a cluster of real daemons: booth-follow at each site, and its program.
 
-It is imported by tools/demo.py and programs in tests/ and bench/, and not run by itself. What is told of a service
-is read from the one file into which the services of all sites write, and not from what booth-follow says of itself.
+It is imported by tools/demo.py and programs in tests/ and bench/, and not run by itself. It reads which service runs
+from one file, into which the services of all sites write, and does not trust booth-follow's own messages.
 """
 
 import os
@@ -13,18 +13,16 @@ from typing import NamedTuple
 from members import TICKET, wait_for
 from serving import written
 
-# What a service does if nothing else is given: a line with its time, its site ($0) and its process, ten times a second,
-# into a file of all sites.
+# The default work of a service: it writes a line with the time, its site ($0) and its process ten times a second, into
+# one file for all sites.
 WORK = 'while :; do echo "$(date +%s.%N) $0 $$"; sleep 0.1; done'
-# A service that does this work. What is to go wrong with it a file says: how long a stop takes, or that it never ends,
-# or that no end can be armed, or that the next one cannot. The end that is armed stands in a file until the service is
-# over.
+# The program of a service with this work. Files make it fail: a stop takes long or never ends, no end can be armed, or
+# the next one cannot be armed. A file has the armed end until the service has ended.
 SERVICE = """#!/bin/sh
 cd {folder} || exit 1
 site=$BOOTH_LOCAL
 echo "$1 $BOOTH_TICKET $BOOTH_TICKET_EXPIRES ${{BOOTH_TICKET_TERM:-0}}" >>"runs.$site"
-# (a process that is over and that nobody has waited for has no words; a stop and a kill may run at one time, so the
-# file may be gone)
+# (a zombie has an empty command line; a stop and a kill may run at the same time, so the file may be gone)
 runs() {{ pid=$(cat "pid.$site" 2>/dev/null) && grep -q . "/proc/$pid/cmdline" 2>/dev/null; }}
 case $1 in
   check) runs && exit 0; exit 3 ;;
@@ -52,7 +50,7 @@ esac
 
 
 class Spell(NamedTuple):
-    """One process of the service, by its lines: its site, and when it wrote first and last."""
+    """One process of the service: its site, and the times of its first and last line."""
 
     site: str
     first: float
@@ -60,7 +58,7 @@ class Spell(NamedTuple):
 
 
 class Services:
-    """The services of a ticket at a cluster's sites, and what starts and stops them. All end with the `with` block."""
+    """The services of a ticket at a cluster's sites, and their followers. All of them end with the `with` block."""
 
     def __init__(self, program, cluster, options=(), ticket=TICKET, work=WORK):
         self.ticket = ticket.decode()
@@ -84,7 +82,7 @@ class Services:
             file.write(text)
 
     def follow(self, member, takes_over=False):
-        """Starts a follower of the ticket at this site, which may be told of the end that an earlier one left."""
+        """Starts a follower of the ticket at this site. With `takes_over` it reads the end of an earlier follower."""
         env = dict(os.environ)
         if takes_over:
             env["BOOTH_FOLLOW_END"] = self.path("end", member)
@@ -93,22 +91,22 @@ class Services:
         self.followers[member.address] = subprocess.Popen([*words, self.ticket, self.script], env=env, **streams)
 
     def said(self):
-        """What the followers have printed, on either stream."""
+        """Returns what the followers have printed, on both streams."""
         return written(self.printed)
 
     def kill(self, member):
-        """Ends a follower, as a crash does. Its service is left as it is."""
+        """Kills a follower, as a crash does. Its service keeps running."""
         follower = self.followers.pop(member.address)
         follower.kill()
         follower.wait()
 
     def run(self, member, word):
-        """Runs the service's program manually, as the unit does once a follower has ended."""
+        """Runs the service's program, as the unit does after a follower has ended."""
         told = {"BOOTH_LOCAL": member.address, "BOOTH_TICKET": self.ticket, "BOOTH_TICKET_EXPIRES": "0"}
         return subprocess.run([self.script, word], env={**os.environ, **told}, stdin=subprocess.DEVNULL).returncode
 
     def run_lines(self, member):
-        """The lines that the program has written at a site: its word, the ticket, the end and the term."""
+        """Returns the lines that the program wrote at a site: its word, the ticket, the end and the term."""
         try:
             with open(self.path("runs", member), encoding="ascii") as file:
                 return [line.split() for line in file]
@@ -116,29 +114,29 @@ class Services:
             return []
 
     def runs(self, member):
-        """The words that the program was run with at a site, in order, and the end that each was told."""
+        """Returns the words with which the program was run at a site, in order, each with its end."""
         return [(word, int(expires)) for word, _, expires, _ in self.run_lines(member)]
 
     def started_with(self, member):
-        """The term that the last start at a site was handed, or None if there is none."""
+        """Returns the term that the last start at a site received, or `None` if there is none."""
         terms = [int(term) for word, _, _, term in self.run_lines(member) if word == "start"]
         return terms[-1] if terms else None
 
     def words(self, member):
-        """The words that the program was run with at a site but for renewals, in order."""
+        """Returns the words with which the program was run at a site, except renewals, in order."""
         return [word for word, _ in self.runs(member) if word != "renew"]
 
     def lines(self):
-        """The lines of all services, in order: the time, the site and the process of each."""
+        """Returns the lines of all services, in order: the time, the site and the process of each."""
         try:
             with open(os.path.join(self.folder, "lines"), encoding="ascii") as file:
-                # (the last one may be half written)
+                # (the last line may be incomplete)
                 return [line.split() for line in file.read().split("\n")[:-1]]
         except OSError:
             return []
 
     def spells(self):
-        """What each process of the service wrote, the one that wrote first before the others."""
+        """Returns the spell of each process of the service, in the order of their first lines."""
         found = {}
         for time, site, process in self.lines():
             at = float(time)
@@ -147,12 +145,12 @@ class Services:
         return sorted((Spell(site, *times) for (site, _), times in found.items()), key=lambda spell: spell.first)
 
     def overlaps(self):
-        """The pairs of processes of which one wrote before the other's last line."""
+        """Returns the pairs of consecutive processes that wrote at the same time."""
         spells = self.spells()
         return [(one, other) for one, other in zip(spells, spells[1:]) if other.first <= one.last]
 
     def process(self, member):
-        """The process of a site's service, if one runs."""
+        """Returns the process of a site's service, or `None`."""
         try:
             with open(self.path("pid", member), encoding="ascii") as file:
                 number = int(file.read())

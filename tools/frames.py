@@ -1,7 +1,7 @@
-"""Booth's frames as docs/PROTOCOL.md states them, for the Python programs of this repository.
+"""Booth's frames, written from docs/PROTOCOL.md, for the Python programs of this repository.
 
-It is imported by the programs in tools/ and tests/, and not run by itself. It shares nothing with
-crates/, so that a slip there is not repeated here.
+It is imported by the programs in tools/ and tests/, and not run by itself. It shares nothing with crates/, so an error
+there is not repeated here.
 """
 
 import hmac
@@ -24,7 +24,7 @@ KEY_BYTES = range(8, 65)
 AUTH = 1
 ATTR = 4
 
-# which body a command has
+# the body of each command
 BARE, TICKET, ATTRIBUTE, TEXT = range(4)
 BODY_OF = {
     **dict.fromkeys(["CLst", "Peer"], BARE),
@@ -37,7 +37,7 @@ BODY_OF = {
     **dict.fromkeys(["UpdE", "Revk", "RJC!"], TICKET),
 }
 
-# which command answers a client's
+# the command that answers each command of a client
 ANSWER_TO = {
     **{"CLst": "RLst", "CTkt": "RTkt", "Peer": "RPer", "CGnt": "RGnt", "CRvk": "RRvk", "ALst": "RALs"},
     **dict.fromkeys(["ASet", "AGet", "ADel"], "RAtr"),
@@ -48,7 +48,7 @@ LAYOUT = struct.Struct(">12I")
 
 
 def code(letters):
-    """The number of a command, a result or a reason: its four ASCII letters in network order."""
+    """Returns the number of a command, a result or a reason: its four ASCII letters in network order."""
     return int.from_bytes(letters.encode("ascii"), "big")
 
 
@@ -56,7 +56,7 @@ LIST = code("CLst")
 
 
 def member_id(address):
-    """The id of the member at this address: the CRC-32 of its 4 or 16 bytes."""
+    """Returns the id of the member at this address: the CRC-32 of its 4 or 16 bytes."""
     return zlib.crc32(ipaddress.ip_address(address).packed)
 
 
@@ -81,21 +81,21 @@ class Head(NamedTuple):
 
     @classmethod
     def read(cls, frame):
-        """The head of a frame of at least 48 bytes."""
+        """Returns the head of a frame of at least 48 bytes."""
         return cls(*LAYOUT.unpack_from(frame))
 
     def millis(self):
-        """The sender's clock: milliseconds since 1970."""
+        """Returns the sender's clock, in milliseconds since 1970."""
         return self.secs * 1000 + self.usecs // 1000
 
 
 def numbers(*values):
-    """Numbers one after the other, four bytes each, the most significant first."""
+    """Returns the bytes of these numbers: four bytes each, the most significant byte first."""
     return struct.pack(f">{len(values)}I", *values)
 
 
 def field(text, size):
-    """The field of a name or a value: its bytes, then zeros to its end, one at least."""
+    """Returns the field of a name or a value: its bytes, and then zeros to the end, at least one."""
     assert len(text) < size and 0 not in text
     return text.ljust(size, b"\0")
 
@@ -105,20 +105,22 @@ def ticket_body(ticket, leader, term, valid_for):
 
 
 def attribute_body(ticket, name, value):
-    """The body of an attribute. The name is empty if a list of attributes is asked for."""
+    """Returns the body of an attribute. The name is empty in a request for a list of attributes."""
     return field(ticket, 64) + field(name, 64) + field(value, 128)
 
 
 def frame(letters, body=b"", auth=b"", **fields):
-    """The frame of this command with this body, and with this authentication part if it is
-    not empty. `fields` are those of its head that are not what they are at first."""
+    """Returns the frame of this command with this body, and with this authentication part if it is not empty.
+
+    `fields` are the fields of the head that differ from their defaults.
+    """
     opts = (AUTH if auth else 0) | (ATTR if BODY_OF[letters] == ATTRIBUTE else 0)
     length = HEAD_BYTES + len(body) + len(auth)
     return Head(opts=opts, length=length, cmd=code(letters), **fields).spelled() + body + auth
 
 
 def key_in(text):
-    """The key of a key file's bytes: without the blanks at its ends, if it is all text."""
+    """Returns the key in a key file's bytes. If the file is text, the blanks at its ends are removed."""
     if all(byte in range(0x09, 0x0E) or byte in range(0x20, 0x7F) for byte in text):
         text = text.strip(b"\t\n\v\f\r ")
     if len(text) not in KEY_BYTES:
@@ -131,7 +133,7 @@ HASH_IDS = {"sha1": 2, "sha256": 3}
 
 
 class Ring(NamedTuple):
-    """The keys of a member: it seals by the first with this hash, and takes what either has sealed."""
+    """The keys of a member. It seals with the first key and this hash, and accepts frames that either key sealed."""
 
     first: bytes
     old: Optional[bytes] = None
@@ -142,24 +144,24 @@ class Ring(NamedTuple):
 
 
 def ring_of(key):
-    """The ring of a key, which seals with SHA-1, or the ring that is given."""
+    """Returns the ring of a key, which seals with SHA-1. A ring or `None` is returned unchanged."""
     return key if key is None or isinstance(key, Ring) else Ring(key)
 
 
 def auth_part(key, before, hash_id=2):
-    """The authentication part after these bytes: the hash id, and the MAC by SHA-1 with zeros, or the first of SHA-256."""
+    """Returns the authentication part after these bytes: the hash id and 24 bytes of the MAC (SHA-1: 20, and zeros)."""
     code = hmac.digest(key, before, "sha256" if hash_id == 3 else "sha1")
     return numbers(hash_id) + code[:24].ljust(24, b"\0")
 
 
 def is_sealed(key, signed):
-    """Whether one of the ring's keys has sealed this frame, with either hash."""
+    """Returns whether one of the ring's keys has sealed this frame, with either hash."""
     before, auth = signed[:-AUTH_BYTES], signed[-AUTH_BYTES:]
     return any(auth == auth_part(one, before, hash_id) for one in ring_of(key).keys() for hash_id in HASH_IDS.values())
 
 
 def sealed(key, letters, body=b"", **fields):
-    """The frame of this command, with its MAC if there is a key."""
+    """Returns the frame of this command, with its MAC if there is a key."""
     ring = ring_of(key)
     if ring is None:
         return frame(letters, body, **fields)
@@ -168,18 +170,20 @@ def sealed(key, letters, body=b"", **fields):
 
 
 def clock_fields(millis=None):
-    """The fields of a head for this moment, in milliseconds since 1970, or else for now."""
+    """Returns the clock fields of a head for a time in milliseconds since 1970, or for now."""
     secs, rest = divmod(time.time_ns() // 1_000_000 if millis is None else millis, 1000)
     return {"secs": secs, "usecs": rest * 1000}
 
 
 def request_now(letters, request, body=b"", key=None, **fields):
-    """The frame with which a client asks this now."""
+    """Returns the frame of a client's request, with the current time."""
     return sealed(key, letters, body, request=request, **{**clock_fields(), **fields})
 
 
 def reply_due(letters, request, address, body=b"", key=None, result=0, *, clock, options=0):
-    """The answer of the member at this address to a request of this command, with the clock of
-    another head. `options` is the number of a list's part."""
+    """Returns the answer of the member at this address to a request of this command, with the clock of another head.
+
+    `options` is the number of a list's part.
+    """
     fields = {"secs": clock.secs, "usecs": clock.usecs, "sender": member_id(address), "options": options}
     return sealed(key, ANSWER_TO[letters], body, request=request, result=result, **fields)

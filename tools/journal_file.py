@@ -1,6 +1,6 @@
-"""What a member's journal says, as docs/JOURNAL.md has its lines: each call of its daemon, and the answer.
+"""Reads a member's journal, in the form of docs/JOURNAL.md: each call of its daemon, and the answer.
 
-It is imported by the tests, and not run by itself. It judges form alone, and knows no rule of the protocol.
+It is imported by the tests, and not run by itself. It checks only the form, and knows no rule of the protocol.
 """
 
 import ipaddress
@@ -37,7 +37,7 @@ RECORD_BYTES = (32, 64)
 
 
 class BadLine(Exception):
-    """A line of a journal is none. Its number counts from 1."""
+    """A line with another form than a journal's line. Its number counts from 1."""
 
     def __init__(self, number, line):
         super().__init__(f"line {number}: {line!r}")
@@ -45,7 +45,7 @@ class BadLine(Exception):
 
 
 class Entry(NamedTuple):
-    """A call and its answer, or None if it has none. `line` is the number of the call's line."""
+    """A call and its answer, which is `None` if it is missing. `line` is the number of the call's line."""
 
     line: int
     kind: str
@@ -66,7 +66,7 @@ def is_address(text):
 
 
 def are_fields(kind, fields):
-    """Whether what stands in the fields of a call or of an answer is in its range."""
+    """Returns whether the fields of a call or an answer are in their ranges."""
     address, port, digits = fields.get("address"), fields.get("port"), fields.get("hex")
     if address is not None and not is_address(address) and (kind, address) != ("open", "-"):
         return False
@@ -76,14 +76,14 @@ def are_fields(kind, fields):
 
 
 def read_call(line):
-    """The kind and the fields of a call's line, or None if it is none."""
+    """Returns the kind and the fields of a call's line, or `None` if the line is not a call."""
     kind = line.split(" ")[0]
     found = CALLS[kind].fullmatch(line) if kind in CALLS else None
     return (kind, found.groupdict()) if found and are_fields(kind, found.groupdict()) else None
 
 
 def read_answer(kind, line):
-    """The fields of the line of an answer to such a call, or None if it is none."""
+    """Returns the fields of an answer's line, or `None` if the line is not an answer to such a call."""
     found = ANSWERS[kind].fullmatch(line)
     if not found or not are_fields(kind, found.groupdict()):
         return None
@@ -94,12 +94,12 @@ def read_answer(kind, line):
 
 
 def lines_of(data):
-    """The lines of a journal. What stands behind the last line end is none: its append was torn."""
+    """Returns the lines of a journal. The text after the last line end is left out, because its append was torn."""
     return data.decode("latin-1").split("\n")[:-1]
 
 
 def entries_of(data) -> List[Entry]:
-    """The calls that a journal says, in order. Only the last before a `now` or the end may lack its answer."""
+    """Returns the calls of a journal, in order. Only the last call before a `now` or the end may lack its answer."""
     entries, asked = [], None
     for number, line in enumerate(lines_of(data), 1):
         if asked is not None:
@@ -121,6 +121,6 @@ def entries_of(data) -> List[Entry]:
 
 
 def read(path):
-    """The calls that a journal at this path says."""
+    """Returns the calls of the journal at this path."""
     with open(path, "rb") as file:
         return entries_of(file.read())

@@ -1,6 +1,6 @@
-"""What a look at the members shows: who holds each ticket as each member sees it, and what is wrong.
+"""Judges the answers of the members: who holds each ticket according to each member, and which problems there are.
 
-It is imported by booth-status and the tests, and not run by itself. It asks nobody and reads no clock.
+It is imported by booth-status and the tests, and not run by itself. It asks no other program and reads no clock.
 """
 
 from typing import Dict, List, NamedTuple, Optional
@@ -18,21 +18,21 @@ from services import Here
 from takeovers import Takeover
 from wording import date, several, span
 
-# how far apart two members' ends of one lease may be, in seconds: they are rounded, and were some time on their way
+# in seconds: how far apart two members' ends of one lease may be, by the rounding and the time on the network
 SAME_END = 3
 
-# how many problems the one line tells, the worst first
+# how many problems the one line has, the worst first
 MOST_IN_A_LINE = 8
-# what may be so for a moment: it is told where a second look has it too
+# the kinds of problems that may be brief: they are shown only if a second look finds them too
 FLEETING = {"two-owners", "differ", "ends-differ", "free", "unrenewed", "one-way", "no-way"}
 FLEETING |= {"service-down", "no-follower", "service-unknown", "unheld", "rule-late", "agent-down", "no-guard"}
-# what a lost datagram may be
+# the kinds of problems that a lost datagram may cause
 LOST = {looking.SILENT, looking.NO_DAEMON, looking.UNREACHABLE, looking.PARTLY, looking.BAD}
 LOST |= {"silent-owner", "no-majority"}
 
 
 class Seen(NamedTuple):
-    """What some members see alike of a ticket, with the lease's end and the seconds left, by the first one's clock."""
+    """A holder according to some members, with the lease's end, and the seconds left by the first member's clock."""
 
     owner: Optional[str]
     end: Optional[int]
@@ -41,33 +41,33 @@ class Seen(NamedTuple):
 
 
 class TicketView(NamedTuple):
-    """What all members that answer see of a ticket: the owner's own view first, and that of nobody last."""
+    """The holder of a ticket according to each member that answers: the owner's own view first, no holder last."""
 
     ticket: Ticket
     seen: List[Seen]
 
     def owners(self):
-        """The members that hold the ticket as they see it themselves."""
+        """Returns the members that list themselves as the holder."""
         return [seen.owner for seen in self.seen if seen.owner in seen.members]
 
     def owner(self):
-        """Who holds the ticket, where members that know of a holder name one alone."""
+        """Returns the holder, if all members that name a holder name the same one."""
         named = {seen.owner for seen in self.seen if seen.owner}
         return named.pop() if len(named) == 1 else None
 
     def holding(self) -> Optional[Holding]:
-        """The one holder that members know of, with the latest end that they name."""
+        """Returns the only holder that members name, with the latest end that they name."""
         owner = self.owner()
         ends = [seen.end for seen in self.seen if seen.owner and seen.end]
         return None if owner is None else Holding(owner, max(ends, default=None))
 
     def is_free(self) -> bool:
-        """Whether members list the ticket, and none of them knows of a holder."""
+        """Returns whether members list the ticket, and none of them names a holder."""
         return bool(self.seen) and not any(seen.owner for seen in self.seen)
 
 
 class View(NamedTuple):
-    """What a look shows. `moment` is when it ended, in seconds since 1970, and `took` how long it lasted."""
+    """The result of a look. `moment` is when it ended, in seconds since 1970, and `took` how long it lasted."""
 
     path: str
     moment: float
@@ -76,10 +76,10 @@ class View(NamedTuple):
     tickets: List[TicketView]
     changed: dict
     problems: List[Problem]
-    # the takeover that may come of a ticket, by its name; and the services of this machine
+    # the possible takeover of each ticket, by its name; and the services of this machine
     takeovers: Dict[str, Takeover]
     here: Here
-    # who holds which ticket, or held it when it was last held
+    # the current or last holder of each ticket
     held: Dict[str, Holding]
 
     def status(self):
@@ -87,7 +87,7 @@ class View(NamedTuple):
 
 
 def views_of(ticket, answers):
-    """What the members see of this ticket."""
+    """Returns the views of the members on this ticket."""
     rows = []
     for answer in answers:
         for held in answer.held or ():
@@ -103,7 +103,7 @@ def views_of(ticket, answers):
             seen.append(Seen(owner, end, left, [address]))
         else:
             found.members.append(address)
-    # those of one owner stand together
+    # (views with the same owner are next to each other)
     order = [each.owner for each in seen]
     return TicketView(ticket, sorted(seen, key=lambda each: order.index(each.owner)))
 
@@ -115,7 +115,7 @@ def is_same_end(one, other):
 
 
 def judged(configuration, answers, moment, took, before=None, may_be_free=(), here=Here()):
-    """The view of these answers. `before` is what is remembered, and `here` what is known of this machine."""
+    """Returns the view of these answers. `before` has the results of earlier looks, and `here` the services here."""
     tickets = [views_of(ticket, answers) for ticket in configuration.tickets]
     changed = changes.since(before, answers)
     now = takeovers.members_now(answers, moment)
@@ -143,7 +143,7 @@ def judged(configuration, answers, moment, took, before=None, may_be_free=(), he
 
 
 def held_last(tickets: List[TicketView], before: Optional[changes.Memory], now: float) -> Dict[str, Holding]:
-    """Who holds each ticket, or held it when it was last held, as far as is known."""
+    """Returns the current or last holder of each ticket, as far as it is known."""
     held = dict(before.held) if before else {}
     for view in tickets:
         name, holding = view.ticket.name, view.holding()
@@ -161,7 +161,7 @@ def takeovers_of(
     held: Dict[str, Holding],
     now: float,
 ) -> Dict[str, Takeover]:
-    """The takeovers that may come: of tickets whose holder is silent or did not renew, or whose lease is over."""
+    """Returns the possible takeovers: of tickets whose holder is silent or did not renew, or whose lease is over."""
     silent, due = {answer.member.address for answer in answers if answer.held is None}, {}
     for view in tickets:
         name, holding = view.ticket.name, held.get(view.ticket.name)
@@ -174,35 +174,35 @@ def takeovers_of(
 
 
 def confirmed(first, second):
-    """The second view, without what is fleeting and was not so in the first."""
+    """Returns the second view, without brief problems that the first view does not have."""
     known = {same_in(problem) for problem in first.problems}
     stays = [each for each in second.problems if each.kind not in FLEETING | LOST or same_in(each) in known]
     return second._replace(problems=stays)
 
 
 def same_in(problem):
-    """What two looks have in common where both find it. A member that does not answer may fail to in several ways."""
+    """Returns the identity of a problem across looks. A member may fail to answer in a different way each time."""
     kind = "lost" if problem.kind in LOST else problem.kind
     return kind, problem.member, problem.other, problem.ticket
 
 
 def is_fleeting(view):
-    """Whether a second look may tell that something is well."""
+    """Returns whether the view has problems that a second look must confirm."""
     return any(problem.kind in FLEETING for problem in view.problems)
 
 
 def of_members(configuration, answers):
-    """Who does not answer, or not as is due."""
+    """Yields the members that do not answer, or not correctly."""
     there = [answer for answer in answers if answer.counts or answer.held is not None]
     if 2 * len(there) <= len(answers):
-        text = f"{len(there)} of {len(answers)} members answer, and that is no majority"
+        text = f"only {len(there)} of {len(answers)} members answer, which is no majority"
         yield Problem(CRITICAL, "no-majority", text)
     said = {
         looking.SILENT: lambda answer: f"is silent{heard_by_others(answer, answers)}",
         looking.NO_DAEMON: lambda answer: f"no daemon listens at port {configuration.port}",
         looking.UNREACHABLE: lambda answer: f"cannot be reached: {answer.why}",
         looking.PARTLY: lambda answer: f"answers in part: {answer.why}",
-        looking.BAD: lambda answer: f"its answer is not taken: {answer.why}",
+        looking.BAD: lambda answer: f"its answer is not valid: {answer.why}",
     }
     for answer in answers:
         if answer.state in said:
@@ -211,17 +211,17 @@ def of_members(configuration, answers):
 
 
 def heard_by_others(answer, answers):
-    """Who of the others heard a silent member last."""
+    """Returns which other member last received something from a silent member, as text."""
     ages = []
     for other in answers:
         for peer in other.counts.peers if other.counts else ():
             if peer.address == answer.member.address and peer.last:
                 ages.append((other.clock - peer.last, other.member.address))
-    return f", and {min(ages)[1]} heard it {span(min(ages)[0])} ago" if ages else ""
+    return f"; {min(ages)[1]} heard from it {span(min(ages)[0])} ago" if ages else ""
 
 
 def of_files(configuration, answers):
-    """Whose list or peers are those of another configuration."""
+    """Yields the members whose list or peers differ from this configuration."""
     names = [ticket.name for ticket in configuration.tickets]
     for answer in answers:
         address, told = answer.member.address, []
@@ -236,24 +236,24 @@ def of_files(configuration, answers):
 
 
 def difference(what, wanted, found):
-    """How two lists of names differ, in a few words."""
+    """Returns how two lists of names differ, as text."""
     lacks, more = [each for each in wanted if each not in found], [each for each in found if each not in wanted]
-    told = [f"it lacks {several(what, lacks)}"] if lacks else []
-    told += [f"it has {several(what, more)} more"] if more else []
-    return " and ".join(told) or f"its {what}s stand in another order"
+    told = [f"it lacks the {several(what, lacks)}"] if lacks else []
+    told += [f"it has the additional {several(what, more)}"] if more else []
+    return " and ".join(told) or f"its {what}s are in another order"
 
 
 def of_clocks(configuration, answers):
-    """If there is a key: members whose frames others drop, since their clocks are too far apart."""
+    """Yields a problem if there is a key, and members drop each other's frames because their clocks differ too much."""
     timed = sorted((answer.ahead, answer.member.address) for answer in answers if answer.ahead is not None)
     if configuration.authfile and timed and timed[-1][0] - timed[0][0] > configuration.skew:
         (behind, slow), (ahead, fast) = timed[0], timed[-1]
-        text = f"{slow}: its clock is {span(ahead - behind)} behind that of {fast}, more than maxtimeskew"
+        text = f"{slow}: its clock is {span(ahead - behind)} behind the clock of {fast}, more than maxtimeskew"
         yield Problem(WARNING, "clock", text, slow, fast)
 
 
 def of_changes(configuration, answers, changed, moment):
-    """Counters that rose since the last look, and members that were started anew."""
+    """Yields the counters that rose since the last look, and the members that restarted."""
     wait = max(ticket.promise() for ticket in configuration.tickets)
     for answer in answers:
         change, address = changed.get(answer.member.address), answer.member.address
@@ -261,34 +261,35 @@ def of_changes(configuration, answers, changed, moment):
             continue
         if change.restarted:
             until = date(moment + wait)
-            text = f"{address}: was started anew since the last look"
-            text += f", and without records of version 2 it answers no election until {until}"
+            text = f"{address}: restarted since the last look"
+            text += f"; without records of version 2 it votes in no election until {until}"
             yield Problem(NOTICE, "restarted", text, address)
         rose = ", ".join(f"{fault} {count}" for fault, count in change.dropped.items() if count)
         if rose:
-            text = f"{address}: dropped more since the last look: {rose}"
+            text = f"{address}: dropped datagrams since the last look: {rose}"
             yield Problem(WARNING, "dropped", text, address)
         for other, peer in change.peers.items():
             if peer.errors:
-                text = f"{address}: could not send {peer.errors} more to {other} since the last look"
+                text = f"{address}: could not send {peer.errors} datagrams to {other} since the last look"
                 yield Problem(WARNING, "send-errors", text, address, other)
 
 
 def of_ticket(view, answers, may_be_free, held, takeover, now):
-    """What is wrong with who holds a ticket. `held` is who held it last, and `takeover` what may come."""
+    """Yields the problems of a ticket's holder. `held` is the last holder, and `takeover` the possible takeover."""
     name, owners = view.ticket.name, view.owners()
     silent = {answer.member.address for answer in answers if answer.held is None}
     named = sorted({seen.owner for seen in view.seen if seen.owner})
     if len(owners) > 1:
         yield Problem(CRITICAL, "two-owners", f"{name}: held at {len(owners)} sites: {', '.join(owners)}", ticket=name)
     elif len({seen.owner for seen in view.seen}) > 1:
-        told = "; ".join(f"{seen.owner or 'nobody'} as {', '.join(seen.members)} sees it" for seen in view.seen)
-        yield Problem(WARNING, "differ", f"{name}: members differ on who holds it: {told}", ticket=name)
+        told = "; ".join(f"{seen.owner or 'nobody'} according to {', '.join(seen.members)}" for seen in view.seen)
+        yield Problem(WARNING, "differ", f"{name}: members name different holders: {told}", ticket=name)
     elif len(view.seen) > 1:
         first, other = view.seen[0], min(view.seen[1:], key=lambda seen: seen.left or 0)
         apart = (first.left or 0) - (other.left or 0)
-        how = f"{span(round(abs(apart)))} {'before' if apart > 0 else 'after'} that of {first.members[0]}"
-        yield Problem(WARNING, "ends-differ", f"{name}: its end at {', '.join(other.members)} is {how}", ticket=name)
+        how = f"{span(round(abs(apart)))} {'before' if apart > 0 else 'after'} the end at {first.members[0]}"
+        text = f"{name}: the end of its lease at {', '.join(other.members)} is {how}"
+        yield Problem(WARNING, "ends-differ", text, ticket=name)
     if view.is_free() and not view.ticket.is_manual and name not in may_be_free:
         yield takeovers.of_free(name, held, takeover, now)
     for owner in named:
@@ -300,7 +301,7 @@ def of_ticket(view, answers, may_be_free, held, takeover, now):
 
 
 def counted(view):
-    """The status in a word, and how many members answer and how many tickets are held."""
+    """Returns the status as a word, and how many members answer and how many tickets are held."""
     word = {NOTICE: "OK", WARNING: "WARNING", CRITICAL: "CRITICAL"}[view.status()]
     there = sum(answer.state == looking.ANSWERS for answer in view.answers)
     held = sum(view_of_one.owner() is not None for view_of_one in view.tickets)
@@ -308,7 +309,7 @@ def counted(view):
 
 
 def in_one_line(view):
-    """What a monitor shows: the status, and what is wrong."""
+    """Returns the line for a monitor: the status, and the worst problems."""
     word, count = counted(view)
     told = [problem.text for problem in view.problems if problem.severity > NOTICE]
     if len(told) > MOST_IN_A_LINE:

@@ -1,4 +1,4 @@
-"""How the guard sees and ends resources on this node without Pacemaker's daemons: by their agents, and by systemd.
+"""Checks and ends resources on this node without Pacemaker's daemons: by their agents, and by systemd.
 
 It is imported by booth-lease-guard, and not run by itself. Each program that it runs has a time limit.
 """
@@ -13,33 +13,34 @@ import pacemaker_cib
 from lease_holding import Held
 from pacemaker_cib import Primitive
 
-# what a resource is here; what cannot be told counts as running
+# the states of a resource on this node; an unknown state counts as running
 STOPPED, RUNS, PROMOTED, UNKNOWN = "stopped", "running", "promoted", "unknown"
-# what `crm_resource --force-check` ends with: the agent is not installed, the resource does not run, or is promoted
+# exit statuses of `crm_resource --force-check`: the agent is not installed (5) or the resource does not run (7); the
+# resource runs; it is promoted
 STOPPED_STATUSES, RUNS_STATUS, PROMOTED_STATUS = (5, 7), 0, 8
-# what `--force-demote` ends with if nothing is promoted any more: it is demoted, or does not run
+# exit statuses of `--force-demote` after which nothing is promoted: the resource is demoted, or does not run
 DEMOTED_STATUSES = (0, 7)
-# in seconds: the most that a look and a change of the CIB may take, the pause between two tries of a stop, and the
-# least that a stop has
+# in seconds: the longest time of a check and of a change of the CIB, the pause between two tries of a stop, and the
+# least time that a stop gets
 LOOK_LIMIT, CLOSE_LIMIT, PAUSE, LEAST = 3.0, 5.0, 0.5, 0.5
-# of what is left for a stop: the part of the stop that systemd does by the unit's own way, before it kills
+# the part of the remaining time that a unit gets for its own stop, before its processes are killed
 PART_OF_STOP = 0.6
 
 Say = Callable[[int, str], None]
 
 
 class Ran(NamedTuple):
-    """How a program ended: its status, or None if its time was over or it could not be run; and what it printed."""
+    """The result of a program: its status, or `None` after a timeout or a failed start, and what it printed."""
 
     status: Optional[int]
-    # the last line, and all of it
+    # the last line that was printed, and the whole standard output
     said: str
     whole: str
     took: float
 
 
 def ran(limit: float, *words: str, cib: str = "") -> Ran:
-    """Runs a program, which SIGKILL ends after so many seconds."""
+    """Runs a program, and kills it with SIGKILL after `limit` seconds."""
     begun = time.monotonic()
     more = {"CIB_file": cib} if cib else {}
     done = pacemaker_asking.ran(limit, *words, is_tied=False, **more)
@@ -48,14 +49,14 @@ def ran(limit: float, *words: str, cib: str = "") -> Ran:
 
 
 class Hands:
-    """What the guard does on this node, with the CIB's file and the folder of the package's own programs."""
+    """The guard's actions on this node, with the CIB's file and the folder of the package's own programs."""
 
     def __init__(self, cib: str, folder: str, say: Say) -> None:
         self.cib, self.say = cib, say
         self.follow_unit = os.path.join(folder, "follow-unit")
 
     def look(self, primitive: Primitive) -> str:
-        """What a resource is on this node."""
+        """Returns the state of a resource on this node."""
         unit = primitive.unit()
         if unit is not None:
             return {0: RUNS, 3: STOPPED}.get(ran(LOOK_LIMIT, self.follow_unit, unit, "check").status, UNKNOWN)
@@ -65,7 +66,7 @@ class Hands:
         return {RUNS_STATUS: RUNS, PROMOTED_STATUS: PROMOTED}.get(status, UNKNOWN)
 
     def end(self, primitive: Primitive, is_promoted: bool, limit: float) -> bool:
-        """Stops or demotes a resource within so many seconds. Returns whether it is known to be so."""
+        """Stops or demotes a resource within `limit` seconds. Returns whether this is known to have succeeded."""
         unit = primitive.unit()
         if unit is not None:
             stop = self.tried(primitive, max(LEAST, limit * PART_OF_STOP), self.follow_unit, unit, "stop")
@@ -80,7 +81,7 @@ class Hands:
         return self.tried(primitive, limit, *words, "--force-stop").status == 0
 
     def tried(self, primitive: Primitive, limit: float, *words: str) -> Ran:
-        """Runs a program that ends a resource, and says what became of it."""
+        """Runs a program that ends a resource, and logs the result."""
         done = ran(limit, *words, cib=self.cib)
         told = f"status {done.status}" if done.status is not None else done.said
         what = " ".join([os.path.basename(words[0]), *words[1:]])
@@ -88,41 +89,41 @@ class Hands:
         return done
 
     def close(self, held: Held) -> None:
-        """Has the CIB's rule say that this end is over, unless it has another one already."""
+        """Sets the end in the CIB to the past, unless the CIB has another end by now."""
         name, end = held.lease.end_id(), held.lease.end
         words = ["--xpath", f"//date_expression[@id='{name}' and @start='{end}']"]
         words += ["--xml-text", f'<date_expression id="{name}" start="{pacemaker_cib.CLOSED}"/>']
         done = ran(CLOSE_LIMIT, "cibadmin", "--modify", *words)
-        told = "the CIB says so now" if done.status == 0 else f"cibadmin: {done.said or f'status {done.status}'}"
-        self.say(4, f"{held.lease.ticket}: its end is over, and this node's wall clock is before it: {told}")
+        told = "closes it in the CIB" if done.status == 0 else f"cibadmin: {done.said or f'status {done.status}'}"
+        self.say(4, f"{held.lease.ticket}: its end has passed, but this node's wall clock is before it: {told}")
 
 
 class Round:
-    """One time at which all resources of a lease that is over are looked at and ended on this node."""
+    """One round of checks and stops of all resources of an ended lease on this node, each in a thread of its own."""
 
     def __init__(self, held: Held, hands: Hands, deadline: float, is_over: Callable[[], bool]) -> None:
         self.held, self.hands, self.deadline, self.is_over = held, hands, deadline, is_over
         self.left = {primitive.id: UNKNOWN for primitive in held.lease.primitives}
-        # whether a resource was seen to run, so that what cannot be ended is no mere doubt
+        # whether a resource was seen to run here: if not, a failed stop may concern a resource that does not run
         self.saw_one = False
         self.gave_up = False
         for primitive in held.lease.primitives:
             threading.Thread(target=self.work_on, args=(primitive,), daemon=True).start()
 
     def is_done(self) -> bool:
-        """Whether nothing of the lease runs here, or the lease has another end."""
+        """Returns whether no resource of the lease runs here, or the lease has another end."""
         return not self.left
 
     def remains(self) -> List[str]:
-        """The resources that are not known to be over."""
+        """Returns the resources that are not known to have ended."""
         return sorted(self.left)
 
     def work_on(self, primitive: Primitive) -> None:
-        """Ends one resource, whatever fails here."""
+        """Ends one resource, and continues after any exception."""
         while True:
             try:
                 self.work(primitive)
-            except Exception as why:  # (what is not ended is tried again, until the machine is reset)
+            except Exception as why:  # (the stop is tried again, until the machine is reset)
                 self.hands.say(3, f"{self.held.lease.ticket}: {primitive.id}: {type(why).__name__}: {why}")
                 pacemaker_asking.pause(PAUSE)
             else:
@@ -130,7 +131,7 @@ class Round:
                 return
 
     def work(self, primitive: Primitive) -> None:
-        """Ends one resource: tries until it is over, or has another end."""
+        """Tries to end one resource, until it has ended or its lease has another end."""
         lease, tells = self.held.lease, True
         while self.is_over():
             state = self.hands.look(primitive)
@@ -146,6 +147,6 @@ class Round:
                 tells = False
             left = self.deadline - time.clock_gettime(time.CLOCK_BOOTTIME)
             if self.hands.end(primitive, lease.is_promoted and state != RUNS, max(LEAST, left)):
-                self.hands.say(5, f"{lease.ticket}: {primitive.id} is over")
+                self.hands.say(5, f"{lease.ticket}: {primitive.id} has ended")
                 break
             pacemaker_asking.pause(PAUSE)

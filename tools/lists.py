@@ -1,6 +1,6 @@
-"""What a daemon's answers say, as docs/PROTOCOL.md states them: whether a datagram is one, and its lines as values.
+"""Reads a daemon's answers, in the form of docs/PROTOCOL.md: checks a datagram, and returns its lines as values.
 
-It is imported by tools/ask.py and by what booth-status is made of, and not run by itself.
+It is imported by tools/ask.py and by the modules of booth-status, and not run by itself.
 """
 
 import ipaddress
@@ -12,23 +12,23 @@ import frames
 HELD = re.compile(rb"([!-~]{1,63}) (none|[0-9a-f.:]+) (\d{1,20})")
 DROPPED = re.compile(rb"dropped" + rb" (\d{1,20})" * 8)
 PEER = re.compile(rb"(site|arbitrator) ([0-9a-f.:]+)" + rb" (\d{1,20})" * 4)
-# the faults of a datagram that is dropped, in the order of the counters
+# the faults for which a datagram is dropped, in the order of the counters
 FAULTS = ["frame", "nomac", "badmac", "old", "stranger", "self", "ticket", "leader"]
 
 
-# how many parts a list may have, and the result of each but the last
+# how many parts a list may have, and the result of each part except the last
 PARTS = 32
 MORE = frames.code("More")
-# what a socket is asked to hold: a list of so many parts may come at once
+# the size of a socket's buffer: all parts of a list may arrive at once
 ROOM = 2 * PARTS * frames.FRAME_BYTES
 
 
 class BadReply(Exception):
-    """The reply is not of its form, or does not answer this request."""
+    """The reply has another form, or does not answer this request."""
 
 
 class Held(NamedTuple):
-    """What a member says of a ticket: its owner or None, and the second in which the lease ends or 0."""
+    """A ticket in a member's list: its owner or `None`, and the second in which the lease ends or 0."""
 
     ticket: str
     owner: Optional[str]
@@ -36,7 +36,7 @@ class Held(NamedTuple):
 
 
 class Peer(NamedTuple):
-    """What a member counts of another one. `last` is the second in which it heard it last, or 0."""
+    """A member's counters about another member. `last` is the second in which it last heard from it, or 0."""
 
     role: str
     address: str
@@ -47,14 +47,14 @@ class Peer(NamedTuple):
 
 
 class Counts(NamedTuple):
-    """What a member counts: the datagrams that it dropped, by their fault, and each other member."""
+    """A member's counters: the datagrams that it dropped, by their fault, and those about each other member."""
 
     dropped: Dict[str, int]
     peers: List[Peer]
 
 
 class Parts:
-    """The parts of a list that have come. Of each number the first counts."""
+    """The parts of a list that have arrived. If a part arrives twice, the first one counts."""
 
     def __init__(self):
         self.came = {}
@@ -64,7 +64,7 @@ class Parts:
             self.came.setdefault(head.options, (head.result != MORE, body))
 
     def text(self):
-        """The text of the whole list, or None if a part is missing."""
+        """Returns the text of the whole list, or `None` if a part is missing."""
         texts = []
         for number in range(PARTS):
             is_last, body = self.came.get(number, (True, None))
@@ -77,12 +77,13 @@ class Parts:
 
 
 def read_reply(reply, letters, request, address, key, *, result=0):
-    """The head and the body of the reply, if the rest of it is as it must be. With None as `result` any stands.
-    The reply to `CLst` is a part of the list, of any number.
+    """Returns the head and the body of a correct reply. If `result` is `None`, any result is accepted.
+
+    The reply to `CLst` is a part of the list, with any number. Raises `BadReply` for any other datagram.
     """
     least = frames.HEAD_BYTES + (frames.AUTH_BYTES if key else 0)
     if len(reply) < least:
-        raise BadReply(f"it has {len(reply)} bytes, fewer than {least}, those without a body")
+        raise BadReply(f"it has {len(reply)} bytes, fewer than the {least} of a reply without a body")
     head = frames.Head.read(reply)
     body = reply[frames.HEAD_BYTES : len(reply) - least + frames.HEAD_BYTES]
     is_list = letters == "CLst"
@@ -98,14 +99,14 @@ def read_reply(reply, letters, request, address, key, *, result=0):
     else:
         is_right = reply == due
     if not is_right:
-        raise BadReply("it has not the MAC of this key")
+        raise BadReply("its MAC is not of this key")
     if head.usecs % 1000 or head.usecs >= 1_000_000:
-        raise BadReply(f"its field usecs is {head.usecs}, no whole milliseconds of a second")
+        raise BadReply(f"its field usecs is {head.usecs}, which is not a whole number of milliseconds below a second")
     return head, body
 
 
 def lines_of(text):
-    """The lines of a text, each of which has its end."""
+    """Returns the lines of a text. Raises `BadReply` if the last line has no end."""
     *lines, rest = text.split(b"\n")
     if rest:
         raise BadReply("its last line has no line end")
@@ -113,23 +114,23 @@ def lines_of(text):
 
 
 def fields_of(form, line):
-    """The fields of a line of this form."""
+    """Returns the fields of a line. Raises `BadReply` if the line has another form."""
     found = form.fullmatch(line)
     if not found:
-        raise BadReply(f"a line of its text is {line!r}")
+        raise BadReply(f"a line of its text has the wrong form: {line!r}")
     return [field.decode("ascii") for field in found.groups()]
 
 
 def address_of(text):
-    """The address in one spelling."""
+    """Returns the address in its usual form."""
     try:
         return str(ipaddress.ip_address(text))
     except ValueError as why:
-        raise BadReply(f"it names {text}, which is no address") from why
+        raise BadReply(f"it names {text}, which is not an address") from why
 
 
 def held_in(text):
-    """What is said of each ticket, of the answer to `CLst`."""
+    """Returns the tickets in the answer to `CLst`."""
     held = []
     for line in lines_of(text):
         name, owner, end = fields_of(HELD, line)
@@ -138,7 +139,7 @@ def held_in(text):
 
 
 def counts_in(text):
-    """What is counted, of the answer to `Peer`."""
+    """Returns the counters in the answer to `Peer`."""
     first, *others = lines_of(text) or [b""]
     dropped = dict(zip(FAULTS, map(int, fields_of(DROPPED, first))))
     peers = []

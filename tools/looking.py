@@ -1,6 +1,6 @@
-"""One look at all members: all are asked for list and peers at once, and none is waited for beyond the time.
+"""One look at all members: asks all of them for list and peers at once, and ends within a time limit.
 
-It is imported by booth-status and the tests, and not run by itself. What comes and is no answer is ignored.
+It is imported by booth-status and the tests, and not run by itself. It ignores datagrams that are not answers.
 """
 
 import errno
@@ -15,11 +15,11 @@ import frames
 import lists
 from configuration import Member
 
-# what is asked
+# the two requests
 LIST, PEERS = "CLst", "Peer"
-# what was asked, by the answer's command
+# the request of each answer's command
 ASKED = {frames.code(frames.ANSWER_TO[letters]): letters for letters in (LIST, PEERS)}
-# how often a request is sent in a look, since datagrams get lost
+# how often a request is sent in a look, because datagrams may be lost
 TRIES = 4
 
 # how a member answered
@@ -27,10 +27,10 @@ ANSWERS, PARTLY, SILENT, NO_DAEMON, UNREACHABLE, BAD = "answers", "partly", "sil
 
 
 class Answer(NamedTuple):
-    """What came of one member. `held` and `counts` are None if that answer is missing.
+    """The answers of one member. `held` and `counts` are `None` if that answer is missing.
 
-    `why` is what was wrong. `clock` is the member's, in seconds since 1970, and `ahead` how far it is ahead of this
-    machine's; `took` is how long the first answer took. These are None if nothing came.
+    `why` is the cause of a failure. `clock` is the member's clock, in seconds since 1970, and `ahead` is how far it is
+    ahead of this machine's. `took` is how long the first answer took. The three are `None` without an answer.
     """
 
     member: Member
@@ -44,12 +44,12 @@ class Answer(NamedTuple):
 
 
 class Asking:
-    """One member that is being asked. Each time that it is asked has a number of its own, which nobody can guess."""
+    """The requests to one member. Each request has a random number, which nobody can guess."""
 
     def __init__(self, member, port, key):
         self.member = member
         self.key = key
-        # the parts of each list that was asked for, by its number
+        # the received parts of each requested list, by the number of the request
         self.lists = {}
         self.wanted = {LIST, PEERS}
         self.came = {}
@@ -61,11 +61,11 @@ class Asking:
         self.socket = socket.socket(family, socket.SOCK_DGRAM)
         self.socket.setblocking(False)
         self.socket.setsockopt(socket.SOL_SOCKET, socket.SO_RCVBUF, lists.ROOM)
-        # (connected: so no other's datagram comes, and that nobody listens is told)
+        # (connected, so that only this member's datagrams are received, and the system reports if nobody listens)
         self.attempt(lambda: self.socket.connect((member.address, port)))
 
     def attempt(self, call):
-        """What the call gives. What the system says of this member ends the asking."""
+        """Returns the result of a call. An error of the system ends the requests to this member."""
         try:
             return call()
         except BlockingIOError:
@@ -77,7 +77,7 @@ class Asking:
             return None
 
     def send(self):
-        """Asks for what has not come."""
+        """Sends the requests that have no answer yet."""
         self.sent = time.time()
         number = secrets.randbits(32)
         self.lists[number] = lists.Parts()
@@ -86,7 +86,7 @@ class Asking:
             self.attempt(lambda request=request: self.socket.send(request))
 
     def take_all(self):
-        """Takes each datagram that is there."""
+        """Handles each datagram that has arrived."""
         while self.wanted:
             datagram = self.attempt(lambda: self.socket.recv(frames.FRAME_BYTES + 1))
             if datagram is None:
@@ -94,7 +94,7 @@ class Asking:
             self.take(datagram, time.time())
 
     def take(self, datagram, now):
-        """Takes the answer to one of the requests, and passes everything else over."""
+        """Handles the answer to one of the requests, and ignores any other datagram."""
         head = frames.Head.read(datagram.ljust(frames.HEAD_BYTES, b"\0"))
         letters = ASKED.get(head.cmd)
         is_short = len(datagram) < frames.HEAD_BYTES
@@ -113,18 +113,18 @@ class Asking:
             return
         self.times.setdefault("took", now - self.sent)
         self.times.setdefault("clock", head.millis() / 1000)
-        # (it read its clock in the middle of that time, as far as this machine knows)
+        # (assumes that the member read its clock in the middle of that time)
         self.times.setdefault("ahead", head.millis() / 1000 - (now + self.sent) / 2)
         self.wanted.discard(letters)
 
     def listed(self, head, body):
-        """The text of the list, once this part has made it whole."""
+        """Returns the text of the list when this part completes it, or `None`."""
         parts = self.lists[head.request]
         parts.take(head, body)
         return parts.text()
 
     def answer(self):
-        """What came in all."""
+        """Returns all that this member answered."""
         if len(self.came) == 2:
             self.state, self.why = ANSWERS, ""
         elif self.came:
@@ -134,12 +134,12 @@ class Asking:
 
 
 def unopened(member, why):
-    """Of a member for which this machine has no socket."""
+    """Returns the answer for a member for which this machine could open no socket."""
     return Answer(member, UNREACHABLE, os.strerror(why.errno))
 
 
 def look(configuration, key, seconds):
-    """An answer for each member, in their order, after so many seconds at most."""
+    """Returns an answer for each member, in their order, after at most so many seconds."""
     started = time.monotonic()
     askings, answers = [], {}
     with selectors.DefaultSelector() as selector:
@@ -159,14 +159,14 @@ def look(configuration, key, seconds):
 
 
 def ask_all(askings, selector, started, seconds):
-    """Sends to each that has not answered, several times, and takes what comes."""
+    """Sends the requests of all members several times, and handles the answers."""
     for turn in range(TRIES):
         for asking in askings:
             if asking.wanted:
                 asking.send()
         until = started + seconds * (turn + 1) / TRIES
         while any(asking.wanted for asking in askings):
-            # (what is there is taken even after that time: this process may have been kept waiting, and not the member)
+            # (datagrams that have arrived are handled even after the time: this process itself may have been delayed)
             left = until - time.monotonic()
             for ready, _ in selector.select(max(0, left)):
                 ready.data.take_all()

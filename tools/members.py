@@ -1,7 +1,7 @@
-"""A cluster of real daemons on loopback: each with an address, a lock and a directory of its own.
+"""A cluster of real daemons on loopback: each has an address, a lock and a directory of its own.
 
-It is imported by tools/demo.py, tests/cluster.py and tests/hostile.py, and not run by itself. What is told of a ticket
-is read from the members' record files and from the clock, and not from what a daemon says of itself.
+It is imported by tools/demo.py, tests/cluster.py and tests/hostile.py, and not run by itself. It reads who holds a
+ticket from the members' record files and the clock, and does not trust a daemon's own answer.
 """
 
 import os
@@ -20,15 +20,15 @@ TICKET = b"ticket-db8"
 # a ticket that is granted manually, in a cluster that has one
 MANUAL = b"by-hand"
 
-# (of a daemon that runs; if none listens, that is told at once)
+# (for a running daemon; if no daemon listens, the system reports this at once)
 SECONDS_TO_ANSWER = 10
-# how long booth may take, which waits 5 seconds for an answer, and for another where it is sent on
+# how long booth may take: it waits 5 seconds for an answer, and again if it is sent on to another member
 SECONDS_OF_BOOTH = 15
 SECONDS_BETWEEN_LOOKS = 0.01
 
 
 class Times(NamedTuple):
-    """The times of the cluster's ticket, in seconds. A renewal has room on a machine that does much else."""
+    """The times of the cluster's ticket, in seconds. They leave room for a renewal on a busy machine."""
 
     expire: int = 8
     timeout: int = 1
@@ -36,21 +36,21 @@ class Times(NamedTuple):
     renewal: int = 5
 
     def guard(self):
-        """How much longer than a lease others wait, for clocks that drift apart."""
+        """Returns how much longer than a lease other members wait, because clocks drift."""
         return (2 + 2 * self.expire * 1_000_000 // 999_000) / 1000
 
     def abstention(self):
-        """How long a member that started without a record answers no round."""
+        """Returns how long a member that started without a record votes in no election."""
         return self.expire + self.guard()
 
     def text(self):
-        """The settings, as the file has them."""
+        """Returns the settings in the form of the configuration."""
         names = ("expire", "timeout", "retries", "renewal-freq")
         return "".join(f"{name} = {value}\n" for name, value in zip(names, self))
 
 
 class Record(NamedTuple):
-    """A kept record. `until` is a moment in seconds since 1970, or None without a lease."""
+    """A record on disk. `until` is the lease's end in seconds since 1970, or `None` without a lease."""
 
     term: int
     until: Optional[float]
@@ -60,19 +60,19 @@ class Record(NamedTuple):
 
 
 def now():
-    """This machine's clock, which every member of the cluster reads."""
+    """Returns the time by this machine's clock, which every member of the cluster reads."""
     return time.time()
 
 
 class Answer(NamedTuple):
-    """What a daemon answered a client: the result's letters, or `ok`, and the body."""
+    """A daemon's answer to a client: the letters of the result, or `ok`, and the body."""
 
     result: str
     body: bytes
 
 
 class Ran(NamedTuple):
-    """What a run of a client left: its status, and what it printed and said."""
+    """The exit status of a client, and what it printed on standard output and on standard error."""
 
     status: int
     printed: str
@@ -80,7 +80,7 @@ class Ran(NamedTuple):
 
 
 def run_booth(client, conf, words):
-    """A run of the client, booth or geostore, with this configuration."""
+    """Runs a client, booth or geostore, with this configuration."""
     streams = {"stdin": subprocess.DEVNULL, "capture_output": True, "text": True}
     done = subprocess.run([client, *words, "-c", conf], timeout=SECONDS_OF_BOOTH, **streams)
     return Ran(done.returncode, done.stdout, done.stderr)
@@ -91,12 +91,12 @@ def letters_of(number):
 
 
 def path_in(directory, ticket):
-    """Where the record of a ticket is kept."""
+    """Returns the path of a ticket's record."""
     return os.path.join(directory, ticket.hex() + ".rec")
 
 
 def remember(directory, tickets):
-    """Makes a directory with a record of version 2 of each ticket: who starts from it answers at once."""
+    """Makes a directory with a record of version 2 of each ticket, so a member that starts from it votes at once."""
     os.makedirs(directory, mode=0o700, exist_ok=True)
     for ticket in tickets:
         with open(path_in(directory, ticket), "wb") as file:
@@ -104,8 +104,9 @@ def remember(directory, tickets):
 
 
 class Member:
-    """One daemon of the cluster, running or not. It prints its log if `logs` is set before it starts, and writes a
-    journal if `journals` is.
+    """One daemon of the cluster, running or not.
+
+    It prints its log if `logs` is set before it starts, and writes a journal if `journals` is set.
     """
 
     logs = False
@@ -120,7 +121,7 @@ class Member:
         self.client = client
         self.store = geostore
         self.conf = None
-        # all that it was started with
+        # all configurations that it was started with
         self.confs = set()
         self.server = None
         self.records = os.path.join(folder, "records")
@@ -128,7 +129,7 @@ class Member:
         os.makedirs(folder)
 
     def start(self, program, conf):
-        """Starts the daemon, up to its first answer."""
+        """Starts the daemon, and waits for its first answer."""
         places = ("-l", os.path.join(self.folder, "lock"), "-d", self.records)
         server = boothd(program, conf, self.address, key=self.key, options=places)
         server.logs = self.logs
@@ -149,14 +150,14 @@ class Member:
             self.server = None
 
     def printed(self):
-        """What the running daemon has printed."""
+        """Returns what the running daemon has printed."""
         return self.server.said() if self.server else b""
 
     def record_path(self, ticket=TICKET):
         return path_in(self.records, ticket)
 
     def record(self, ticket=TICKET):
-        """The record that is kept of the ticket, or None if none is."""
+        """Returns the ticket's record on disk, or `None` if there is none."""
         try:
             with open(self.record_path(ticket), "rb") as file:
                 slot = record_file.in_force(record_file.slots_in(file.read(record_file.FILE_BYTES)))
@@ -168,16 +169,16 @@ class Member:
         return Record(slot.record.term, lease.until / 1000 if lease else None)
 
     def booth(self, *words):
-        """A run of booth that asks this daemon, with the configuration that it has."""
+        """Runs booth against this daemon, with the daemon's configuration."""
         return run_booth(self.client, self.conf, [*words, "-s", self.address])
 
     def geostore(self, command, *words, ticket=TICKET):
-        """A run of geostore that asks this daemon of the attributes of a ticket."""
+        """Runs geostore against this daemon, for the attributes of a ticket."""
         words = [command, "-t", ticket.decode(), *words]
         return run_booth(self.store, self.conf, [*words, "-s", self.address])
 
     def ask(self, letters, body=b""):
-        """What the daemon answers to this request, or None if it does not in time."""
+        """Returns the daemon's answer to this request, or `None` if it does not answer in time."""
         number = time.time_ns() // 1000 % 2**32
         family = socket.AF_INET6 if ":" in self.address else socket.AF_INET
         parts = lists.Parts()
@@ -199,12 +200,12 @@ class Member:
         return Answer(letters_of(head.result), parts.text())
 
     def about(self, letters, ticket=TICKET):
-        """The result of a grant or a revocation that a client asks for."""
+        """Returns the result of a client's request about a ticket, for example a grant."""
         answer = self.ask(letters, frames.ticket_body(ticket, frames.NO_ONE, 0, 0))
         return answer and answer.result
 
     def shown(self, ticket=TICKET):
-        """The owner's address in this member's list, or None if it lists none."""
+        """Returns the owner's address in this member's list, or `None` if the list has none."""
         answer = self.ask("CLst")
         lines = answer.body.split(b"\n") if answer else []
         for line in lines:
@@ -215,10 +216,10 @@ class Member:
         return None
 
     def counts(self):
-        """What the daemon counts: the drops by kind, and (received, sent, errors) by address."""
+        """Returns the daemon's counters: the drops by kind, and (received, sent, errors) by address."""
         answer = self.ask("Peer")
         if answer is None:
-            raise NotServing(f"{self.address} does not tell what it counts")
+            raise NotServing(f"{self.address} does not answer with its counters")
         first, *others = answer.body.decode().splitlines()
         by_address = {}
         for line in others:
@@ -228,7 +229,7 @@ class Member:
 
 
 class Watch(threading.Thread):
-    """Looks at the records again and again, and notes each moment at which two members held."""
+    """Looks at the records repeatedly, and notes each time at which two members held a lease."""
 
     def __init__(self, members):
         super().__init__(daemon=True)
@@ -238,7 +239,7 @@ class Watch(threading.Thread):
         self.ended = threading.Event()
 
     def holders(self):
-        """Who holds, by records that were the same at two looks, and so in force at a moment between."""
+        """Returns the holders, from records that were equal at two looks, and so were in force between them."""
         before = [member.record() for member in self.members]
         moment = now()
         after = [member.record() for member in self.members]
@@ -256,7 +257,7 @@ class Watch(threading.Thread):
                 self.wrong.append((now(), holders))
 
     def is_looking(self):
-        """Whether it has looked and looks on: if a look failed, the thread is over."""
+        """Returns whether it has looked and still looks. (After a failed look the thread has ended.)"""
         return self.looks > 0 and self.is_alive()
 
     def end(self):
@@ -265,10 +266,10 @@ class Watch(threading.Thread):
 
 
 class Cluster:
-    """Two sites and an arbitrator with one file, which are killed when the `with` block ends.
+    """Two sites and an arbitrator with one configuration. They are killed when the `with` block ends.
 
-    `settings` are lines that the file has for each ticket, after its times. The tickets in `manual` are manual, and have
-    the lines `by_hand`.
+    `settings` are lines of the configuration for each ticket, after its times. The tickets in `manual` are manual, and
+    have the lines `by_hand`.
     """
 
     def __init__(
@@ -343,13 +344,13 @@ class Cluster:
         self.watch.end()
 
     def shown_by_all(self):
-        """The owner that every running member lists, or None if they differ or list none."""
+        """Returns the owner that every running member lists, or `None` if they differ or list none."""
         shown = {member.shown() for member in self.members if member.is_running()}
         return shown.pop() if len(shown) == 1 else None
 
 
 def wait_for(what, seconds):
-    """What the function gives once it is true, or None if it is not in that many seconds."""
+    """Returns the first true result of the function, or `None` if there is none within that many seconds."""
     end = time.monotonic() + seconds
     while time.monotonic() < end:
         found = what()

@@ -1,4 +1,4 @@
-"""How programs of the package ask Pacemaker: each of its commands has a time limit, and ends with whoever asked.
+"""Runs Pacemaker's commands for the programs of the package: each has a time limit, and ends with the program.
 
 It is imported by programs of the package, and not run by itself.
 """
@@ -11,66 +11,66 @@ import time
 import xml.etree.ElementTree as ElementTree
 from typing import IO, Dict, Iterable, List, NamedTuple, Optional, Tuple
 
-# where the programs lie
+# the directories of the programs
 PLACES = "/usr/local/sbin:/usr/local/bin:/usr/sbin:/usr/bin:/sbin:/bin"
 CIB = "/var/lib/pacemaker/cib/cib.xml"
-# how long one question may take, and a program that was killed to be gone, in seconds
+# in seconds: how long one question may take, and how long a killed program may take to end
 QUESTION, GONE = 5.0, 1.0
-# what Pacemaker's programs end with if there is no such thing
+# exit statuses of Pacemaker's programs if the requested object does not exist
 NO_SUCH = (6, 105)
 PR_SET_PDEATHSIG, SIGKILL = 1, 9
-# what a resource is doing while its role is still the one before
+# actions after which a resource may run, although its role is still the old one
 BEGINS = ("Starting", "Promoting", "Migrating", "Monitoring")
 PROMOTED_ROLES = ("Promoted", "Master")
-# what each guard says of its node, where Pacemaker answers
+# the node attribute by which each guard announces itself
 GUARD_ATTRIBUTE = "booth-lease-guard"
 MON = ("crm_mon", "--one-shot", "--inactive", "--output-as=xml")
 
 
 class Ran(NamedTuple):
-    """How a program ended: its status, or None if its time was over or it could not be run; and what it printed."""
+    """The result of a program: its status, or `None` after a timeout or a failed start, and what it printed."""
 
     status: Optional[int]
     printed: str
     complained: str
 
     def why(self) -> str:
-        """What is told of a program that failed."""
+        """Returns why the program failed: its messages, or its status."""
         return self.complained.strip().replace("\n", "; ") or f"its status is {self.status}"
 
 
 def pause(seconds: float) -> None:
-    """Waits. (A sleep waits for a moment of a clock, which the library that gives tests a wall clock refuses.)"""
+    """Waits for `seconds`. (`select`, because the library that changes the wall clock in tests refuses a sleep.)"""
     select.select([], [], [], max(0.0, seconds))
 
 
 def tie() -> None:
-    """Has this process end with the one that started it."""
+    """Has the kernel kill this process when its parent ends."""
     ctypes.CDLL(None).prctl(PR_SET_PDEATHSIG, SIGKILL)
 
 
 def ran(limit: float, *words: str, is_tied: bool = True, **more: str) -> Ran:
-    """Runs a program with these variables more, which SIGKILL ends after so many seconds.
+    """Runs a program with the additional variables `more`, and kills it with SIGKILL after `limit` seconds.
 
-    With `is_tied` it ends with this process. A program that has threads runs others without.
+    With `is_tied` it ends together with this process. A program that has threads must not use `is_tied`.
     """
     given = {**os.environ, "PATH": f"{os.environ.get('PATH', '')}:{PLACES}", "LC_ALL": "C", **more}
-    # (what it starts may run on and keep a pipe open, so what is printed goes into files)
+    # (its output goes into files, because its own children may keep running and would keep a pipe open)
     with open(os.memfd_create("printed"), "w+b") as printed, open(os.memfd_create("told"), "w+b") as told:
         streams = {"stdin": subprocess.DEVNULL, "stdout": printed, "stderr": told}
         try:
             process = subprocess.Popen(words, env=given, preexec_fn=tie if is_tied else None, **streams)
         except OSError as why:
-            return Ran(None, "", f"{words[0]} cannot be run: {why.strerror}")
+            return Ran(None, "", f"cannot run {words[0]}: {why.strerror}")
         if not is_over(process, limit):
             process.kill()
             is_over(process, GONE)
-            return Ran(None, text_of(printed), f"{words[0]} was not over in {limit:g} s")
+            return Ran(None, text_of(printed), f"{words[0]} did not end within {limit:g} s")
         return Ran(process.returncode, text_of(printed), text_of(told))
 
 
 def is_over(process: "subprocess.Popen[bytes]", limit: float) -> bool:
-    """Waits for a process for so many seconds. Returns whether it is over."""
+    """Waits at most `limit` seconds for a process. Returns whether it has ended."""
     until, step = time.monotonic() + limit, 0.002
     while process.poll() is None:
         left = until - time.monotonic()
@@ -82,13 +82,13 @@ def is_over(process: "subprocess.Popen[bytes]", limit: float) -> bool:
 
 
 def text_of(file: IO[bytes]) -> str:
-    """What was written into a file."""
+    """Returns the text that was written into a file."""
     file.seek(0)
     return file.read().decode("utf-8", "backslashreplace")
 
 
 class Instance(NamedTuple):
-    """A resource as the cluster sees it: its role, what it is about to do, and the nodes where it is active."""
+    """A resource in the output of crm_mon: its role, its pending action, and the nodes where it is active."""
 
     id: str
     role: str
@@ -97,11 +97,11 @@ class Instance(NamedTuple):
     nodes: List[str]
 
     def primitive(self) -> str:
-        """The primitive of which it is one."""
+        """Returns the name of its primitive."""
         return self.id.partition(":")[0]
 
     def is_over(self, is_promoted: bool) -> bool:
-        """Whether it neither runs nor starts; or only, for a lease of promoted instances, whether none is promoted."""
+        """Returns whether it neither runs nor starts, or, for a lease of promoted instances, is not promoted."""
         if self.pending in BEGINS:
             return False
         if is_promoted:
@@ -110,20 +110,20 @@ class Instance(NamedTuple):
 
 
 class Seen(NamedTuple):
-    """What crm_mon says of the cluster."""
+    """The state of the cluster in the output of crm_mon."""
 
     instances: List[Instance]
-    # each node with whether it is online; and the nodes whose state is unknown, or that a guard has told of itself
+    # whether each node is online; the nodes whose state is unknown; and the nodes at which a guard has announced itself
     nodes: Dict[str, bool]
     unclean: List[str]
     guarded: List[str]
-    # each ticket of Pacemaker with whether it is granted, and whether it is in standby
+    # for each ticket of Pacemaker: whether it is granted, and whether it is in standby
     tickets: Dict[str, Tuple[bool, bool]]
     has_fencing: bool
     is_maintained: bool
 
     def are_over(self, primitives: Iterable[str], is_promoted: bool) -> bool:
-        """Whether each of these primitives is there, and over everywhere."""
+        """Returns whether each of these primitives is listed, and has ended on each node."""
         for name in primitives:
             found = [each for each in self.instances if each.primitive() == name]
             if not found or not all(each.is_over(is_promoted) for each in found):
@@ -131,7 +131,7 @@ class Seen(NamedTuple):
         return True
 
     def where(self, primitives: Iterable[str], is_promoted: bool) -> List[str]:
-        """The nodes where one of these runs, or is promoted."""
+        """Returns the nodes where one of these primitives runs, or is promoted."""
         names, nodes = set(primitives), []
         for each in self.instances:
             if each.primitive() in names and each.is_active and not each.is_over(is_promoted):
@@ -140,18 +140,18 @@ class Seen(NamedTuple):
 
 
 def instance_of(element: ElementTree.Element) -> Instance:
-    """An instance in what crm_mon prints."""
+    """Returns the instance in an element of crm_mon's output."""
     nodes = [node.get("name", "") for node in element.findall("node")]
     active = element.get("active") == "true"
     return Instance(element.get("id", ""), element.get("role", ""), element.get("pending", ""), active, nodes)
 
 
 def seen_in(text: str) -> Seen:
-    """What a document of crm_mon says. Raises `ValueError` if it is none."""
+    """Parses the output of crm_mon. Raises `ValueError` if it is not XML."""
     try:
         root = ElementTree.fromstring(text)
     except ElementTree.ParseError as why:
-        raise ValueError(f"crm_mon printed no document: {why}") from why
+        raise ValueError(f"crm_mon did not print XML: {why}") from why
     section = root.find("resources")
     instances = [] if section is None else [instance_of(each) for each in section.iter("resource")]
     nodes = [each for section in root.findall("nodes") for each in section.findall("node")]
@@ -172,12 +172,12 @@ def seen_in(text: str) -> Seen:
 
 
 def is_guarded(node: ElementTree.Element) -> bool:
-    """Whether the attributes of a node say that a guard runs there."""
+    """Returns whether a node has the attribute of a guard."""
     return any(each.get("name") == GUARD_ATTRIBUTE for each in node.findall("attribute"))
 
 
 def seen(limit: float = QUESTION) -> Seen:
-    """What crm_mon says now. Raises `ValueError` if it says nothing."""
+    """Returns the state of the cluster now. Raises `ValueError` if crm_mon does not print it."""
     done = ran(limit, *MON)
     if done.status != 0:
         raise ValueError(f"crm_mon: {done.why()}")
@@ -185,7 +185,7 @@ def seen(limit: float = QUESTION) -> Seen:
 
 
 def elapsed() -> float:
-    """How long this process has run, in seconds."""
+    """Returns how long this process has run, in seconds."""
     with open("/proc/self/stat", encoding="ascii", errors="replace") as file:
         fields = file.read().rpartition(")")[2].split()
     began = int(fields[19]) / os.sysconf("SC_CLK_TCK")

@@ -1,4 +1,4 @@
-"""What booth-pacemaker check says of a site, and booth-status --check of its times.
+"""The checks of a site: booth-pacemaker check, and the Pacemaker part of booth-status --check.
 
 It is imported by booth-pacemaker and booth-status, and not run by itself. It changes nothing.
 """
@@ -24,7 +24,7 @@ from wording import aligned, count
 
 
 def of_times(conf: Configuration, cib: Cib) -> Iterator[Problem]:
-    """Leases whose margin does not do, and tickets that the agent follows and that have no lease."""
+    """Yields the leases whose times or margin are wrong."""
     try:
         corosync = pacemaker_margin.corosync()
     except pacemaker_margin.Unknown as why:
@@ -37,7 +37,7 @@ def of_times(conf: Configuration, cib: Cib) -> Iterator[Problem]:
             continue
         times = cib.times(ticket.name)
         if times is None:
-            text = f"{ticket.name}: the CIB has no times of its lease: booth-pacemaker setup {ticket.name} RESOURCE.."
+            text = f"{ticket.name}: the CIB lacks its lease's times: booth-pacemaker setup {ticket.name} RESOURCE.."
             yield Problem(CRITICAL, "margin", text, ticket=ticket.name)
             continue
         resources = [name for lease in mine for name in lease.resources]
@@ -45,33 +45,33 @@ def of_times(conf: Configuration, cib: Cib) -> Iterator[Problem]:
         stop = max(times.stop, seen) if seen != pacemaker_margin.NO_HISTORY else times.stop
         fault = pacemaker_margin.fault(ticket, times, pacemaker_margin.Need(corosync, stop))
         if times.expire != ticket.expire:
-            fault = f"its lease was set up for an expire of {times.expire} s, and the file has {ticket.expire} s"
+            fault = f"its lease was set up with an expire of {times.expire} s, but the file has {ticket.expire} s"
         if fault:
             text = f"{ticket.name}: {fault}: booth-pacemaker setup {ticket.name} {' '.join(resources)}"
             yield Problem(CRITICAL, "margin", text, ticket=ticket.name)
 
 
 def of_agents(conf: Configuration, cib: Cib) -> Iterator[Problem]:
-    """What the agent follows without a lease, and leases that nobody renews."""
+    """Yields tickets that the agent follows without a lease, and leases that nobody renews."""
     path = os.path.abspath(conf.path)
     name = os.path.basename(path).rsplit(".conf", 1)[0]
     agents, leases = pacemaker_plan.agents(cib, path, name), cib.tickets()
     if not agents:
-        text = "the daemon is no resource of this cluster: if its node dies, no other one goes on"
+        text = "the daemon is not a resource of this cluster: if its node dies, it does not start at another node"
         yield Problem(WARNING, "no-agent", f"{text}: booth-pacemaker setup TICKET RESOURCE.. --agent")
         return
     followed = pacemaker_plan.parameter(agents[0], "tickets").split()
     for ticket in sorted(set(followed) - leases):
-        text = f"{ticket}: {agents[0].get('id')} follows it, and the CIB has no lease"
+        text = f"{ticket}: {agents[0].get('id')} follows it, but the CIB has no lease"
         yield Problem(CRITICAL, "no-lease", f"{text}: booth-pacemaker setup {ticket} RESOURCE..", ticket=ticket)
     known = {ticket.name for ticket in conf.tickets}
     for ticket in sorted((leases & known) - set(followed)):
-        text = f"{ticket}: it has a lease, and {agents[0].get('id')} does not follow it (its parameter tickets)"
+        text = f"{ticket}: it has a lease, but the parameter tickets of {agents[0].get('id')} lacks it"
         yield Problem(CRITICAL, "no-follower", text, ticket=ticket)
 
 
 def of_clocks(cib: Cib, clocks: lease_holding.Now, folder: str = lease_holding.FOLDER) -> Iterator[Problem]:
-    """A wall clock of this node that is behind the one by which the last ends were set."""
+    """Yields a problem if this node's wall clock is behind the wall clock that set the last ends."""
     ends = list(pacemaker_clocks.ends_of(cib.leases(), folder, clocks))
     behind = pacemaker_clocks.behind(ends, clocks) if ends else 0.0
     if behind > pacemaker_clocks.MOST:
@@ -80,14 +80,14 @@ def of_clocks(cib: Cib, clocks: lease_holding.Now, folder: str = lease_holding.F
 
 
 def of_fencing(cib: Cib, seen: Seen) -> Iterator[Problem]:
-    """Two nodes that fence one another, neither of which waits longer than the other."""
+    """Yields a problem if the two nodes may fence each other at the same time."""
     fault = pacemaker_fencing.fault(cib, seen.nodes) if seen.has_fencing and pacemaker_fencing.is_two_node() else ""
     if fault:
         yield Problem(WARNING, "fencing-race", f"this site: {fault}")
 
 
 def problems(conf: Configuration, cib: Cib) -> List[Problem]:
-    """What is wrong with the site, the worst first."""
+    """Returns the problems of the site, the worst first."""
     found = [*of_times(conf, cib), *of_agents(conf, cib), *of_clocks(cib, lease_holding.now())]
     try:
         seen, why = pacemaker_asking.seen(), ""
@@ -99,7 +99,7 @@ def problems(conf: Configuration, cib: Cib) -> List[Problem]:
 
 
 def of_configuration(conf: Configuration) -> List[Problem]:
-    """What booth-status --check says where this machine is a node of a cluster with leases, nothing elsewhere."""
+    """Returns the problems for booth-status --check; none if this machine is not a node of a cluster with leases."""
     try:
         with open(pacemaker_asking.CIB, "rb") as file:
             has_leases = bool(pacemaker_cib.parsed(file.read()).tickets())
@@ -114,7 +114,7 @@ def of_configuration(conf: Configuration) -> List[Problem]:
 
 
 def show(path: str) -> int:
-    """Prints what is wrong, and returns 1 if something is."""
+    """Prints the problems. Returns 1 if there are any."""
     conf = configuration.read(configuration.path_of(path))
     cib = pacemaker_setup.cib_now()
     found = problems(conf, cib)

@@ -10,15 +10,15 @@ import time
 import xml.etree.ElementTree as ElementTree
 from typing import Dict, Iterator, List, NamedTuple, Optional, Set, Tuple
 
-# A CIB's identifiers have these letters. A part before the first full stop tells what an element is.
+# The allowed characters of a CIB's identifiers. The part before the first full stop names the kind of an element.
 TICKET = re.compile(r"[A-Za-z0-9_.-]{1,63}")
 LEASE, PROMOTED = "booth-lease", "booth-promoted"
-# the set of properties, and how the name of a ticket's times begins
+# the set of properties, and the prefix of the property with a ticket's times
 SET, TIMES = "booth-lease", "booth-lease."
 DATE = "%Y-%m-%d %H:%M:%SZ"
-# an end that is over on every clock
+# an end that is in the past on every clock
 CLOSED = "1970-01-01 00:00:00Z"
-# what stays for a reset of the machine before the lease ends, in seconds; and for one look at a resource
+# in seconds: the time for a reset of the machine before the lease ends, and the time for one look at a resource
 RESET, LOOK = 1.0, 1.0
 LEAST_MARGIN = 4
 SUFFIXES = (".service", ".socket", ".mount", ".timer", ".path")
@@ -32,27 +32,27 @@ class Times(NamedTuple):
     stop: int
 
     def longest(self) -> int:
-        """How far ahead an end can be when it is written."""
+        """Returns how far ahead an end can be when it is written."""
         return max(0, self.expire - self.margin)
 
     def fence(self) -> float:
-        """How long after an end the machine is reset, so that the lease still runs then."""
+        """Returns how long after an end the guard resets the machine: the lease has not ended by then."""
         return max(0.5, self.margin - RESET)
 
     def grace(self) -> float:
-        """How long after an end the guard leaves the stop to Pacemaker."""
+        """Returns how long after an end the guard leaves the stop to Pacemaker."""
         return max(0.5, self.fence() - LOOK - self.stop)
 
     def kill(self) -> int:
-        """How long before the lease's end the follower kills."""
+        """Returns how long before the lease's end the follower kills the service."""
         return max(1, self.margin // 2)
 
     def spelled(self) -> str:
-        """The times as the CIB has them."""
+        """Returns the text of the times in the CIB."""
         return f"expire={self.expire} margin={self.margin} stop={self.stop}"
 
 
-# what holds for a lease whose times the CIB does not have
+# the times of a lease for which the CIB has none
 NO_TIMES = Times(600, 5, 1)
 
 
@@ -64,14 +64,14 @@ class Primitive(NamedTuple):
     type: str
 
     def unit(self) -> Optional[str]:
-        """The unit of systemd that the resource is, or None."""
+        """Returns the resource's systemd unit, or `None` if it is not a unit."""
         if self.standard not in ("systemd", "service"):
             return None
         return self.type if self.type.endswith(SUFFIXES) else f"{self.type}.service"
 
 
 class Lease(NamedTuple):
-    """A rule that ends resources: all of them, or their promoted instances alone."""
+    """A rule that ends resources: all of them, or only their promoted instances."""
 
     ticket: str
     is_promoted: bool
@@ -81,31 +81,31 @@ class Lease(NamedTuple):
     primitives: Tuple[Primitive, ...]
 
     def key(self) -> str:
-        """What tells the lease from others."""
+        """Returns the key of the lease, which no other lease has."""
         return f"{PROMOTED if self.is_promoted else LEASE}.{self.ticket}"
 
     def end_id(self) -> str:
-        """The identifier of the expression that has the end."""
+        """Returns the identifier of the expression that has the end."""
         return end_id(self.ticket, self.is_promoted)
 
 
 def end_id(ticket: str, is_promoted: bool = False) -> str:
-    """The identifier of the expression that has the end of this ticket's lease."""
+    """Returns the identifier of the expression that has the end of this ticket's lease."""
     return f"{PROMOTED if is_promoted else LEASE}-end.{ticket}"
 
 
 def seconds_of(end: str) -> float:
-    """An end as seconds since 1970. Raises `ValueError` if it is none that booth writes."""
+    """Returns an end in seconds since 1970. Raises `ValueError` if the text has another form than booth writes."""
     return float(calendar.timegm(time.strptime(end, DATE)))
 
 
 def end_at(seconds: float) -> str:
-    """The end at this second since 1970, rounded down."""
+    """Returns the text of an end, given in seconds since 1970 and rounded down."""
     return time.strftime(DATE, time.gmtime(int(seconds)))
 
 
 def times_of(text: str) -> Optional[Times]:
-    """The times that a text spells, or None."""
+    """Returns the times in a text, or `None` if it has another form."""
     said = dict(word.split("=", 1) for word in text.split() if "=" in word)
     try:
         return Times(int(said["expire"]), int(said["margin"]), int(said["stop"]))
@@ -114,7 +114,7 @@ def times_of(text: str) -> Optional[Times]:
 
 
 class Cib:
-    """A CIB that was read."""
+    """A parsed CIB."""
 
     def __init__(self, root: ElementTree.Element) -> None:
         self.root = root
@@ -129,12 +129,12 @@ class Cib:
                     self.named[name] = each
 
     def primitives(self, resource: str) -> List[Primitive]:
-        """The primitives of a resource: itself, or those of a group or a clone."""
+        """Returns the primitives of a resource: itself, or the members of a group or a clone."""
         element = self.named.get(resource)
         return [] if element is None else [self.primitive(each) for each in element.iter("primitive")]
 
     def primitive(self, element: ElementTree.Element) -> Primitive:
-        """A primitive, whose agent may stand in its template."""
+        """Returns a primitive. Its agent may be in its template."""
         source = element
         template = element.get("template")
         for each in self.root.iter("template") if template else ():
@@ -143,33 +143,33 @@ class Cib:
         return Primitive(element.get("id", ""), source.get("class", ""), source.get("type", ""))
 
     def is_promotable(self, resource: str) -> bool:
-        """Whether a resource is a promotable clone."""
+        """Returns whether a resource is a promotable clone."""
         element = self.named.get(resource)
         if element is None or element.tag == "master":
             return element is not None
         return element.tag == "clone" and self.meta(element, "promotable").lower() in ("true", "yes", "on", "1")
 
     def meta(self, element: ElementTree.Element, name: str) -> str:
-        """A meta attribute of an element itself, nothing if there is none."""
+        """Returns an element's own meta attribute, or an empty text if it has none."""
         pairs = (pair for attributes in element.findall("meta_attributes") for pair in attributes.findall("nvpair"))
         return next((pair.get("value", "") for pair in pairs if pair.get("name") == name), "")
 
     def properties(self) -> Dict[str, str]:
-        """The properties of the cluster."""
+        """Returns the properties of the cluster."""
         pairs = (pair for each in self.root.iter("cluster_property_set") for pair in each.findall("nvpair"))
         return {pair.get("name", ""): pair.get("value", "") for pair in pairs}
 
     def times(self, ticket: str) -> Optional[Times]:
-        """The times of a ticket's lease, or None if the CIB has none."""
+        """Returns the times of a ticket's lease, or `None` if the CIB has none."""
         return times_of(self.properties().get(f"{TIMES}{ticket}", ""))
 
     def leases(self) -> List[Lease]:
-        """Each lease."""
+        """Returns the leases."""
         properties = self.properties()
         return [lease for each in self.root.iter("rsc_location") for lease in self.lease_in(each, properties)]
 
     def lease_in(self, constraint: ElementTree.Element, properties: Dict[str, str]) -> Iterator[Lease]:
-        """The lease that a constraint is, if it is one."""
+        """Yields the lease of a constraint, if the constraint is a lease."""
         kind, dot, ticket = constraint.get("id", "").partition(".")
         if kind not in (LEASE, PROMOTED) or not dot:
             return
@@ -185,13 +185,13 @@ class Cib:
             yield Lease(ticket, is_promoted, end, times, tuple(resources), primitives)
 
     def tickets(self) -> Set[str]:
-        """The tickets that have a lease."""
+        """Returns the tickets that have a lease."""
         return {lease.ticket for lease in self.leases()}
 
 
 def parsed(text: bytes) -> Cib:
-    """The CIB in a text. Raises `ValueError` if it is none."""
+    """Parses a CIB. Raises `ValueError` if the text is not XML."""
     try:
         return Cib(ElementTree.fromstring(text))
     except ElementTree.ParseError as why:
-        raise ValueError(f"it is no CIB: {why}") from why
+        raise ValueError(f"it is not a CIB: {why}") from why

@@ -1,12 +1,12 @@
-"""Whether a daemon that begins on this node would hold a lease for longer than it lasts.
+"""Checks whether a daemon that starts on this node would hold a lease for too long.
 
 It is imported by follow-pacemaker and booth-pacemaker, and not run by itself. A daemon that moves to another node
-takes its clock from the wall clock there. Its records say until when the lease lasts, by the clock of the daemon before
-it. So a wall clock that is behind that daemon's clock makes the lease longer. A node knows this of that clock:
+takes its clock from the wall clock there. Its records have the end of the lease by the clock of the last daemon. If the
+wall clock is behind that clock, the lease becomes longer. A node knows two things about the last daemon's clock:
 
-- An end in the CIB was set by the wall clock of the daemon's node then, and is ahead of it by the longest that an end
-  can be, or less. The guard keeps what it knew when it read the end first (lease_holding.Told).
-- The file NOTE beside the records says by how much the daemon's clock was ahead of that wall clock.
+- The end in the CIB was set by the wall clock of the last daemon's node. It is at most `Times.longest` ahead of that
+  wall clock. The guard saves what it knew when it first read the end (lease_holding.Told).
+- The file NOTE in the directory of the records has how far the daemon's clock was ahead of that wall clock.
 """
 
 import contextlib
@@ -19,18 +19,18 @@ from lease_holding import Now
 from pacemaker_cib import CLOSED, Lease
 
 NOTE = ".booth-clock"
-# how far the clocks of nodes may differ, and by how much a difference changes that is noted again, in seconds
+# in seconds: how far the clocks of nodes may differ, and the least change of the difference that is written again
 MOST, CHANGED = 1.0, 0.5
-# For how long after an end's own lease a daemon may have renewed that lease and set no end: its guard stops it then
-# (lease_daemons). In seconds, with what an end lacks, which has whole seconds.
+# in seconds: how long after a lease's end a daemon may have renewed it without setting an end, until its guard stops
+# the daemon (lease_daemons). This includes a second for the rounding of ends to whole seconds.
 UNSEEN = 21.0
 BOOT_ID, ID_BYTES = "/proc/sys/kernel/random/boot_id", 36
 
 
 class Late(NamedTuple):
-    """A wall clock that is behind the last daemon's clock by so many seconds at least.
+    """A wall clock that is at least `seconds` behind the last daemon's clock.
 
-    `until` is when each lease is over by the latter, in seconds since 1970.
+    By that daemon's clock each lease is over at `until`, in seconds since 1970.
     """
 
     seconds: float
@@ -38,7 +38,7 @@ class Late(NamedTuple):
 
 
 def note(records: str, ahead: float) -> None:
-    """Notes beside the records by how much the daemon's clock is ahead of the wall clock, if that is another time."""
+    """Writes to NOTE how far the daemon's clock is ahead of the wall clock, if this has changed."""
     if abs(noted(records) - ahead) < CHANGED:
         return
     path = os.path.join(records, NOTE)
@@ -50,7 +50,7 @@ def note(records: str, ahead: float) -> None:
 
 
 def noted(records: str) -> float:
-    """By how much the last daemon's clock was ahead of its wall clock. Raises `OSError` if that cannot be read."""
+    """Returns how far the last daemon's clock was ahead of its wall clock. Raises `OSError` if NOTE cannot be read."""
     with contextlib.suppress(FileNotFoundError):
         with open(os.path.join(records, NOTE), encoding="ascii", errors="replace") as file:
             text = file.read(40)
@@ -62,7 +62,7 @@ def noted(records: str) -> float:
 
 
 def is_kept(records: str, boot_id: str = BOOT_ID) -> bool:
-    """Whether a daemon that begins here goes on with the clock that it had before in this boot."""
+    """Returns whether a daemon that starts here continues with its own clock from earlier in this boot."""
     with contextlib.suppress(OSError):
         with open(os.path.join(records, "booth.clock"), "rb") as file, open(boot_id, "rb") as own:
             return file.read()[-ID_BYTES:] == own.read(ID_BYTES)
@@ -70,7 +70,7 @@ def is_kept(records: str, boot_id: str = BOOT_ID) -> bool:
 
 
 def ends_of(leases: Iterable[Lease], folder: str, clocks: Now) -> Iterator[Tuple[float, float]]:
-    """Until when each lease may last, and how far the clock that set its end is ahead of this boot's time, at least."""
+    """Yields the latest end of each lease, and how far the clock that set its end is ahead of this boot's, at least."""
     kept = {}
     with contextlib.suppress(OSError, ValueError):
         kept = lease_holding.kept_in(folder)
@@ -86,12 +86,12 @@ def ends_of(leases: Iterable[Lease], folder: str, clocks: Now) -> Iterator[Tuple
 
 
 def behind(ends: Iterable[Tuple[float, float]], clocks: Now) -> float:
-    """By how much this node's wall clock is behind the one that set the last ends, at least; 0 or less if it is not."""
+    """Returns how far this node's wall clock is behind the one that set the last ends, at least; 0 or less if not."""
     return max((clock for _, clock in ends), default=0.0) - (clocks.wall - clocks.boot)
 
 
 def late(leases: List[Lease], ahead: float, clocks: Now, folder: str = lease_holding.FOLDER) -> Optional[Late]:
-    """How late this node's wall clock is for a daemon that begins; None if it is not, or if no lease lasts by it."""
+    """Returns how far this node's wall clock is behind, or `None` if it is not, or if each lease is over anyway."""
     ends = list(ends_of(leases, folder, clocks))
     if not ends:
         return None

@@ -1,8 +1,8 @@
-"""What follow-pacemaker does: the words of booth-follow at a site that is a Pacemaker cluster.
+"""The words of follow-pacemaker, booth-follow's program at a site that is a Pacemaker cluster.
 
-It is imported by follow-pacemaker, and not run by itself. The cluster has a rule for each ticket, by which Pacemaker
-itself stops the ticket's resources at an end. That end is set before Pacemaker's ticket is granted, and at each
-renewal; it is closed when the ticket is revoked.
+It is imported by follow-pacemaker, and not run by itself. The cluster has a rule for each ticket: Pacemaker itself
+stops the ticket's resources at the rule's end. This module sets the end before it grants Pacemaker's ticket, and at
+each renewal. It closes the end when it revokes the ticket.
 """
 
 import calendar
@@ -22,23 +22,24 @@ from pacemaker_cib import CLOSED, Lease
 
 USAGE = "usage: follow-pacemaker check|renew KILL_MS|start|stop|kill, or clock RECORDS, adopt CONF RECORDS"
 DONE, FAILED, BAD_WORDS, NOT_RUNNING = 0, 1, 2, 3
-# in seconds: how long a change at a renewal may take, and each other change; a stop if no end is armed; a kill; the
-# least that either has; and the pause between two looks at the cluster
+# in seconds: how long a change at a renewal may take; each other change; a stop if no end is armed; a kill; the least
+# time for a stop or a kill; and the pause between two looks at the cluster
 RENEW_LIMIT, CHANGE_LIMIT, STOP_SECONDS, KILL_SECONDS, LEAST, PAUSE = 2.0, 5.0, 300.0, 25.0, 3.0, 0.4
-# how long the daemon may take to list its tickets, and how much longer than the margin a lease lasts that is adopted
+# in seconds: how long the daemon may take to list its tickets, and how much longer than the margin an adopted lease
+# must last
 LIST_LIMIT, ENOUGH = 2.0, 3.0
-# what a list, which has whole seconds, may make a lease longer than it is
+# in seconds: how much longer than it is a lease may look in a list, which has whole seconds
 ROUNDED = 2.0
 CLOCK_BYTES, BOOT_ID = 60, "/proc/sys/kernel/random/boot_id"
 LISTED = re.compile(r"ticket: ([^,]+), leader: ([^,]+)(?:, expires: (\S+ \S+))?.*")
 
 
 class Failed(Exception):
-    """Something that booth-follow is told of by the status, and the journal by this text."""
+    """A failure. The exit status reports it to booth-follow, and the text is logged."""
 
 
 def say(priority: int, ticket: str, text: str) -> None:
-    """Prints a line with its priority, where the journal reads that."""
+    """Prints a line, for the journal with its priority."""
     mark = f"<{priority}>" if "JOURNAL_STREAM" in os.environ else ""
     with contextlib.suppress(OSError):
         print(f"{mark}follow-pacemaker: {ticket}: {text}", file=sys.stderr, flush=True)
@@ -49,17 +50,17 @@ class Site:
 
     def __init__(self, ticket: str, left: float, cib: str, records: str = "") -> None:
         self.ticket, self.cib, self.records = ticket, cib, records
-        # when the armed end is, by the time since the boot; 0 if there is none
+        # the armed end, in seconds since the boot; 0 if there is none
         self.until = time.clock_gettime(time.CLOCK_BOOTTIME) - pacemaker_asking.elapsed() + left if left > 0 else 0.0
 
     def left(self) -> float:
-        """What is left until the armed end, in seconds."""
+        """Returns the seconds that are left until the armed end."""
         return self.until - time.clock_gettime(time.CLOCK_BOOTTIME) if self.until else 0.0
 
     # ---- the rule
 
     def found(self) -> List[Lease]:
-        """The leases of this ticket in the CIB, by its file on this node: which they are changes at a setup alone."""
+        """Returns the leases of this ticket in this node's CIB file. Only a setup changes which leases there are."""
         try:
             with open(self.cib, "rb") as file:
                 leases = pacemaker_cib.parsed(file.read()).leases()
@@ -68,82 +69,82 @@ class Site:
         return [lease for lease in leases if lease.ticket == self.ticket]
 
     def leases(self) -> List[Lease]:
-        """The leases of this ticket, of which there must be one."""
+        """Returns the leases of this ticket. Raises `Failed` if there is none."""
         mine = self.found()
         if not mine:
-            raise Failed(f"the CIB has no rule for its lease: booth-pacemaker setup {self.ticket} RESOURCE.. makes it")
+            raise Failed(f"the CIB has no rule for its lease: run booth-pacemaker setup {self.ticket} RESOURCE..")
         return mine
 
     def set_end(self, lease: Lease, end: str, limit: float) -> Ran:
-        """Has the rule of a lease end its resources from this end on."""
+        """Sets the end of a lease's rule."""
         name = lease.end_id()
         words = ["--xpath", f"//date_expression[@id='{name}']"]
         return ran(limit, "cibadmin", "--modify", *words, "--xml-text", f'<date_expression id="{name}" start="{end}"/>')
 
     def end_of(self, lease: Lease) -> float:
-        """The end of a lease's rule as the cluster has it now, in seconds since 1970."""
+        """Returns the current end of a lease's rule in the cluster, in seconds since 1970."""
         done = ran(CHANGE_LIMIT, "cibadmin", "--query", "--xpath", f"//date_expression[@id='{lease.end_id()}']")
         if done.status != 0:
-            raise Failed(f"cannot ask for the end of its rule: {done.why()}")
+            raise Failed(f"cannot read the end of its rule: {done.why()}")
         found = re.search(r'\bstart="([^"]*)"', done.printed)
         try:
             return pacemaker_cib.seconds_of(found[1] if found else "")
         except ValueError as why:
-            raise Failed(f"the end of its rule is no date: {done.printed.strip()}") from why
+            raise Failed(f"the end of its rule is not a date: {done.printed.strip()}") from why
 
     # ---- the words
 
     def renew(self) -> None:
-        """Sets the end. It is by the wall clock, which Pacemaker's rule reads, and computed from what is left."""
+        """Sets the end. Computes it from the time that is left and the wall clock, which Pacemaker's rule reads."""
         leases = self.leases()
         for lease in leases:
             self.see_to_length(lease)
         if self.records:
-            # (before the end: what is cut off between the two leaves a clock that seems farther ahead, and no less)
+            # (before the end is set: a crash between the two leaves a clock that seems farther ahead, never less)
             pacemaker_clocks.note(self.records, daemon_clock(self.records) - time.time())
         for lease in leases:
             left = min(self.left() - lease.times.margin, float(lease.times.longest()))
             done = self.set_end(lease, pacemaker_cib.end_at(time.time() + left), RENEW_LIMIT)
             if done.status != 0:
-                raise Failed(f"the end before this one stays in force: cibadmin: {done.why()}")
+                raise Failed(f"cannot set the new end, so the last one stays in force: cibadmin: {done.why()}")
 
     def see_to_length(self, lease: Lease) -> None:
-        """Refuses a lease that has less than its margin, or more than any lease has."""
+        """Refuses a lease that is shorter than its margin, or longer than a lease can be."""
         left, times = self.left(), lease.times
         if left - times.margin < 1:
-            raise Failed(f"no end is set: the lease has {left:.1f} s, and its margin is {times.margin} s")
+            raise Failed(f"sets no end: the lease has only {left:.1f} s left, and its margin is {times.margin} s")
         if left > times.expire + ROUNDED:
             raise Failed(
-                f"no end is set: the daemon lists a lease of {left:.1f} s, and it was set up for an expire of "
-                f"{times.expire} s: either its clock is behind the clock of its records until it has renewed the "
-                f"lease, or expire was raised and this was not run afterwards: booth-pacemaker setup {self.ticket} "
+                f"sets no end: the daemon lists a lease of {left:.1f} s, but the ticket was set up with an expire of "
+                f"{times.expire} s. Either the daemon's clock is behind the clock of its records, until the daemon has "
+                f"renewed the lease. Or expire was raised: then run booth-pacemaker setup {self.ticket} "
                 f"{' '.join(lease.resources)}"
             )
 
     def start(self) -> None:
-        """Grants Pacemaker's ticket, if the rule ends the resources at an end to come."""
+        """Grants Pacemaker's ticket, if the end of the rule is ahead."""
         for lease in self.leases():
             if self.end_of(lease) <= time.time():
-                raise Failed("the end of its rule is over, so nothing is granted")
+                raise Failed("the end of its rule has passed, so Pacemaker's ticket is not granted")
         done = ran(CHANGE_LIMIT, "crm_ticket", "--ticket", self.ticket, "--grant", "--force")
         if done.status != 0:
-            raise Failed(f"Pacemaker's ticket is not granted: crm_ticket: {done.why()}")
+            raise Failed(f"cannot grant Pacemaker's ticket: crm_ticket: {done.why()}")
 
     def check(self) -> int:
-        """Whether the ticket is granted, with an end to come."""
+        """Returns the status of whether Pacemaker's ticket is granted. Fails if it is, but its end has passed."""
         words = ["--ticket", self.ticket, "--get-attr", "granted", "--default", "false"]
         done = ran(CHANGE_LIMIT, "crm_ticket", *words)
         granted = done.printed.strip()
         if done.status == 0 and granted == "false":
             return NOT_RUNNING
         if done.status != 0 or granted != "true":
-            raise Failed(f"cannot ask for Pacemaker's ticket: crm_ticket: {done.why()}")
+            raise Failed(f"cannot read whether Pacemaker's ticket is granted: crm_ticket: {done.why()}")
         if any(self.end_of(lease) <= time.time() for lease in self.leases()):
-            raise Failed("Pacemaker's ticket is granted, and the end of its rule is over")
+            raise Failed("Pacemaker's ticket is granted, but the end of its rule has passed")
         return DONE
 
     def over(self, seconds: float) -> None:
-        """Revokes the ticket, closes the rule, and waits until nothing of the ticket's resources runs at this site."""
+        """Revokes the ticket, closes the rule, and waits until none of the ticket's resources runs at this site."""
         until = time.monotonic() + max(LEAST, seconds)
         revoked = ran(CHANGE_LIMIT, "crm_ticket", "--ticket", self.ticket, "--revoke", "--force")
         leases = self.leases()
@@ -151,13 +152,13 @@ class Site:
         faults = [f"crm_ticket: {revoked.why()}"] if revoked.status != 0 else []
         faults += [f"cibadmin: {done.why()}" for done in closed if done.status != 0]
         if revoked.status != 0 and len(faults) > 1:
-            raise Failed(f"Pacemaker takes no order, so the end of the rule and the guards end it: {'; '.join(faults)}")
+            raise Failed(f"Pacemaker takes no order: the rule and the guards end the service: {'; '.join(faults)}")
         if faults:
-            say(4, self.ticket, f"one of two ways to end it failed, and the other did not: {'; '.join(faults)}")
+            say(4, self.ticket, f"one of two ways to end the service failed, the other worked: {'; '.join(faults)}")
         self.wait(leases, until)
 
     def wait(self, leases: List[Lease], until: float) -> None:
-        """Waits for the resources of these leases. It waits for nothing else that the cluster does."""
+        """Waits until the resources of these leases have ended, and for nothing else in the cluster."""
         looks, why = 0, ""
         while True:
             try:
@@ -165,16 +166,16 @@ class Site:
                 why = self.what_runs(leases, seen)
             except ValueError as fault:
                 why = str(fault)
-            # (a start that was ordered just before the revoke is not listed at once)
+            # (two looks, because a start that was ordered just before the revoke may be listed late)
             looks = 0 if why else looks + 1
             if looks > 1:
                 return
             if time.monotonic() >= until:
-                raise Failed(f"it is not over: {why or 'it was seen once alone'}")
+                raise Failed(f"the service is not known to have ended: {why or 'only one look has shown it'}")
             pacemaker_asking.pause(PAUSE)
 
     def what_runs(self, leases: List[Lease], seen: pacemaker_asking.Seen) -> str:
-        """What of these leases is not known to be over, nothing if all is."""
+        """Returns which resources of these leases may still run, or an empty text if none does."""
         for lease in leases:
             names = [primitive.id for primitive in lease.primitives]
             if not seen.are_over(names, lease.is_promoted):
@@ -188,12 +189,12 @@ class Site:
 
 
 def see_to_clock(site: Site, folder: str) -> None:
-    """Refuses a daemon that would take its clock from a wall clock which is behind that of the last daemon."""
+    """Refuses to start a daemon if this node's wall clock is behind the clock of the last daemon."""
     if pacemaker_clocks.is_kept(site.records):
         return
     late = pacemaker_clocks.late(site.found(), pacemaker_clocks.noted(site.records), lease_holding.now(), folder)
     if late is not None:
-        # (Pacemaker keeps some 120 bytes of what an agent says)
+        # (Pacemaker keeps only some 120 bytes of an agent's message)
         until = time.strftime("%H:%M:%S", time.gmtime(late.until))
         text = f"this node's clock is at least {late.seconds:.0f} s behind the last daemon's, so none starts"
         raise Failed(f"{text} before {until} UTC: set it, then crm_resource --cleanup")
@@ -203,7 +204,7 @@ def see_to_clock(site: Site, folder: str) -> None:
 
 
 def daemon_clock(records: str) -> float:
-    """The daemon's clock now, in seconds since 1970: the time since the boot and an offset, as the follower has it."""
+    """Returns the daemon's clock now, in seconds since 1970: the time since the boot and the daemon's offset."""
     path = os.path.join(records, "booth.clock")
     try:
         with open(path, "rb") as file, open(BOOT_ID, "rb") as boot:
@@ -211,12 +212,15 @@ def daemon_clock(records: str) -> float:
     except OSError as why:
         raise Failed(f"cannot read the daemon's clock: {why}") from why
     if len(kept) != CLOCK_BYTES or kept[24:] != own:
-        raise Failed(f"{path} is of another boot: no daemon has started here")
+        raise Failed(f"{path} is from another boot: no daemon has started on this node since its boot")
     return time.clock_gettime(time.CLOCK_BOOTTIME) + int.from_bytes(kept[8:16], "big") / 1000
 
 
 def listed(ticket: str, conf: str, address: str) -> Tuple[str, float]:
-    """Who holds the ticket as this site's daemon lists it, and until when by its clock; nobody if it says nothing."""
+    """Returns the holder of the ticket in the daemon's list, and the lease's end by the daemon's clock.
+
+    The holder is an empty text if the daemon does not answer.
+    """
     done = ran(LIST_LIMIT, "booth", "list", "-c", conf, "-s", address)
     for line in done.printed.splitlines() if done.status == 0 else ():
         found = LISTED.fullmatch(line)
@@ -227,11 +231,11 @@ def listed(ticket: str, conf: str, address: str) -> Tuple[str, float]:
 
 
 def adopt(site: Site, path: str, conf: str, records: str) -> None:
-    """Writes the armed end for a follower that begins, once the daemon has renewed the lease and the rule has its end.
+    """Writes the armed end for a new follower, after the daemon has renewed the lease and the rule has the new end.
 
-    What runs meanwhile runs by the rule's end before. Nothing is written if that end comes, or another site holds the
-    ticket: then the follower stops the service. A lease that is longer than any can be was not renewed by this daemon,
-    whose clock is behind that of its records.
+    Until then the resources run under the rule's old end. If that end passes, or another site holds the ticket, nothing
+    is written, and the follower stops the service. A lease that is longer than a lease can be was not renewed by this
+    daemon: the daemon's clock is behind the clock of its records.
     """
     with contextlib.suppress(FileNotFoundError):
         os.unlink(path)
@@ -246,7 +250,7 @@ def adopt(site: Site, path: str, conf: str, records: str) -> None:
         left = end - daemon_clock(records) if holder else 0.0
         if left > leases[0].times.expire + ROUNDED:
             if not is_told:
-                say(4, site.ticket, f"a lease of {left:.0f} s is none that this daemon has renewed: waits until it has")
+                say(4, site.ticket, f"this daemon has not yet renewed the listed lease of {left:.0f} s: waits for that")
             is_told = True
         elif left > margin + ENOUGH:
             site.until = time.clock_gettime(time.CLOCK_BOOTTIME) + left
@@ -260,13 +264,13 @@ def adopt(site: Site, path: str, conf: str, records: str) -> None:
 
 
 def number_in(name: str, default: float) -> float:
-    """A number of the environment, or this one."""
+    """Returns a number from the environment, or `default`."""
     text = os.environ.get(name, "")
     return float(text) if text.isdigit() and len(text) < 16 else default
 
 
 def did(words: List[str], site: Site) -> int:
-    """Does what the words say, and returns the status."""
+    """Runs a word with its arguments, and returns the status."""
     word, left = words[0], site.left()
     if word == "check":
         return site.check()
@@ -287,11 +291,11 @@ def did(words: List[str], site: Site) -> int:
 
 
 def main(words: List[str]) -> int:
-    """The status of a run with these words."""
+    """Returns the exit status of a run with these arguments."""
     counts = {"check": 1, "start": 1, "stop": 1, "kill": 1, "renew": 2, "clock": 2, "adopt": 3}
     ticket = os.environ.get("BOOTH_TICKET", "")
     if not words or counts.get(words[0]) != len(words) or not pacemaker_cib.TICKET.fullmatch(ticket):
-        print(USAGE if ticket else f"{USAGE}: it is run by booth-follow", file=sys.stderr)
+        print(USAGE if ticket else f"{USAGE}: booth-follow runs it, and sets BOOTH_TICKET", file=sys.stderr)
         return BAD_WORDS
     left = number_in("BOOTH_TICKET_LEFT", 0) / 1000
     records = words[-1] if words[0] in ("clock", "adopt") else os.environ.get("BOOTH_RECORDS", "")
@@ -299,7 +303,7 @@ def main(words: List[str]) -> int:
         return did(words, Site(ticket, left, os.environ.get("BOOTH_CIB") or pacemaker_asking.CIB, records))
     except (Failed, OSError) as why:
         if words[0] == "clock":
-            # (the agent says it as its own reason)
+            # (the agent prints this line as its own reason)
             print(why, file=sys.stderr)
         else:
             say(4, ticket, f"{words[0]}: {why}")

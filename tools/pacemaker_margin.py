@@ -1,4 +1,4 @@
-"""How long before its lease's end a service of a Pacemaker cluster must be stopped, and whether the lease leaves room.
+"""Computes how long before its lease's end a service of a Pacemaker cluster must stop, and whether this is possible.
 
 It is imported by programs of the package, and not run by itself.
 """
@@ -12,65 +12,65 @@ from configuration import Ticket
 from pacemaker_asking import QUESTION, ran
 from pacemaker_cib import Cib, Times
 
-# what Pacemaker itself needs to see an end and to order the stop, in seconds
+# in seconds: how long Pacemaker needs to see an end and to order the stop
 REACTS = 2
-# what is taken for a stop that no history has, and the least, in seconds
+# in seconds: the time of a stop without a history, and the least time of a stop
 NO_HISTORY, LEAST_STOP = 5, 1
-# how much longer than the longest stop that was measured the next one may be
+# how many times as long as the longest measured stop the next one may take
 SLOWER = 2
-# how long a daemon takes at another node until the rule has its renewal, in seconds
+# in seconds: how long a daemon takes to start at another node, until the rule has its renewal
 STARTS = 6
-# what a list and a renewal may take, in seconds, as booth-follow has it
+# in seconds: how long a list and a renewal may take, as in booth-follow
 SLACK = 2
 
 
 class Unknown(Exception):
-    """Something that the margin needs cannot be told."""
+    """A value that the margin needs is unknown."""
 
 
 class Corosync(NamedTuple):
-    """The times of the membership, in seconds: until a node that is silent is lost, and until the rest agree on it."""
+    """The times of the membership, in seconds: until a silent node counts as lost, and until the rest agree on it."""
 
     token: float
     consensus: float
 
 
 class Need(NamedTuple):
-    """What a margin is made of, in seconds."""
+    """The parts of a margin, in seconds."""
 
     corosync: Corosync
     stop: int
 
     def least(self) -> int:
-        """The least margin."""
+        """Returns the least margin."""
         whole = self.corosync.token + self.corosync.consensus + REACTS + self.stop
         return max(pacemaker_cib.LEAST_MARGIN, math.ceil(whole))
 
     def spelled(self) -> str:
-        """The sum in words."""
+        """Returns the parts of the sum as text."""
         token, consensus = self.corosync
         return f"token {token:g} s, consensus {consensus:g} s, {REACTS} s and a stop of {self.stop} s"
 
 
 def lasting(ticket: Ticket, times: Times, need: Need) -> int:
-    """The least `expire` with which a service that runs at another node runs on when the node of the daemon dies."""
+    """Returns the least `expire` with which a service at another node keeps running if the daemon's node dies."""
     return math.ceil(ticket.renewal + times.margin + need.corosync.token + need.corosync.consensus + STARTS)
 
 
 def corosync() -> Corosync:
-    """The times of corosync as it runs here. Raises `Unknown` if it does not say them."""
+    """Returns the times of the corosync that runs here. Raises `Unknown` if they cannot be read."""
     found = []
     for name in ("token", "consensus"):
         done = ran(QUESTION, "corosync-cmapctl", "-g", f"runtime.config.totem.{name}")
         value = re.search(r"= (\d+)\s*$", done.printed)
         if done.status != 0 or value is None:
-            raise Unknown(f"corosync-cmapctl does not say corosync's {name}: {done.why()}")
+            raise Unknown(f"cannot read corosync's {name}: corosync-cmapctl: {done.why()}")
         found.append(int(value[1]) / 1000)
     return Corosync(*found)
 
 
 def longest_stop(cib: Cib, resources: List[str]) -> int:
-    """The longest stop of these resources that the cluster remembers, and as much again; whole seconds."""
+    """Returns twice the longest stop of these resources in the cluster's history, in whole seconds."""
     names = {primitive.id for resource in resources for primitive in cib.primitives(resource)}
     took = []
     for history in cib.root.iter("lrm_resource"):
@@ -81,9 +81,9 @@ def longest_stop(cib: Cib, resources: List[str]) -> int:
 
 
 def fault(ticket: Ticket, times: Times, need: Need) -> str:
-    """Why these times do not do, nothing if they do."""
+    """Returns why these times are not possible, or an empty text if they are."""
     if times.margin < need.least():
-        return f"the margin is {times.margin} s, and {need.spelled()} need {need.least()} s"
+        return f"the margin is {times.margin} s, but {need.spelled()} need {need.least()} s"
     whole = ticket.renewal + SLACK + times.margin
     if whole > ticket.expire:
         sums = f"renewal-freq {ticket.renewal:g} s, {SLACK} s and the margin of {times.margin} s are {whole:g} s"

@@ -1,6 +1,6 @@
-"""What booth-pacemaker setup changes in a CIB: elements, and the commands that put them there.
+"""The changes of booth-pacemaker setup in a CIB: the elements, and the commands that write them.
 
-It is imported by booth-pacemaker, and not run by itself. It asks nobody.
+It is imported by booth-pacemaker, and not run by itself. It asks no other program.
 """
 
 import xml.etree.ElementTree as ElementTree
@@ -9,48 +9,48 @@ from typing import Dict, Iterator, List, NamedTuple, Optional, Tuple
 import pacemaker_cib
 from pacemaker_cib import CLOSED, LEASE, PROMOTED, Cib, Times
 
-# the constraints by which resources hang on Pacemaker's ticket, that of promoted instances apart
+# the constraints by which resources, and promoted instances of resources, depend on Pacemaker's ticket
 TICKET, PROMOTED_TICKET = "booth-ticket", "booth-ticket-promoted"
 ROLE = "Promoted"
 ENDS = ("stop", "fence", "demote")
 
 
 class Step(NamedTuple):
-    """A change: what it does, in words, and the command."""
+    """A change: its description and its command."""
 
     what: str
     words: Tuple[str, ...]
 
 
 class Wish(NamedTuple):
-    """What is asked for: a ticket, its resources and its times, and whether the ticket is granted already."""
+    """The requested setup: a ticket, its resources, its times, and the end of a new rule."""
 
     ticket: str
     resources: Tuple[str, ...]
     times: Times
-    # the end that a rule has which is new
+    # the end in the past if the ticket is not granted
     end: str
 
 
 def spelled(element: ElementTree.Element) -> str:
-    """An element as text."""
+    """Returns an element as text."""
     return ElementTree.tostring(element, encoding="unicode")
 
 
 def found(cib: Cib, tag: str, name: str) -> Optional[ElementTree.Element]:
-    """The element with this identifier, or None."""
+    """Returns the element with this identifier, or `None`."""
     return next((each for each in cib.root.iter(tag) if each.get("id") == name), None)
 
 
 def is_same(one: Optional[ElementTree.Element], other: ElementTree.Element) -> bool:
-    """Whether two elements say the same."""
+    """Returns whether two elements have the same content."""
     if one is None or one.tag != other.tag or one.attrib != other.attrib or len(one) != len(other):
         return False
     return all(is_same(*pair) for pair in zip(one, other))
 
 
 def put(cib: Cib, scope: str, element: ElementTree.Element, what: str) -> Iterator[Step]:
-    """The step that has the CIB have this element, none if it has."""
+    """Yields the step that writes this element into the CIB, or nothing if the CIB has it already."""
     there = found(cib, element.tag, element.get("id", ""))
     if not is_same(there, element):
         way = "--create" if there is None else "--replace"
@@ -58,7 +58,7 @@ def put(cib: Cib, scope: str, element: ElementTree.Element, what: str) -> Iterat
 
 
 def kinds(cib: Cib, resources: Tuple[str, ...]) -> Dict[bool, List[str]]:
-    """The resources that are stopped at an end, and those whose promoted instances are demoted."""
+    """Returns the resources that are stopped at an end (`False`), and those that are demoted (`True`)."""
     parts: Dict[bool, List[str]] = {False: [], True: []}
     for resource in resources:
         parts[cib.is_promotable(resource)].append(resource)
@@ -74,7 +74,7 @@ def set_of(parent: ElementTree.Element, name: str, resources: List[str], role: s
 
 
 def rule(cib: Cib, wish: Wish, is_promoted: bool, resources: List[str]) -> ElementTree.Element:
-    """The rule that ends these resources, with the end that the CIB has already."""
+    """Returns the rule that ends these resources. An end that the CIB has already stays."""
     kind, ticket = (PROMOTED if is_promoted else LEASE), wish.ticket
     constraint = ElementTree.Element("rsc_location", {"id": f"{kind}.{ticket}"})
     set_of(constraint, f"{kind}-set.{ticket}", resources)
@@ -88,7 +88,7 @@ def rule(cib: Cib, wish: Wish, is_promoted: bool, resources: List[str]) -> Eleme
 
 
 def times(cib: Cib, wish: Wish) -> Iterator[Step]:
-    """The step that writes the lease's times."""
+    """Yields the step that writes the lease's times, if they differ."""
     if cib.times(wish.ticket) == wish.times:
         return
     words = ("crm_attribute", "--type", "crm_config", "--set-name", pacemaker_cib.SET)
@@ -98,7 +98,10 @@ def times(cib: Cib, wish: Wish) -> Iterator[Step]:
 
 
 def covered(cib: Cib, ticket: str, resources: List[str]) -> List[str]:
-    """Those of these resources that a constraint on the ticket has already. Raises `ValueError` if one ends nothing."""
+    """Returns the resources that the operator's own constraints make depend on the ticket.
+
+    Raises `ValueError` if the loss policy of such a constraint ends nothing.
+    """
     names, own = [], (f"{TICKET}.", f"{PROMOTED_TICKET}.")
     for constraint in cib.root.iter("rsc_ticket"):
         if constraint.get("ticket") != ticket or constraint.get("id", "").startswith(own):
@@ -107,13 +110,13 @@ def covered(cib: Cib, ticket: str, resources: List[str]) -> List[str]:
         mine = [name for name in inside if name in resources]
         policy = constraint.get("loss-policy", "stop")
         if mine and policy not in ENDS:
-            raise ValueError(f"the constraint {constraint.get('id')} has loss-policy={policy}: it ends nothing")
+            raise ValueError(f"the constraint {constraint.get('id')} has loss-policy={policy}, which ends nothing")
         names += mine
     return names
 
 
 def tickets(cib: Cib, wish: Wish, is_promoted: bool, resources: List[str]) -> Iterator[Step]:
-    """The step that has these resources hang on the ticket."""
+    """Yields the step that makes these resources depend on the ticket."""
     known = covered(cib, wish.ticket, resources)
     left = [each for each in resources if each not in known]
     if not left:
@@ -123,24 +126,24 @@ def tickets(cib: Cib, wish: Wish, is_promoted: bool, resources: List[str]) -> It
     said = {"id": f"{name}.{wish.ticket}", "ticket": wish.ticket, "loss-policy": policy}
     constraint = ElementTree.Element("rsc_ticket", said)
     set_of(constraint, f"{name}-set.{wish.ticket}", left, ROLE if is_promoted else "")
-    yield from put(cib, "constraints", constraint, f"have {', '.join(left)} hang on the ticket, loss-policy={policy}")
+    yield from put(cib, "constraints", constraint, f"make {', '.join(left)} depend on the ticket, loss-policy={policy}")
 
 
 def steps(cib: Cib, wish: Wish) -> List[Step]:
-    """All steps for rule, times and ticket: what ends resources first."""
+    """Returns all steps for the times, the rule and the ticket, in this order."""
     changes = list(times(cib, wish))
     for is_promoted, resources in kinds(cib, wish.resources).items():
         if not resources:
             continue
         what = "demote" if is_promoted else "stop"
-        text = f"have a rule {what} {', '.join(resources)} at the lease's end"
+        text = f"add a rule that {what}s {', '.join(resources)} at the lease's end"
         changes += put(cib, "constraints", rule(cib, wish, is_promoted, resources), text)
         changes += tickets(cib, wish, is_promoted, resources)
     return changes
 
 
 def removal(cib: Cib, ticket: str, with_ticket: bool) -> List[Step]:
-    """The steps that undo a setup. The constraint on the ticket goes only if that is asked for."""
+    """Returns the steps that undo a setup. The constraint on the ticket is removed only with `with_ticket`."""
     kinds_of = [("rsc_location", LEASE), ("rsc_location", PROMOTED)]
     kinds_of += [("rsc_ticket", TICKET), ("rsc_ticket", PROMOTED_TICKET)] if with_ticket else []
     changes = []
@@ -159,7 +162,7 @@ def removal(cib: Cib, ticket: str, with_ticket: bool) -> List[Step]:
 
 
 class AgentWish(NamedTuple):
-    """What is asked for of the agent: the configuration's path and name, and what it needs."""
+    """The requested agent: its configuration, address and records, and the resources that it starts after."""
 
     path: str
     name: str
@@ -169,7 +172,7 @@ class AgentWish(NamedTuple):
 
 
 def agents(cib: Cib, path: str, name: str) -> List[ElementTree.Element]:
-    """The resources that are the daemon of this configuration."""
+    """Returns the resources that run the daemon of this configuration."""
     found_ones = []
     for primitive in cib.root.iter("primitive"):
         kind = (primitive.get("provider"), primitive.get("type"))
@@ -180,7 +183,7 @@ def agents(cib: Cib, path: str, name: str) -> List[ElementTree.Element]:
 
 
 def parameter(primitive: ElementTree.Element, name: str) -> str:
-    """The value of a parameter of a resource, nothing if it has none."""
+    """Returns a parameter of a resource, or an empty text if the resource lacks it."""
     pairs = (pair for each in primitive.findall("instance_attributes") for pair in each.findall("nvpair"))
     return next((pair.get("value", "") for pair in pairs if pair.get("name") == name), "")
 
@@ -194,7 +197,7 @@ def attributes(parent: ElementTree.Element, values: Dict[str, str]) -> None:
 
 
 def operations(parent: ElementTree.Element, rows: Dict[str, Tuple[str, str]]) -> None:
-    """Adds operations to a resource: of each the interval and the timeout."""
+    """Adds operations to a resource, each with its interval and timeout."""
     owner, inside = parent.get("id", ""), ElementTree.SubElement(parent, "operations")
     for name, (interval, timeout) in rows.items():
         said = {"id": f"{owner}-{name}-{interval}", "name": name, "interval": interval, "timeout": timeout}
@@ -202,7 +205,10 @@ def operations(parent: ElementTree.Element, rows: Dict[str, Tuple[str, str]]) ->
 
 
 def agent_steps(cib: Cib, wish: AgentWish, tickets_of: List[str]) -> List[Step]:
-    """The steps that make the agent with the site's address, as pcs names them, or that tell it its tickets."""
+    """Returns the steps that make the agent and the site's address, or that change the tickets of a known agent.
+
+    The names are those that pcs uses.
+    """
     known = agents(cib, wish.path, wish.name)
     if known:
         return [*moved(known[0], wish.records), *retold(known[0], tickets_of)]
@@ -218,22 +224,22 @@ def agent_steps(cib: Cib, wish: AgentWish, tickets_of: List[str]) -> List[Step]:
     records = {"records": wish.records} if wish.records else {}
     attributes(primitive, {"config": wish.path, "records_mode": "shared", **records, "tickets": " ".join(tickets_of)})
     operations(primitive, {"start": ("0s", "90s"), "stop": ("0s", "90s"), "monitor": ("10s", "20s")})
-    # (a start that failed at each node is tried again later)
+    # (this has Pacemaker try again later if the start failed at each node)
     meta = ElementTree.SubElement(primitive, "meta_attributes", {"id": f"booth-{wish.name}-service-meta"})
     said = {"id": f"booth-{wish.name}-service-meta-failure-timeout", "name": "failure-timeout", "value": "120s"}
     ElementTree.SubElement(meta, "nvpair", said)
-    # (the constraints first would name what is not there; and the group starts only once it may)
+    # (the group comes first, since the constraints name it; it is stopped until they exist)
     return [*held(group, wish), *behind(cib, wish), *let_go(wish)] if wish.behind else [created(group)]
 
 
 def created(group: ElementTree.Element) -> Step:
-    """The step that makes the group."""
+    """Returns the step that makes the group."""
     text = "make the resource of the daemon, with its address"
     return Step(text, ("cibadmin", "--create", "--scope", "resources", "--xml-text", spelled(group)))
 
 
 def held(group: ElementTree.Element, wish: AgentWish) -> Iterator[Step]:
-    """The step that makes the group, stopped until its constraints are there."""
+    """Yields the step that makes the group, stopped until its constraints exist."""
     meta = ElementTree.SubElement(group, "meta_attributes", {"id": f"booth-{wish.name}-group-meta"})
     said = {"id": f"booth-{wish.name}-group-meta-target-role", "name": "target-role", "value": "Stopped"}
     ElementTree.SubElement(meta, "nvpair", said)
@@ -241,38 +247,38 @@ def held(group: ElementTree.Element, wish: AgentWish) -> Iterator[Step]:
 
 
 def let_go(wish: AgentWish) -> Iterator[Step]:
-    """The step that has the group start."""
+    """Yields the step that starts the group."""
     words = ("crm_resource", "--resource", f"booth-{wish.name}-group", "--meta", "--delete-parameter", "target-role")
-    yield Step("have the daemon start", words)
+    yield Step("start the daemon", words)
 
 
 def behind(cib: Cib, wish: AgentWish) -> Iterator[Step]:
-    """The steps that put the group where other resources run, as its storage, and after them."""
+    """Yields the steps that run the group at the node of other resources, such as its storage, and after them."""
     group = f"booth-{wish.name}-group"
     for resource in wish.behind:
         role = {"with-rsc-role": ROLE} if cib.is_promotable(resource) else {}
         said = {"id": f"{group}-with-{resource}", "rsc": group, "with-rsc": resource, "score": "INFINITY", **role}
         together = ElementTree.Element("rsc_colocation", said)
-        yield from put(cib, "constraints", together, f"have it run where {resource} runs")
+        yield from put(cib, "constraints", together, f"run it at the node of {resource}")
         first = {"first-action": "promote", "then-action": "start"} if role else {}
         said = {"id": f"{group}-after-{resource}", "first": resource, "then": group, "kind": "Mandatory", **first}
-        yield from put(cib, "constraints", ElementTree.Element("rsc_order", said), f"have it start after {resource}")
+        yield from put(cib, "constraints", ElementTree.Element("rsc_order", said), f"start it after {resource}")
 
 
 def moved(primitive: ElementTree.Element, records: Optional[str]) -> Iterator[Step]:
-    """The step that tells an agent where its records are, if that is asked for."""
+    """Yields the step that sets an agent's directory of records, if one was requested and differs."""
     if records is None or parameter(primitive, "records") == records:
         return
     name = primitive.get("id", "")
     words = ("crm_resource", "--resource", name, "--set-parameter", "records", "--parameter-value", records)
-    yield Step(f"have {name} keep its records in {records}", words)
+    yield Step(f"set the directory of {name}'s records to {records}", words)
 
 
 def retold(primitive: ElementTree.Element, tickets_of: List[str]) -> Iterator[Step]:
-    """The step that tells an agent its tickets."""
+    """Yields the step that sets an agent's tickets, if they differ."""
     if parameter(primitive, "tickets").split() == tickets_of:
         return
     name, value = primitive.get("id", ""), " ".join(tickets_of)
     words = ["crm_resource", "--resource", name]
     words += ["--set-parameter", "tickets", "--parameter-value", value] if value else ["--delete-parameter", "tickets"]
-    yield Step(f"have {name} run the followers of: {value or 'no ticket'}", tuple(words))
+    yield Step(f"set the tickets that {name} follows to: {value or 'none'}", tuple(words))

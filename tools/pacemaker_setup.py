@@ -1,6 +1,6 @@
-"""What booth-pacemaker does: it sets up a site that is a Pacemaker cluster, and undoes that.
+"""The setup of a site that is a Pacemaker cluster, and its removal.
 
-It is imported by booth-pacemaker, and not run by itself. Each step is shown before it is done.
+It is imported by booth-pacemaker, and not run by itself. Each step is printed before it is done.
 """
 
 import contextlib
@@ -22,12 +22,12 @@ GUARD = "booth-lease-guard.service"
 UNITS, RUN = "/etc/systemd/system", "/run/booth-site"
 DROP_IN = "booth-pacemaker.conf"
 MARK = ".booth-site"
-# how long a step may take, in seconds; and one that stops a service
+# in seconds: how long a step may take, and a step that stops a service
 STEP, STOP = 30.0, 540.0
 
 
 class Choices(NamedTuple):
-    """What the command line says."""
+    """The arguments of the command line."""
 
     conf: str
     ticket: str
@@ -43,15 +43,15 @@ class Choices(NamedTuple):
 
 
 def say(text: str) -> None:
-    """Prints a line of what is done."""
+    """Prints a line about a step."""
     print(text, flush=True)
 
 
 def cib_now() -> Cib:
-    """The cluster's CIB. Raises `Unreadable` if the cluster does not say it."""
+    """Returns the cluster's CIB. Raises `Unreadable` if the cluster does not answer."""
     done = ran(QUESTION, "cibadmin", "--query")
     if done.status != 0:
-        raise Unreadable(f"cannot ask for the CIB: cibadmin: {done.why()}")
+        raise Unreadable(f"cannot read the CIB: cibadmin: {done.why()}")
     try:
         return pacemaker_cib.parsed(done.printed.encode())
     except ValueError as why:
@@ -59,7 +59,7 @@ def cib_now() -> Cib:
 
 
 def carry_out(steps: List[Step], dry_run: bool, limit: float = STEP) -> None:
-    """Does these steps, or only prints them. Raises `Unreadable` at the first that fails."""
+    """Does these steps, or only prints them. Raises `Unreadable` at the first step that fails."""
     for step in steps:
         say(f"{'would ' if dry_run else ''}{step.what}")
         if dry_run:
@@ -71,7 +71,7 @@ def carry_out(steps: List[Step], dry_run: bool, limit: float = STEP) -> None:
 
 
 class Setup:
-    """The setup of one ticket at this site, as seen from this node."""
+    """The setup of one ticket at this site, done from this node."""
 
     def __init__(self, choices: Choices) -> None:
         self.choices = choices
@@ -83,31 +83,31 @@ class Setup:
         self.cib = cib_now()
 
     def ticket_of(self, name: str) -> Ticket:
-        """The ticket that is set up."""
+        """Returns the ticket to set up. Raises `Unreadable` if this ticket cannot be set up."""
         ticket = next((each for each in self.conf.tickets if each.name == name), None)
         if ticket is None:
             raise Unreadable(f"{self.conf.path} has no ticket {name}")
         if ticket.is_manual:
-            raise Unreadable(f"ticket {name} is manual, and has no lease that ends")
+            raise Unreadable(f"ticket {name} is manual, so it has no lease that ends")
         if not pacemaker_cib.TICKET.fullmatch(name):
-            raise Unreadable(f"a CIB takes no ticket {name}: letters, digits, '.', '-' and '_' are allowed")
+            raise Unreadable(f"a CIB cannot name the ticket {name}: letters, digits, '.', '-' and '_' are allowed")
         return ticket
 
     def check_resources(self) -> None:
-        """Refuses resources that are not there, or that no guard can end."""
+        """Refuses resources that do not exist, or that a guard cannot end."""
         for name in self.choices.resources:
             element = self.cib.named.get(name)
             if element is None:
                 raise Unreadable(f"the cluster has no resource {name}")
             if element.tag == "bundle":
-                raise Unreadable(f"{name} is a bundle, which no guard can end: run its container by a unit of systemd")
+                raise Unreadable(f"a guard cannot end the bundle {name}: run its container with a systemd unit instead")
             for primitive in self.cib.primitives(name):
                 if primitive.standard not in ("ocf", "systemd", "service", "lsb"):
                     kind = primitive.standard or "no"
-                    raise Unreadable(f"{primitive.id} has an agent of the standard {kind}, which no guard can end")
+                    raise Unreadable(f"a guard cannot end {primitive.id}: its agent has the standard {kind}")
 
     def times(self) -> Times:
-        """The times of the lease, which leave room for the margin."""
+        """Returns the times of the lease. Raises `Unreadable` if the margin does not fit into it."""
         choices = self.choices
         stop = choices.stop or pacemaker_margin.longest_stop(self.cib, list(choices.resources))
         try:
@@ -121,12 +121,12 @@ class Setup:
         say(f"{self.ticket.name}: a margin of {times.margin} s: {need.spelled()}; --stop and --margin change it")
         lasting = pacemaker_margin.lasting(self.ticket, times, need)
         if self.ticket.expire < lasting:
-            text = "the death of the daemon's node stops the service even at another node, for some seconds"
-            say(f"note: with expire = {self.ticket.expire} {text}; with {lasting} it runs on")
+            text = "the service stops for some seconds if the daemon's node dies, even at another node"
+            say(f"note: with expire = {self.ticket.expire} {text}; with {lasting} it keeps running")
         return times
 
     def is_granted(self) -> bool:
-        """Whether Pacemaker's ticket is granted now."""
+        """Returns whether Pacemaker's ticket is granted now."""
         words = ["--ticket", self.ticket.name, "--get-attr", "granted", "--default", "false"]
         return ran(QUESTION, "crm_ticket", *words).printed.strip() == "true"
 
@@ -136,7 +136,7 @@ class Setup:
         self.check_resources()
         times = self.times()
         granted = self.is_granted()
-        # (what runs by a ticket that something else granted runs on for as long as a lease lasts)
+        # (if the ticket is granted already, the resources keep running for the length of a lease)
         end = pacemaker_cib.end_at(time.time() + times.longest()) if granted else pacemaker_cib.CLOSED
         try:
             changes = pacemaker_plan.steps(self.cib, Wish(self.ticket.name, choices.resources, times, end))
@@ -149,14 +149,14 @@ class Setup:
     # ---- this node
 
     def is_run_by_agent(self) -> bool:
-        """Whether the daemon runs here as a resource."""
+        """Returns whether the daemon runs on this node as a resource."""
         return os.path.exists(f"{RUN}/{self.name}/env")
 
     def see_to_node(self) -> None:
-        """Has the guard run on this node, and nothing but the agent start daemon and follower."""
+        """Starts the guard on this node, and has only the agent start daemon and follower."""
         changes = []
         if ran(QUESTION, "systemctl", "is-active", GUARD).status != 0 or not is_enabled(GUARD):
-            changes.append(Step("have the guard run on this node", ("systemctl", "enable", "--now", GUARD)))
+            changes.append(Step("start the guard on this node", ("systemctl", "enable", "--now", GUARD)))
         carry_out(changes, self.choices.dry_run)
         if not self.choices.agent and not pacemaker_plan.agents(self.cib, self.path, self.name):
             return
@@ -172,7 +172,7 @@ class Setup:
         changes = []
         if runs or is_enabled(unit):
             now = ("--now",) if runs else ()
-            changes.append(Step(f"stop {unit} here, which the agent starts", ("systemctl", "disable", *now, unit)))
+            changes.append(Step(f"disable {unit} here: only the agent starts it", ("systemctl", "disable", *now, unit)))
         carry_out(changes, self.choices.dry_run, STOP)
         if read(path) != text:
             say(f"{'would ' if self.choices.dry_run else ''}write {path}")
@@ -180,15 +180,15 @@ class Setup:
                 os.makedirs(os.path.dirname(path), exist_ok=True)
                 with open(path, "w", encoding="ascii") as file:
                     file.write(text)
-                carry_out([Step("have systemd read it", ("systemctl", "daemon-reload"))], False)
+                carry_out([Step("reload systemd", ("systemctl", "daemon-reload"))], False)
 
     # ---- the agent
 
     def see_to_agent(self) -> None:
-        """Makes the daemon's resource if that is asked for, and tells it the ticket."""
+        """Makes the daemon's resource if it was requested, and adds the ticket to it."""
         known = pacemaker_plan.agents(self.cib, self.path, self.name)
         if not known and not self.choices.agent:
-            text = "the daemon is no resource here: with --agent it is one, and moves if its node dies"
+            text = "the daemon is not a resource: --agent makes it one, which moves if its node dies"
             say(f"note: {text}")
             return
         choices = self.choices
@@ -203,15 +203,15 @@ class Setup:
         carry_out(pacemaker_plan.agent_steps(self.cib, wish, tickets), choices.dry_run)
 
     def see_to_records(self, is_known: bool) -> None:
-        """Marks the directory of the records, if it is there and has no mark."""
+        """Marks the directory of the records, if it has no mark. Refuses one that cannot move with the agent."""
         folder = self.choices.records or f"/var/lib/booth/{self.name}"
         if os.path.exists(f"{folder}/{MARK}") or is_known and not self.choices.records:
             return
         if not os.path.isdir(folder):
-            raise Unreadable(f"{folder} is not there: mount the records' storage on this node, and run this again")
+            raise Unreadable(f"{folder} does not exist: mount the records' storage on this node, and run this again")
         if not self.choices.is_shared and os.stat(folder).st_dev == os.stat("/").st_dev:
-            text = f"{folder} is on this node's own disk, and records that stay behind are stale"
-            raise Unreadable(f"{text}: mount storage there that moves with the resource, or say --shared")
+            text = f"{folder} is on this node's own disk, and records that do not move with the daemon become stale"
+            raise Unreadable(f"{text}: mount storage there that moves with the resource, or add --shared")
         say(f"{'would ' if self.choices.dry_run else ''}mark {folder} as the place of the records")
         if self.choices.dry_run:
             return
@@ -224,7 +224,7 @@ class Setup:
 
 
 def read(path: str) -> str:
-    """What a file has, nothing if it is missing."""
+    """Returns the text of a file, or an empty text if it is missing."""
     try:
         with open(path, encoding="utf-8") as file:
             return file.read()
@@ -233,7 +233,7 @@ def read(path: str) -> str:
 
 
 def is_enabled(unit: str) -> bool:
-    """Whether the system starts a unit at boot."""
+    """Returns whether the system starts a unit at boot."""
     done: Ran = ran(QUESTION, "systemctl", "is-enabled", unit)
     return done.printed.strip() in ("enabled", "enabled-runtime")
 
@@ -249,13 +249,13 @@ def remove(conf: str, ticket: str, with_ticket: bool, dry_run: bool) -> None:
         changes += pacemaker_plan.retold(agent, left)
     changes += pacemaker_plan.removal(cib, ticket, with_ticket)
     if not cib.tickets() - {ticket} and is_enabled(GUARD):
-        changes.append(Step("have the guard run no more on this node", ("systemctl", "disable", "--now", GUARD)))
+        changes.append(Step("stop the guard on this node", ("systemctl", "disable", "--now", GUARD)))
     carry_out(changes, dry_run)
     drop_in = f"{UNITS}/booth-follow@{ticket}.service.d/{DROP_IN}"
     if os.path.exists(drop_in):
         say(f"{'would ' if dry_run else ''}remove {drop_in}")
         if not dry_run:
             os.unlink(drop_in)
-            carry_out([Step("have systemd read it", ("systemctl", "daemon-reload"))], False)
+            carry_out([Step("reload systemd", ("systemctl", "daemon-reload"))], False)
     if not with_ticket and pacemaker_plan.found(cib, "rsc_ticket", f"{pacemaker_plan.TICKET}.{ticket}") is not None:
-        say(f"note: the resources still hang on Pacemaker's ticket {ticket}: without it they would start at each site")
+        say(f"note: the resources still depend on Pacemaker's ticket {ticket}, or they would start at each site")

@@ -1,7 +1,7 @@
-"""The services of a Pacemaker cluster as booth-status shows them, and what is wrong with them.
+"""The services of a Pacemaker cluster as booth-status shows them, and their problems.
 
-It is imported by what booth-status and booth-pacemaker are made of, and not run by itself. Root and the group haclient
-see what Pacemaker says; for other users there is nothing to show.
+It is imported by booth-status and booth-pacemaker, and not run by itself. Only root and the group haclient can read the
+state of the cluster; for other users nothing is shown.
 """
 
 import contextlib
@@ -20,7 +20,7 @@ from problems import CRITICAL, WARNING, Problem
 from wording import listed, span
 
 STOPPED, UNKNOWN = "stopped", "unknown"
-# how long after a renewal its end may come into the CIB, in seconds
+# in seconds: how long after a renewal its end may reach the CIB
 LATE = 10
 
 
@@ -29,17 +29,17 @@ class ClusterService(NamedTuple):
 
     ticket: str
     leases: List[Lease]
-    # the nodes where all or some of it runs, whether all of it does, and whether something starts or stops
+    # the nodes where a part of the service runs, whether each part runs, and whether a part starts or stops
     nodes: List[str]
     is_whole: bool
     changes: bool
     granted: Optional[bool]
     standby: bool
-    # how long it is until the rule ends it, by the wall clock; below 0 if it is over
+    # seconds until the rule ends the service, by the wall clock; below 0 if the end has passed
     left: float
 
     def shown(self) -> str:
-        """What the table has of it."""
+        """Returns the entry in the table."""
         if self.standby:
             return "standby"
         if not self.nodes:
@@ -48,7 +48,7 @@ class ClusterService(NamedTuple):
 
 
 class ClusterSite(NamedTuple):
-    """This site, if it is a cluster with leases."""
+    """This site, which is a Pacemaker cluster with leases."""
 
     address: Optional[str]
     seen: Optional[Seen]
@@ -58,7 +58,7 @@ class ClusterSite(NamedTuple):
 
 
 class Asked:
-    """A question to Pacemaker that is answered while the members are asked."""
+    """A question to Pacemaker, which runs while the members are asked."""
 
     def __init__(self, cib: str = pacemaker_asking.CIB) -> None:
         self.cib: Optional[Cib] = None
@@ -73,10 +73,10 @@ class Asked:
                 self.process = subprocess.Popen(pacemaker_asking.MON, env=given, **streams)
 
     def answer(self, conf: Configuration, seconds: float) -> Optional[ClusterSite]:
-        """What Pacemaker says within so many seconds; None if this machine is no node with leases."""
+        """Returns Pacemaker's answer, after at most `seconds`; `None` if this machine is no node with leases."""
         if self.cib is None or not self.cib.tickets():
             return None
-        seen, why = None, "crm_mon is not here"
+        seen, why = None, "crm_mon cannot be run"
         if self.process is not None:
             try:
                 said, _ = self.process.communicate(timeout=seconds)
@@ -84,14 +84,14 @@ class Asked:
             except subprocess.TimeoutExpired:
                 self.process.kill()
                 self.process.communicate()
-                why = f"crm_mon did not answer in {seconds:.1f} s"
+                why = f"crm_mon did not answer within {seconds:.1f} s"
             except ValueError as fault:
                 why = str(fault)
         return site_of(conf, self.cib, seen, why)
 
 
 def site_of(conf: Configuration, cib: Cib, seen: Optional[Seen], why: str = "") -> ClusterSite:
-    """What is so at this site."""
+    """Returns the state of this site."""
     name = os.path.basename(conf.path).rsplit(".conf", 1)[0]
     found = pacemaker_plan.agents(cib, os.path.abspath(conf.path), name)
     services = {}
@@ -104,14 +104,14 @@ def site_of(conf: Configuration, cib: Cib, seen: Optional[Seen], why: str = "") 
 
 
 def address_in(conf: Configuration, cib: Cib) -> Optional[str]:
-    """The address of this site: the one that a resource of the cluster has."""
+    """Returns the address of this site: the only site's address that is a parameter of a resource."""
     values = {pair.get("value") for each in cib.root.iter("instance_attributes") for pair in each.findall("nvpair")}
     sites = [member.address for member in conf.members if member.role == "site" and member.address in values]
     return sites[0] if len(sites) == 1 else None
 
 
 def service_of(ticket: str, leases: List[Lease], seen: Seen) -> ClusterService:
-    """The service of a ticket, by what crm_mon says."""
+    """Returns the service of a ticket, from the output of crm_mon."""
     nodes, is_whole, changes, left = [], True, False, float("inf")
     for lease in leases:
         for primitive in lease.primitives:
@@ -132,7 +132,7 @@ def service_of(ticket: str, leases: List[Lease], seen: Seen) -> ClusterService:
 
 
 def of_ticket(site: ClusterSite, ticket: Ticket, is_held_here: bool, lease_left: Optional[float]) -> Iterator[Problem]:
-    """What is wrong with the service of a ticket, which this site holds or does not."""
+    """Yields the problems of a ticket's service."""
     service, name = site.services.get(ticket.name), ticket.name
     if service is None or site.address is None:
         return
@@ -140,25 +140,25 @@ def of_ticket(site: ClusterSite, ticket: Ticket, is_held_here: bool, lease_left:
         text = f"{name}: Pacemaker's ticket is in standby, so nothing starts: crm_ticket --ticket {name} --activate"
         yield Problem(WARNING, "paused", text, site.address, ticket=name)
     elif is_held_here and not (service.nodes and service.is_whole) and not service.changes:
-        text = f"{name}: this site holds it, and its service is {service.shown()}"
-        why = "its ticket of Pacemaker is not granted" if not service.granted else "crm_mon says why"
+        text = f"{name}: this site holds it, but its service is {service.shown()}"
+        why = "Pacemaker's ticket is not granted" if not service.granted else "crm_mon -1 has the cause"
         yield Problem(CRITICAL, "service-down", f"{text}: {why}", site.address, ticket=name)
     if not is_held_here and service.nodes and not service.changes:
-        text = f"{name}: this site does not hold it, and its service runs at {listed(service.nodes)}"
+        text = f"{name}: this site does not hold it, but its service runs at {listed(service.nodes)}"
         yield Problem(CRITICAL, "unheld", text, site.address, ticket=name)
     if is_held_here and lease_left is not None:
         margin = max(lease.times.margin for lease in service.leases)
         late = lease_left - service.left - margin
-        # (a renewal of the lease is that of the rule a second or two later)
+        # (the rule follows a renewal of the lease after a second or two)
         if late > ticket.renewal + LATE:
-            text = f"{name}: the end in the cluster is {span(late)} behind that of the lease: it is renewed no more"
+            text = f"{name}: the cluster's end is {span(late)} behind the lease's, so the follower no longer renews it"
             yield Problem(WARNING, "rule-late", f"{text}: journalctl -u booth-follow@{name}", site.address, ticket=name)
 
 
 def of_site(site: ClusterSite) -> Iterator[Problem]:
-    """What is wrong with the cluster as such."""
+    """Yields the problems of the cluster itself."""
     if site.seen is None:
-        yield Problem(WARNING, "cluster-unknown", f"this site's cluster says nothing: {site.why}", site.address)
+        yield Problem(WARNING, "cluster-unknown", f"this site's cluster does not answer: {site.why}", site.address)
         return
     seen = site.seen
     missing = [node for node, online in sorted(seen.nodes.items()) if online and node not in seen.guarded]
@@ -166,12 +166,13 @@ def of_site(site: ClusterSite) -> Iterator[Problem]:
         text = f"no guard runs at {listed(missing)}: systemctl enable --now booth-lease-guard"
         yield Problem(CRITICAL, "no-guard", text, site.address)
     if not seen.has_fencing:
-        text = "no fencing is enabled in this site's cluster (stonith-enabled): two nodes may run its daemon"
+        text = "fencing is not enabled in this site's cluster (stonith-enabled): two nodes may run its daemon"
         yield Problem(WARNING, "no-fencing", text, site.address)
     if seen.is_maintained:
-        text = "this site's cluster is in maintenance: Pacemaker stops nothing at a lease's end, and the guards do"
+        text = "this site's cluster is in maintenance: at a lease's end only the guards stop resources, not Pacemaker"
         yield Problem(WARNING, "maintenance", text, site.address)
     running = {each.primitive() for each in seen.instances if each.is_active}
     for agent in site.agents:
         if agent not in running:
-            yield Problem(CRITICAL, "agent-down", f"{agent}, the daemon of this site, runs at no node", site.address)
+            text = f"{agent}, the daemon of this site, runs at no node: crm_mon -1 has the cause"
+            yield Problem(CRITICAL, "agent-down", text, site.address)

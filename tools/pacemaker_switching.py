@@ -1,6 +1,6 @@
-"""What booth-switchover does at a site that is a Pacemaker cluster: the ticket's standby stops the service.
+"""booth-switchover at a site that is a Pacemaker cluster: it puts Pacemaker's ticket into standby to stop the service.
 
-It is imported by booth-switchover, and not run by itself. The follower runs on meanwhile.
+It is imported by booth-switchover, and not run by itself. The follower keeps running.
 """
 
 import argparse
@@ -16,12 +16,12 @@ from pacemaker_asking import ran
 from pacemaker_cib import Cib, Lease
 from switching import Ran, Refused, complain, say
 
-# in seconds: an order to Pacemaker, the most that a stop may take, and the pause between two looks
+# in seconds: how long an order to Pacemaker may take, how long a stop may take, and the pause between two looks
 ORDER, STOP, PAUSE = 10.0, 300.0, 0.5
 
 
 def cib_here() -> Optional[Cib]:
-    """The CIB on this machine, or None if it is no node of a cluster, or may not be read."""
+    """Returns the CIB on this machine, or `None` if there is none or it cannot be read."""
     try:
         with open(os.environ.get("BOOTH_CIB") or pacemaker_asking.CIB, "rb") as file:
             return pacemaker_cib.parsed(file.read())
@@ -30,7 +30,7 @@ def cib_here() -> Optional[Cib]:
 
 
 def made(options: argparse.Namespace) -> switching.Switchover:
-    """The switchover for this machine: by Pacemaker if its cluster has a lease of the ticket."""
+    """Returns the switchover for this machine: by Pacemaker if its cluster has a lease of the ticket."""
     cib = cib_here()
     if cib is not None and options.ticket in cib.tickets():
         return ClusterSwitchover(options, cib)
@@ -48,28 +48,28 @@ class ClusterSwitchover(switching.Switchover):
         super().__init__(options)
 
     def own_address(self) -> str:
-        """The address of this site: that of a resource, or what the units read."""
+        """Returns this site's address, from a resource of the cluster or from the units' environment."""
         return pacemaker_status.address_in(self.conf, self.cib) or super().own_address()
 
     def check_follower(self) -> None:
-        """Refuses where Pacemaker does not answer, or does not run the service by its ticket."""
+        """Refuses if Pacemaker does not answer, or does not run the service under its ticket."""
         try:
             seen = pacemaker_asking.seen()
         except ValueError as why:
-            raise Refused(f"this site's cluster says nothing: {why}") from why
+            raise Refused(f"this site's cluster does not answer: {why}") from why
         granted, standby = seen.tickets.get(self.ticket, (False, False))
         if standby:
             raise Refused(f"Pacemaker's ticket is in standby already: crm_ticket --ticket {self.ticket} --activate")
         if not granted:
-            raise Refused("Pacemaker's ticket is not granted here, so the service does not run: booth move moves it")
+            raise Refused("Pacemaker's ticket is not granted here, so the service does not run: use booth move instead")
 
     def order(self, *words: str) -> str:
-        """Gives an order to Pacemaker. Returns why that failed, nothing if it did not."""
+        """Gives an order to Pacemaker. Returns why it failed, or an empty text."""
         done = ran(ORDER, "crm_ticket", "--ticket", self.ticket, *words)
         return "" if done.status == 0 else f"crm_ticket {' '.join(words)}: {done.why()}"
 
     def stop(self) -> Optional[str]:
-        """Stops the service, and waits until it runs nowhere at this site."""
+        """Stops the service, and waits until it runs at no node of this site."""
         begun = time.monotonic()
         fault = self.order("--standby")
         if fault:
@@ -89,30 +89,30 @@ class ClusterSwitchover(switching.Switchover):
         return f"the service is not stopped after {STOP:.0f} s: {why}"
 
     def is_over(self, lease: Lease, seen: pacemaker_asking.Seen) -> bool:
-        """Whether the resources of a lease are over everywhere at this site."""
+        """Returns whether the resources of a lease have ended at each node of this site."""
         return seen.are_over([primitive.id for primitive in lease.primitives], lease.is_promoted)
 
     def ask(self, *words: str) -> Ran:
-        """Runs booth. (The follower runs on, and a move is told that this is right.)"""
+        """Runs booth. (A move has -f, because the follower keeps running.)"""
         return super().ask(words[0], *(["-f"] if words[0] == "move" else []), *words[1:])
 
     def start(self) -> bool:
-        """Ends the standby. Where the ticket is elsewhere Pacemaker's is revoked first: nothing starts here again."""
+        """Ends the standby. If another site holds the ticket, first revokes Pacemaker's: nothing may start here."""
         if self.is_moved:
             fault = self.order("--revoke", "--force")
             if fault:
-                complain(f"{fault}; the standby stays: see booth list, and then crm_ticket --activate")
+                complain(f"{fault}; the standby stays: look at booth list, then run crm_ticket --activate")
                 return False
         elif self.holder_now != self.own:
             activate = f"crm_ticket --ticket {self.ticket} --activate"
-            complain(f"the ticket stays in standby: {activate} once booth list says where it is")
+            complain(f"Pacemaker's ticket stays in standby: when booth list shows the holder, run {activate}")
             return False
         fault = self.order("--activate")
         if fault:
-            complain(f"{fault}; the ticket stays in standby")
+            complain(f"{fault}; Pacemaker's ticket stays in standby")
         return not fault
 
     def told(self, holder: Optional[str], why: Optional[str]) -> int:
-        """Ends the standby, says where the ticket is, and gives the status."""
+        """Ends the standby, prints where the ticket is, and returns the status."""
         self.holder_now, self.is_moved = holder, holder is not None and holder != self.own
         return super().told(holder, why)

@@ -1,4 +1,4 @@
-"""Finds a PostgreSQL server on this machine, Debian's or a plain directory, and makes its values for Booth.
+"""Finds a PostgreSQL server on this machine, Debian's or a plain directory, and returns its values for Booth.
 
 It is imported by booth-postgresql, and not run by itself.
 """
@@ -22,7 +22,7 @@ DAEMON_FILE = f"{configuration.FOLDER}/booth.env"
 
 
 class Found(NamedTuple):
-    """A server as it is found: where its configuration and its data are, and which programs run it."""
+    """A server that was found: where its configuration and its data are, and which programs run it."""
 
     name: str
     config_folder: str
@@ -34,7 +34,7 @@ class Found(NamedTuple):
 
 
 class Wishes(NamedTuple):
-    """What the command line says."""
+    """The arguments of the command line."""
 
     ticket: str
     cluster: str
@@ -51,17 +51,17 @@ class Wishes(NamedTuple):
 
 
 def found(wishes: Wishes) -> Found:
-    """Finds the server that the command line names: V/NAME or V-NAME as Debian has it, or the path of a directory."""
+    """Finds the server that the command line names: Debian's V/NAME or V-NAME, or the path of a directory."""
     if wishes.cluster.startswith("/"):
         return plain(wishes)
     parts = DEBIAN_NAME.fullmatch(wishes.cluster)
     if parts is None:
-        raise Failed(f"{wishes.cluster!r} is no server: V/NAME, as 15/main, or the path of a directory")
+        raise Failed(f"{wishes.cluster!r} names no server: write V/NAME, as 15/main, or the path of a directory")
     version, cluster = parts[1], parts[2]
     folder = f"{DEBIAN_FOLDER}/{version}/{cluster}"
     if not os.path.isfile(f"{folder}/postgresql.conf"):
         known = sorted("/".join(path.split("/")[3:5]) for path in glob.glob(f"{DEBIAN_FOLDER}/*/*/postgresql.conf"))
-        raise Failed(f"{folder}/postgresql.conf is missing: this machine has {', '.join(known) or 'no server'}")
+        raise Failed(f"{folder}/postgresql.conf is missing: the servers here are {', '.join(known) or 'none'}")
     programs = wishes.bin or bin_of(version)
     unit = wishes.unit or f"postgresql@{version}-{cluster}.service"
     owner = pwd.getpwuid(os.stat(folder).st_uid).pw_name
@@ -78,7 +78,7 @@ def plain(wishes: Wishes) -> Found:
             version = file.read().strip()
         owner = pwd.getpwuid(os.stat(folder).st_uid).pw_name
     except OSError as why:
-        raise Failed(f"{folder} is no directory of a server: {why.strerror}: initdb makes one") from why
+        raise Failed(f"{folder} is not the directory of a server: {why.strerror}: initdb makes one") from why
     unit = wishes.unit or f"postgresql-{name}.service"
     programs = wishes.bin or bin_of(version)
     return Found(name, folder, f"{folder}/postgresql.conf", programs, unit, wishes.unit is None, owner)
@@ -91,12 +91,12 @@ def bin_of(version: str) -> str:
             return form.format(version)
     path = shutil.which("pg_ctl")
     if path is None:
-        raise Failed(f"no pg_ctl of PostgreSQL {version} is found: name its directory by --bin")
+        raise Failed(f"pg_ctl of PostgreSQL {version} is not found: give its directory with --bin")
     return os.path.dirname(os.path.realpath(path))
 
 
 def configured(at: Found, name: str) -> str:
-    """Returns a parameter as the server's configuration has it, whether or not it runs."""
+    """Returns a parameter of the server's configuration, whether or not the server runs."""
     words = (f"{at.bin}/postgres", "-D", at.config_folder, "-C", name)
     done = pg.run(*pg.owner_words(at.owner), *words, seconds=10)
     if done.status != 0:
@@ -114,8 +114,8 @@ def own_address(wishes: Wishes) -> str:
                 if line.startswith("ADDRESS="):
                     return line[len("ADDRESS=") :].strip().strip("\"'")
     except OSError as why:
-        raise Failed(f"cannot read {DAEMON_FILE}: {why.strerror}: name this site's address by --address") from why
-    raise Failed(f"{DAEMON_FILE} has no ADDRESS=: name this site's address by --address")
+        raise Failed(f"cannot read {DAEMON_FILE}: {why.strerror}: give this site's address with --address") from why
+    raise Failed(f"{DAEMON_FILE} has no ADDRESS=: give this site's address with --address")
 
 
 def peers_of(wishes: Wishes, address: str) -> Tuple[str, ...]:
@@ -125,12 +125,12 @@ def peers_of(wishes: Wishes, address: str) -> Tuple[str, ...]:
     if not named:
         raise Failed(f"{conf.path} has no ticket {wishes.ticket}")
     if named[0].is_manual:
-        raise Failed(f"ticket {wishes.ticket} is manual, and no service follows a manual ticket")
+        raise Failed(f"ticket {wishes.ticket} is manual: booth-follow follows only automatic tickets")
     if wishes.peers:
         return wishes.peers
     others = tuple(member.address for member in conf.members if member.role == "site" and member.address != address)
     if not others:
-        raise Failed(f"{conf.path} has no other site: name the address of the other server by --peer")
+        raise Failed(f"{conf.path} has no other site: give the address of the other server with --peer")
     return others
 
 
@@ -141,19 +141,19 @@ def version_of(at: Found) -> int:
     if parts is None:
         raise Failed(f"{at.bin}/postgres --version ended with status {done.status}: {done.err.strip()}")
     if int(parts[1]) < OLDEST_VERSION:
-        raise Failed(f"this server is of version {parts[1]}, and version {OLDEST_VERSION} or later is needed")
+        raise Failed(f"this server has version {parts[1]}, but version {OLDEST_VERSION} or later is needed")
     return int(parts[1])
 
 
 def server_of(wishes: Wishes, at: Found) -> Server:
     """Returns the values of the server for Booth."""
     if not pg.NAME.fullmatch(at.name):
-        raise Failed(f"{at.name!r} is no name of a server: name it by --name")
+        raise Failed(f"{at.name!r} cannot be the server's name here: give another one with --name")
     version_of(at)
     data = configured(at, "data_directory") or at.config_folder
     sockets = configured(at, "unix_socket_directories").split(",")[0].strip()
     if not sockets:
-        raise Failed("the server listens on no socket of this machine (unix_socket_directories)")
+        raise Failed("the server listens on no Unix socket: set unix_socket_directories")
     port = int(configured(at, "port"))
     address = own_address(wishes)
     is_debian = at.config_folder != data

@@ -1,7 +1,7 @@
-"""Whether a standby may be promoted: what it has must be what the last primary had, as far as anybody can tell.
+"""Decides whether a standby may be promoted: it must have all data of the last primary, as far as this can be known.
 
-It is imported by booth-postgresql, and not run by itself. The ticket says that no other site runs a primary. It does
-not say that this site has the data of the site that ran one last.
+It is imported by booth-postgresql, and not run by itself. The ticket guarantees that no other site runs a primary. It
+does not guarantee that this site has the data of the last primary.
 """
 
 import time
@@ -10,7 +10,7 @@ from typing import Optional
 import postgresql_server as pg
 from postgresql_server import Failed, Place, Server
 
-# how long a standby that lacks data of a peer waits to get them
+# how long a standby that lacks data of a peer waits for them
 SECONDS_TO_CATCH_UP = 20
 PAUSE = 0.3
 
@@ -21,24 +21,24 @@ def lacks(own: Place, peer: Place) -> bool:
 
 
 def fault_of_peer(own: Place, address: str, peer: Place) -> Optional[str]:
-    """Returns why a peer that answers forbids a promotion whatever is waited for, or nothing."""
+    """Returns why a peer that answers forbids a promotion, now and later, or `None` if it does not."""
     if peer.system != own.system:
-        return f"{address} has another database (system {peer.system}, and here {own.system}): set one of them up again"
+        return f"{address} has another database (system {peer.system}, here {own.system}): set one of them up again"
     if not peer.is_standby:
         return f"{address} runs a primary"
     return None
 
 
 def ask_peers(server: Server, seconds: float) -> bool:
-    """Returns whether a peer answered and no peer that answers has more data, which are waited for.
+    """Waits until no peer that answers has more data than this server. Returns whether a peer answered.
 
-    Raises `Failed` if one has more and they do not come.
+    Raises `Failed` if a peer still has more data when the time is over.
     """
     end = time.monotonic() + min(seconds * 0.6, SECONDS_TO_CATCH_UP)
     while True:
         own = pg.place_of(server)
         if own is None:
-            raise Failed("the local server does not say how far it is")
+            raise Failed("the local server does not answer with its timeline and position")
         ahead = []
         answers = pg.answered(server)
         for address, peer in answers:
@@ -60,38 +60,39 @@ def ask_peers(server: Server, seconds: float) -> bool:
 
 
 def fault_alone(server: Server, now: float) -> Optional[str]:
-    """Returns why this server is not promoted while no peer answers, or nothing."""
+    """Returns why this server must not be promoted while no peer answers, or `None` if it may be."""
     if server.alone or pg.is_kept(server, "accepted"):
         return None
     before = pg.kept_value(server, "former")
     if before is not None:
-        # it was the primary last, as far as it knows: another site was one since only under a term between
+        # as far as it knows, it was the last primary: another site can have been one only under a term between the two
         term = pg.lease_term(server)
         if before.isdigit() and term is not None and term <= int(before) + 1:
             return None
-        return "it was a primary before, no peer answers, and another site may have been the primary since"
+        return "no peer answers, and since this server was the primary, another site may have been the primary"
     stepped = pg.kept_value(server, "in-step")
     if stepped is None:
-        return "it never was in step with a primary, and no peer answers"
+        return "no peer answers, and this server never had all data of a primary"
     try:
         late = now - float(stepped)
     except ValueError:
-        return f"{pg.kept_path(server.name, 'in-step')} holds no time"
+        return f"no peer answers, and {pg.kept_path(server.name, 'in-step')} has no time in it"
     if late > server.max_lag:
-        return f"it was in step with a primary {late:.0f} s ago, more than {server.max_lag} s, and no peer answers"
+        since = f"this server last had all data of a primary {late:.0f} s ago"
+        return f"no peer answers, and {since}, more than {server.max_lag} s (--max-lag)"
     return None
 
 
 def may_promote(server: Server, seconds: float) -> None:
-    """Returns if the server may be promoted, and notes that it becomes the primary under the lease of now.
+    """Checks that the server may be promoted, and records that it becomes the primary under the current lease.
 
-    Raises `Failed` with the reason if it may not.
+    Raises `Failed` with the reason if the server must not be promoted.
     """
     if not ask_peers(server, seconds):
         fault = fault_alone(server, time.time())
         if fault is not None:
             raise Failed(
-                f"{fault}: bring a peer back, or booth-postgresql accept {server.name}, which may lose data"
+                f"{fault}: bring a peer back, or run booth-postgresql accept {server.name}, which may lose data"
             )
     term = pg.lease_term(server)
     pg.keep(server, "former", "unknown" if term is None else str(term))

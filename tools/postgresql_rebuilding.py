@@ -1,4 +1,4 @@
-"""Brings a server whose data parted from the primary's back as a standby: pg_rewind, or pg_basebackup if allowed.
+"""Brings a server whose data diverged from the primary's back as a standby: pg_rewind, or pg_basebackup if allowed.
 
 It is imported by booth-postgresql, and not run by itself.
 """
@@ -12,9 +12,9 @@ import postgresql_server as pg
 from postgresql_server import Failed, Place, Server
 
 SECONDS_TO_STOP, SECONDS_TO_REWIND, SECONDS_TO_COPY = 300, 21_600, 172_800
-# the configuration of a server that is in its directory, if Debian did not make it
+# the configuration files in the directory of a server that Debian did not make
 OWN_FILES = ("postgresql.conf", "pg_hba.conf", "pg_ident.conf")
-# what a server needs to follow a primary; what has parted is of no use until it is copied, and is not started
+# what a server needs to follow a primary; PARTED: no rewind can help, so it is not started until its data are copied
 WAIT, REWIND, COPY, PARTED = "wait", "rewind", "copy", "parted"
 Say = Callable[[str], None]
 # the timelines before a server's own, with the position at which each ended
@@ -31,20 +31,20 @@ def parted(own: Place, own_history: Optional[History], peer: Place, history: Opt
             return REWIND
         is_our_last, is_their_last = our_line == own.timeline, their_line == peer.timeline
         if is_our_last and is_their_last:
-            # (a standby is never ahead of its primary, and no tool tells two timelines of one number apart)
+            # (a standby is never ahead of its primary, and no tool can distinguish two timelines with the same number)
             return PARTED if own.position > peer.position else WAIT
         if is_our_last:
             return REWIND if own.position > their_end else WAIT
         if is_their_last:
             return REWIND
         if their_end != our_end:
-            # two timelines of one number begin behind it
+            # the next timelines have the same number, but begin at different positions
             return PARTED
     return WAIT
 
 
 def lost_bytes(own: Place, history: Optional[History]) -> Optional[int]:
-    """Returns how many bytes of the log this server has behind the position at which the primary's timeline began."""
+    """Returns how many bytes of its log this server has after the position at which the primary's timeline began."""
     ends = dict(history or [])
     return own.position - ends[own.timeline] if own.timeline in ends else None
 
@@ -65,15 +65,15 @@ def lacks_log(server: Server, own: Place, address: str, peer: Place) -> bool:
 
 
 def has_checkpoint(server: Server, address: str, peer: Place) -> bool:
-    """Returns whether the primary has written a checkpoint on its timeline, without which pg_rewind sees no need."""
+    """Returns whether the primary has written a checkpoint on its timeline: without one pg_rewind does nothing."""
     told = pg.psql(server, pg.spot(server, address), "SELECT timeline_id FROM pg_control_checkpoint()")
     return told == str(peer.timeline)
 
 
 def rewind(server: Server, address: str, say: Say) -> bool:
-    """Rewinds the directory to the point at which it parted from the peer's, and returns whether that is done.
+    """Rewinds the directory to the point at which it diverged from the peer's. Returns whether this succeeded.
 
-    What cannot be done is found out before a file is changed, unless an earlier try has changed some.
+    A dry run finds most causes of a failure before a file is changed, unless an earlier try has changed some.
     """
     words = [f"{server.bin}/pg_rewind", "-D", server.data, "--source-server", pg.spot(server, address)]
     if not os.path.exists(f"{server.data}/postgresql.conf") and "--config-file" in pg.run(words[0], "--help").out:
@@ -94,7 +94,7 @@ def rewind(server: Server, address: str, say: Say) -> bool:
 
 
 def read_own_files(folder: str) -> Dict[str, bytes]:
-    """Returns the configuration that is in a server's directory, if Debian did not make the server."""
+    """Returns the configuration files in a server's directory, by name. A server that Debian made has none there."""
     found = {}
     for name in OWN_FILES:
         try:
@@ -106,7 +106,7 @@ def read_own_files(folder: str) -> Dict[str, bytes]:
 
 
 def write_own_files(server: Server, folder: str, files: Dict[str, bytes]) -> None:
-    """Writes the configuration that was read, in place of what came from another server."""
+    """Writes these configuration files over those that came from another server."""
     owner = pwd.getpwnam(server.owner)
     for name, content in {**files, "standby.signal": b""}.items():
         with open(f"{folder}/{name}", "wb") as file:
@@ -122,14 +122,14 @@ def last_line(text: str) -> str:
 
 
 def copy(server: Server, address: str, say: Say) -> bool:
-    """Copies the data of the peer's server, and returns whether that is done. The former data stay beside them."""
+    """Copies the data of the peer's server. Returns whether this succeeded. The old data stay in `.booth-old`."""
     new, old = f"{server.data}.booth-new", f"{server.data}.booth-old"
     fault = fault_of_copy(server)
     if fault is not None:
         say(fault)
         return False
     shutil.rmtree(new, ignore_errors=True)
-    # (its owner may not make a directory beside it)
+    # (the owner may lack the right to make a directory there)
     os.mkdir(new, 0o700)
     shutil.chown(new, server.owner, pwd.getpwnam(server.owner).pw_gid)
     words = (f"{server.bin}/pg_basebackup", "-D", new, "-d", pg.spot(server, address), "-X", "stream", "-c", "fast")
@@ -143,19 +143,19 @@ def copy(server: Server, address: str, say: Say) -> bool:
     if os.path.exists(server.data):
         move(server.data, old)
     move(new, server.data)
-    say(f"the data of {address} are copied; the former ones are at {old}")
+    say(f"the data of {address} are copied; the old data are in {old}")
     return True
 
 
 def move(source: str, target: str) -> None:
-    """Renames a directory, or copies and removes it where its file system renames none, as an overlay does."""
+    """Renames a directory, or copies and removes it if its file system cannot rename it, for example an overlay."""
     done = pg.run("mv", "-T", source, target, seconds=SECONDS_TO_COPY)
     if done.status != 0:
-        raise Failed(f"{source} is not renamed to {target}: {last_line(done.err)}")
+        raise Failed(f"cannot rename {source} to {target}: {last_line(done.err)}")
 
 
 def fault_of_copy(server: Server) -> Optional[str]:
-    """Returns why the directory cannot be put in place of the former one, or nothing."""
+    """Returns why a copy cannot replace the directory, or `None` if it can."""
     if os.path.ismount(server.data):
         return f"{server.data} is a mount point, which pg_basebackup cannot replace: copy the data manually"
     spaces = f"{server.data}/pg_tblspc"
@@ -165,18 +165,18 @@ def fault_of_copy(server: Server) -> Optional[str]:
 
 
 def rebuild(server: Server, address: str, how: str, say: Say) -> bool:
-    """Stops the server, brings its data up to the primary's, starts it again, and returns whether that is done."""
+    """Stops the server, rewinds or copies its data, and starts it again. Returns whether this succeeded."""
     before = pg.kept_value(server, "rebuilding")
     if before is None:
         pg.keep(server, "rebuilding", f"looking {address}")
     if pg.is_kept(server, "primary"):
-        # (a promotion that begins meanwhile notes itself first and then looks for this note)
+        # (a promotion writes the note `primary` first, and then looks for the note `rebuilding`)
         if before is None:
             pg.forget(server, "rebuilding")
         return False
     pg.units("stop", server.unit, seconds=SECONDS_TO_STOP)
     if pg.processes(server):
-        raise Failed(f"{server.unit} does not stop, so its data cannot be brought up to those of {address}")
+        raise Failed(f"{server.unit} does not stop, so its data cannot be rewound to or copied from {address}")
     if not os.path.exists(server.data) and os.path.exists(f"{server.data}.booth-old"):
         move(f"{server.data}.booth-old", server.data)
     done = how == REWIND and rewind(server, address, say)
@@ -184,12 +184,12 @@ def rebuild(server: Server, address: str, how: str, say: Say) -> bool:
     if not done and server.copies:
         done = copy(server, address, say)
     elif not done and how in (COPY, PARTED):
-        say("pg_basebackup is needed, and setup was run without --allow-basebackup")
+        say("pg_basebackup is needed, but setup was run without --allow-basebackup")
     if not done and how == PARTED:
         pg.keep(server, "rebuilding", f"{PARTED} {address}")
         return False
     if done:
-        # (its timelines are those of the primary now)
+        # (the server has the primary's timelines now)
         pg.forget(server, "timeline")
     if done or not is_changed:
         pg.forget(server, "rebuilding")

@@ -1,6 +1,6 @@
-"""A PostgreSQL server under Booth: its values, what it and its peers answer, and what is kept of it.
+"""A PostgreSQL server under Booth: its values, the answers of it and its peers, and the notes about it.
 
-It is imported by booth-postgresql, and not run by itself. Each command that it runs has a limit of time.
+It is imported by booth-postgresql, and not run by itself. Each command that it runs has a time limit.
 """
 
 import os
@@ -20,16 +20,16 @@ RECORDS_FOLDER = "/var/lib/booth"
 PROGRAM = "/usr/share/booth-proved/follow-postgresql"
 NAME = re.compile(r"[A-Za-z0-9_][A-Za-z0-9_.-]{0,63}")
 SECONDS_TO_ANSWER, SECONDS_OF_A_COMMAND = 3, 60
-# what a name of a write-ahead log's file counts with
+# the bytes of the log that one value of the upper half of a position counts, in names of log files too
 SEGMENTS_BYTES = 2**32
 
 
 class Failed(Exception):
-    """What was asked for is not done; the text says why."""
+    """The requested action failed; the text is the cause."""
 
 
 class Server(NamedTuple):
-    """The values of a server, as its file has them."""
+    """The values of a server, from its file in `CONF_FOLDER`."""
 
     name: str
     ticket: str
@@ -53,7 +53,7 @@ class Server(NamedTuple):
 
 
 class Place(NamedTuple):
-    """How far a server is: which database it has, its timeline and its last position, and whether it is a standby."""
+    """The state of a server's log: its database, its timeline, its last position, and whether it is a standby."""
 
     system: str
     timeline: int
@@ -62,14 +62,14 @@ class Place(NamedTuple):
 
 
 class Ended(NamedTuple):
-    """How a command ended, 124 if its time was over, and what it printed."""
+    """The exit status of a command, or 124 after a timeout, and what the command printed."""
 
     status: int
     out: str
     err: str
 
 
-# the names in the file, and the fields that they are
+# each name in the file, with its field
 FIELDS = {
     "TICKET": "ticket", "CLUSTER": "cluster", "DATA": "data", "BIN": "bin", "UNIT": "unit", "OWNER": "owner",
     "SOCKET": "socket", "PORT": "port", "ADDRESS": "address", "PEERS": "peers", "PEER_PORT": "peer_port",
@@ -79,7 +79,7 @@ FIELDS = {
 
 
 def run(*words: str, seconds: float = SECONDS_OF_A_COMMAND, env: Optional[Dict[str, str]] = None) -> Ended:
-    """Runs a command with a limit of time, and returns how it ended."""
+    """Runs a command with a time limit, and returns how it ended."""
     try:
         done = subprocess.run(
             words, stdin=subprocess.DEVNULL, capture_output=True, timeout=seconds, check=False,
@@ -93,22 +93,22 @@ def run(*words: str, seconds: float = SECONDS_OF_A_COMMAND, env: Optional[Dict[s
 
 
 def conf_path(name: str) -> str:
-    """Returns the path of a server's values."""
+    """Returns the path of the file that has a server's values."""
     return f"{CONF_FOLDER}/{name}.conf"
 
 
 def kept_path(name: str, what: str) -> str:
-    """Returns the path of what is kept of a server across boots."""
+    """Returns the path of a note about a server. Notes stay across boots."""
     return f"{KEPT_FOLDER}/{name}.{what}"
 
 
 def is_kept(server: Server, what: str) -> bool:
-    """Returns whether that is kept of the server."""
+    """Returns whether there is such a note about the server."""
     return os.path.exists(kept_path(server.name, what))
 
 
 def kept_value(server: Server, what: str) -> Optional[str]:
-    """Returns the text that is kept of a server, or nothing."""
+    """Returns the text of a note about a server, or `None` if there is no such note."""
     try:
         with open(kept_path(server.name, what), encoding="utf-8") as file:
             return file.read().strip()
@@ -132,12 +132,12 @@ def write_whole(path: str, text: str, mode: int = 0o644, owner: Optional[Tuple[i
 
 
 def keep(server: Server, what: str, text: str = "") -> None:
-    """Keeps a text of the server across boots."""
+    """Writes a note about the server, which stays across boots."""
     write_whole(kept_path(server.name, what), f"{text}\n")
 
 
 def forget(server: Server, what: str) -> None:
-    """Keeps that no longer."""
+    """Removes a note about the server, if it exists."""
     try:
         os.unlink(kept_path(server.name, what))
     except FileNotFoundError:
@@ -145,7 +145,7 @@ def forget(server: Server, what: str) -> None:
 
 
 def spelled(server: Server) -> str:
-    """Returns the file of a server's values, which the shell reads too."""
+    """Returns the text of the file with a server's values, in a form that the shell can read too."""
     lines = ["# Written by booth-postgresql setup: run that again to change it.\n"]
     for name, field in FIELDS.items():
         value = getattr(server, field)
@@ -161,7 +161,7 @@ def load(name: str) -> Server:
     """Reads the values of a server."""
     path = conf_path(name)
     if not NAME.fullmatch(name):
-        raise Failed(f"{name!r} is no name of a server that was set up")
+        raise Failed(f"{name!r} is not the name of a server: letters, digits, _, . and -, at most 64 characters")
     try:
         with open(path, encoding="utf-8") as file:
             lines = [line for line in file if line.strip() and not line.startswith("#")]
@@ -198,25 +198,25 @@ TYPED = ("port", "peer_port", "max_lag", "peers", "copies", "alone")
 
 
 def owner_words(owner: str) -> Tuple[str, ...]:
-    """Returns what stands before a command that a user runs, in its home: libpq looks there, and not into root's."""
+    """Returns the prefix of a command that runs as this user, without root's HOME, in which libpq would read files."""
     group = str(pwd.getpwnam(owner).pw_gid)
     return ("env", "-u", "HOME", "setpriv", "--reuid", owner, "--regid", group, "--init-groups")
 
 
 def as_owner(server: Server, *words: str, seconds: float, env: Optional[Dict[str, str]] = None) -> Ended:
-    """Runs a command as the user that the server runs as."""
+    """Runs a command as the server's user."""
     return run(*owner_words(server.owner), *words, seconds=seconds, env=env)
 
 
 def psql(server: Server, where: str, sql: str, seconds: float = SECONDS_TO_ANSWER) -> Optional[str]:
-    """Returns what a server answers to a statement, or nothing if it does not answer in time."""
+    """Returns a server's answer to a statement, or `None` if it does not answer in time."""
     words = (f"{server.bin}/psql", "-XAtqw", "-v", "ON_ERROR_STOP=1", "-d", where, "-c", sql)
     done = as_owner(server, *words, seconds=seconds, env={"PGCONNECT_TIMEOUT": "2"})
     return done.out.rstrip("\n") if done.status == 0 else None
 
 
 def why_unanswered(server: Server, where: str) -> str:
-    """Returns why a server does not answer, in the words of psql."""
+    """Returns why a server does not answer: the message of psql."""
     words = (f"{server.bin}/psql", "-XAtqw", "-d", where, "-c", "SELECT 1")
     done = as_owner(server, *words, seconds=SECONDS_TO_ANSWER, env={"PGCONNECT_TIMEOUT": "2"})
     lines = [line.strip() for line in done.err.splitlines() if line.strip()]
@@ -224,7 +224,7 @@ def why_unanswered(server: Server, where: str) -> str:
 
 
 def spot(server: Server, peer: Optional[str] = None, replication: bool = False) -> str:
-    """Returns how libpq finds the local server, or that of a peer."""
+    """Returns the connection string by which libpq finds the local server, or the server of a peer."""
     if peer is None:
         words = {"host": server.socket, "port": str(server.port), "dbname": "postgres"}
     else:
@@ -237,12 +237,12 @@ def spot(server: Server, peer: Optional[str] = None, replication: bool = False) 
 
 
 def libpq_quoted(value: str) -> str:
-    """Returns a value as libpq reads it."""
+    """Returns a value in the quotes that libpq reads."""
     return "'" + value.replace("\\", "\\\\").replace("'", "\\'") + "'"
 
 
 def position_of(text: str) -> int:
-    """Returns the number of a position in the write-ahead log, as 0/3000148."""
+    """Returns the number of a position in the write-ahead log, for example of 0/3000148."""
     high, _, low = text.partition("/")
     return int(high, 16) * SEGMENTS_BYTES + int(low, 16)
 
@@ -253,7 +253,7 @@ def spelled_position(position: int) -> str:
 
 
 def place_of(server: Server, peer: Optional[str] = None) -> Optional[Place]:
-    """Returns how far the local server is, or that of a peer, or nothing if it does not answer."""
+    """Returns the place of the local server or of a peer's server, or `None` if it does not answer."""
     told = psql(server, spot(server, peer, replication=True), "IDENTIFY_SYSTEM")
     recovers = psql(server, spot(server, peer), "SELECT pg_is_in_recovery()") if told else None
     if not told or recovers not in ("t", "f"):
@@ -263,7 +263,7 @@ def place_of(server: Server, peer: Optional[str] = None) -> Optional[Place]:
 
 
 def history_of(server: Server, peer: Optional[str], timeline: int) -> Optional[List[Tuple[int, int]]]:
-    """Returns where each earlier timeline of this one ended, the first one first, or nothing if nobody says."""
+    """Returns where each ancestor of this timeline ended, the oldest first, or `None` if the server does not answer."""
     if timeline == 1:
         return []
     told = psql(server, spot(server, peer, replication=True), f"TIMELINE_HISTORY {timeline}")
@@ -274,7 +274,7 @@ def history_of(server: Server, peer: Optional[str], timeline: int) -> Optional[L
 
 
 def processes(server: Server) -> List[int]:
-    """Returns the processes of servers on the directory: it is the working directory of each."""
+    """Returns the server processes whose working directory is the data directory."""
     found = []
     for each in os.listdir("/proc"):
         if each.isdigit():
@@ -289,7 +289,7 @@ def processes(server: Server) -> List[int]:
 
 
 def follower_state(server: Server) -> Dict[str, str]:
-    """Returns what the follower of the server's ticket says of it, and nothing if there is none."""
+    """Returns the state that the follower of the server's ticket has written, or nothing if there is none."""
     try:
         with open(f"{STATE_FOLDER}/{server.ticket}.state", encoding="utf-8") as file:
             return dict(line.rstrip("\n").split("=", 1) for line in file if "=" in line)
@@ -298,7 +298,7 @@ def follower_state(server: Server) -> Dict[str, str]:
 
 
 def lease(server: Server) -> Optional[record_file.Lease]:
-    """Returns the lease that this site holds by the daemon's record, or nothing."""
+    """Returns the lease that this site holds according to the daemon's record, or `None`."""
     folder = f"{RECORDS_FOLDER}/{os.environ.get('BOOTH_CONF_NAME', 'booth')}"
     try:
         with open(f"{folder}/{server.ticket.encode().hex()}.rec", "rb") as file:
@@ -309,13 +309,13 @@ def lease(server: Server) -> Optional[record_file.Lease]:
 
 
 def lease_term(server: Server) -> Optional[int]:
-    """Returns the term of that lease, or nothing."""
+    """Returns the term of the lease that this site holds, or `None`."""
     held = lease(server)
     return None if held is None else held.term
 
 
 def wait_until(check: Callable[[], bool], seconds: float, pause: float = 0.3) -> bool:
-    """Calls a function until it is true or the time is over, and returns whether it was."""
+    """Calls `check` until it returns true or the time is over. Returns whether it was true."""
     end = time.monotonic() + seconds
     while not check():
         if time.monotonic() >= end:
@@ -325,7 +325,7 @@ def wait_until(check: Callable[[], bool], seconds: float, pause: float = 0.3) ->
 
 
 def conninfo(server: Server) -> str:
-    """Returns how a standby finds the server that it follows."""
+    """Returns the connection string by which a standby finds the server that it follows."""
     words = {
         "host": ",".join(server.peers), "port": str(server.peer_port), "user": server.role,
         "passfile": server.passfile, "application_name": server.address, "connect_timeout": "3",
@@ -341,5 +341,5 @@ def units(*words: str, seconds: float = SECONDS_OF_A_COMMAND) -> Ended:
 
 
 def answered(server: Server) -> Sequence[Tuple[str, Place]]:
-    """Returns each peer whose server answers, with how far that is."""
+    """Returns each peer whose server answers, with its place."""
     return [(peer, place) for peer in server.peers for place in [place_of(server, peer)] if place is not None]

@@ -1,4 +1,4 @@
-"""Puts a PostgreSQL server under a ticket: what `booth-postgresql setup` does, and says of each step.
+"""Puts a PostgreSQL server under a ticket: the steps of `booth-postgresql setup`, each of which is printed.
 
 It is imported by booth-postgresql, and not run by itself.
 """
@@ -21,7 +21,7 @@ UNITS_FOLDER = "/etc/systemd/system"
 FOLLOW_FOLDER = f"{configuration.FOLDER}/follow"
 BEGIN, END = "# booth-postgresql: begin\n", "# booth-postgresql: end\n"
 ONLY_HERE = ("", "localhost", "127.0.0.1", "::1", "localhost,::1", "127.0.0.1,::1")
-# a standby does not start with less than its primary has
+# settings that a standby must have at least as high as its primary, or it does not start
 AT_LEAST_AS_MANY = (
     "max_connections", "max_worker_processes", "max_wal_senders", "max_prepared_transactions",
     "max_locks_per_transaction",
@@ -33,7 +33,7 @@ PASSWORD_BYTES = 24
 DROP_IN = f"""\
 # Written by booth-postgresql setup.
 [Service]
-# whatever starts this server, it starts as a standby: the follower of ticket {{ticket}} promotes it
+# this server always starts as a standby: the follower of ticket {{ticket}} promotes it
 ExecStartPre=+{pg.PROGRAM} {{name}} standby
 """
 
@@ -69,7 +69,7 @@ GRANT EXECUTE ON FUNCTION pg_catalog.pg_ls_dir(text, boolean, boolean), pg_catal
 
 
 class Choices(NamedTuple):
-    """How the server is to be set up, beside its values."""
+    """The choices of the command line that are not values of the server."""
 
     is_primary: bool
     restarts: bool
@@ -79,13 +79,13 @@ class Choices(NamedTuple):
 
 
 class Steps:
-    """Says of each step what it does, and does it unless it is only to be shown."""
+    """Prints each step and then does it, or only prints it for a dry run."""
 
     def __init__(self, only_shows: bool) -> None:
         self.only_shows = only_shows
 
     def do(self, what: str, action: Callable[[], object]) -> None:
-        """Says a step and does it."""
+        """Prints a step, and does it unless this is a dry run."""
         print(f"would {what}" if self.only_shows else what, flush=True)
         if not self.only_shows:
             action()
@@ -96,11 +96,11 @@ class Steps:
         self.do(what, lambda: must(pg.units(*words, seconds=SECONDS_TO_START), what))
 
     def note(self, what: str) -> None:
-        """Says what needs no step."""
+        """Prints a line about something that needs no step."""
         print(what, flush=True)
 
     def file(self, path: str, text: str, mode: int = 0o644, owner: Optional[str] = None) -> bool:
-        """Writes a file unless it has that text, and returns whether it did not have it."""
+        """Writes a file unless it has this text already. Returns whether it had another text."""
         try:
             with open(path, encoding="utf-8") as file:
                 if file.read() == text:
@@ -114,16 +114,16 @@ class Steps:
 
 
 def settings_of(server: Server, at: Found, choices: Choices) -> str:
-    """Returns the settings of the server: those of a standby and of a primary, since it may become either."""
+    """Returns the server's settings, for both roles: it may become a primary or a standby."""
     lines = [
         "# Written by booth-postgresql setup: run that again to change it.",
         f"primary_conninfo = {quoted(pg.conninfo(server))}",
         "recovery_target_timeline = 'latest'",
         "hot_standby = on",
-        "# a former primary can be rewound",
+        "# pg_rewind needs this to bring back a former primary",
         "wal_log_hints = on",
         f"wal_keep_size = '{choices.keeps}'",
-        "# a shutdown waits this long for a peer that is gone: less than the margin less the kill time",
+        "# a shutdown waits this long for a peer that is gone; keep it below the margin minus the kill time",
         "wal_sender_timeout = '5s'",
         "wal_receiver_timeout = '5s'",
         "wal_receiver_status_interval = '1s'",
@@ -141,12 +141,12 @@ def settings_of(server: Server, at: Found, choices: Choices) -> str:
 
 
 def quoted(value: str) -> str:
-    """Returns a value as postgresql.conf has it."""
+    """Returns a value in the quotes of postgresql.conf."""
     return "'" + value.replace("\\", "\\\\").replace("'", "''") + "'"
 
 
 def text_of(path: str) -> str:
-    """Returns what a file holds, and nothing if it is missing."""
+    """Returns the text of a file, or an empty text if the file cannot be read."""
     try:
         with open(path, encoding="utf-8") as file:
             return file.read()
@@ -155,7 +155,7 @@ def text_of(path: str) -> str:
 
 
 def listens_here_alone(at: Found) -> bool:
-    """Returns whether only this machine reaches the server."""
+    """Returns whether the server listens only on addresses of this machine."""
     return configured(at, "listen_addresses").replace(" ", "") in ONLY_HERE
 
 
@@ -170,13 +170,13 @@ def access_of(server: Server) -> str:
 
 
 def with_access(text: str, server: Server) -> str:
-    """Returns pg_hba.conf with these lines as the first ones."""
+    """Returns pg_hba.conf with the lines for the sites' servers at its beginning."""
     rest = re.sub(f"{BEGIN}.*?{END}", "", text, flags=re.S)
     return access_of(server) + rest
 
 
 def needs_restart(server: Server) -> List[str]:
-    """Returns the parameters that the running server must be restarted for before another one can follow it."""
+    """Returns the parameters for which the server must be restarted before another server can follow it."""
     sql = "SELECT name, setting FROM pg_settings WHERE name IN ('listen_addresses', 'wal_level', 'max_wal_senders')"
     told = dict(line.split("|", 1) for line in (pg.psql(server, pg.spot(server), sql) or "").splitlines())
     found = []
@@ -190,7 +190,7 @@ def needs_restart(server: Server) -> List[str]:
 
 
 def write_common(steps: Steps, server: Server, at: Found, choices: Choices) -> None:
-    """Writes the files that a primary and a standby have alike."""
+    """Writes the files that a primary and a standby both have."""
     access_file = configured(at, "hba_file")
     steps.file(server.settings, settings_of(server, at, choices))
     if not server.settings.startswith(at.config_folder):
@@ -205,7 +205,7 @@ def write_common(steps: Steps, server: Server, at: Found, choices: Choices) -> N
 
 
 def write_units(steps: Steps, server: Server, at: Found) -> None:
-    """Has the unit start a standby, has the server watched, and has the ticket's follower run it."""
+    """Configures the unit to start a standby, the follower to run the server, and starts the unit that watches it."""
     if at.is_unit_ours:
         steps.file(f"{UNITS_FOLDER}/{server.unit}", UNIT.format(**server._asdict()))
     steps.file(f"{UNITS_FOLDER}/{server.unit}.d/booth.conf", DROP_IN.format(**server._asdict()))
@@ -217,7 +217,7 @@ def write_units(steps: Steps, server: Server, at: Found) -> None:
     steps.units("daemon-reload")
     if at.is_unit_ours:
         steps.units("enable", server.unit)
-    # (one that runs has the values of before)
+    # (restart: if the watching unit runs already, it has the old values)
     for word in ("enable", "restart"):
         steps.units(word, watch_of(server))
 
@@ -234,7 +234,7 @@ def must(done: pg.Ended, what: str) -> None:
 
 
 def write_password(steps: Steps, server: Server) -> str:
-    """Returns the password of the role, which is made where its file is missing."""
+    """Returns the password of the role. Makes one if its file is missing."""
     parts = text_of(server.passfile).strip().rsplit(":", 1)
     if len(parts) == 2:
         steps.note(f"{server.passfile} has the password of {server.role}")
@@ -251,13 +251,13 @@ def run_sql(server: Server, sql: str) -> None:
     try:
         done = subprocess.run(words, input=sql, capture_output=True, text=True, timeout=SECONDS_TO_START, check=False)
     except subprocess.TimeoutExpired as why:
-        raise Failed("the statements that make the role took too long") from why
+        raise Failed(f"the role {server.role} was not made within {SECONDS_TO_START} s") from why
     if done.returncode != 0:
-        raise Failed(f"the role {server.role} cannot be made: {rebuilding.last_line(done.stderr)}")
+        raise Failed(f"cannot make the role {server.role}: {rebuilding.last_line(done.stderr)}")
 
 
 def set_up_primary(server: Server, at: Found, choices: Choices) -> None:
-    """Puts a server that runs as the primary under the ticket. It is restarted only if that is needed and allowed."""
+    """Puts a server that runs as the primary under the ticket. Restarts it only if this is needed and allowed."""
     steps = Steps(choices.only_shows)
     recovers = pg.psql(server, pg.spot(server), "SELECT pg_is_in_recovery()")
     if recovers is None:
@@ -269,39 +269,39 @@ def set_up_primary(server: Server, at: Found, choices: Choices) -> None:
     is_under = os.path.exists(f"{UNITS_FOLDER}/{server.unit}.d/booth.conf")
     if restart and at.is_unit_ours and not is_under:
         raise Failed(
-            f"the server must be restarted once, for {', '.join(restart)}, and has no unit: set them, "
-            "restart it, and run setup again"
+            f"the server must be restarted once, for {', '.join(restart)}, and has no unit: set them manually, "
+            "restart the server, and run setup again"
         )
     if restart and not choices.restarts and not is_under:
-        raise Failed(f"the server must be restarted once, for {', '.join(restart)}: say --restart if that may be now")
+        raise Failed(f"the server must be restarted once, for {', '.join(restart)}: add --restart to allow this now")
     password = write_password(steps, server)
     write_common(steps, server, at, choices)
     if restart and not is_under:
-        steps.note(f"a restart is needed for {', '.join(restart)}")
+        steps.note(f"these settings need a restart: {', '.join(restart)}")
         steps.units("restart", server.unit)
         if not choices.only_shows and not pg.wait_until(lambda: pg.place_of(server) is not None, SECONDS_TO_START):
-            raise Failed(f"the server does not answer after its restart: journalctl -u {server.unit}")
+            raise Failed(f"the server does not answer after its restart: see journalctl -u {server.unit}")
     else:
         steps.do("reload the server's settings", lambda: pg.psql(server, pg.spot(server), "SELECT pg_reload_conf()"))
     rights = RIGHTS.format(role=server.role, password=password)
     steps.do(f"make the role {server.role}, which may replicate and rewind", lambda: run_sql(server, rights))
     write_units(steps, server, at)
     steps.note(
-        f"The primary runs on. Copy {server.passfile} to {' and '.join(server.peers)},\n"
-        f"run setup --standby there, grant the ticket here, and then start the follower at each site:\n"
+        f"The primary keeps running. Copy {server.passfile} to {' and '.join(server.peers)},\n"
+        f"run setup --standby there, and grant the ticket here. Then start the follower at each site:\n"
         f"systemctl enable --now booth-follow@{server.ticket}"
     )
 
 
 def fault_of_password(server: Server) -> Optional[str]:
-    """Returns why the password of the role cannot be used, or nothing."""
+    """Returns why the password of the role cannot be used, or `None` if it can."""
     if not text_of(server.passfile).strip():
         return f"{server.passfile} is missing: copy it from the primary's site"
     return None
 
 
 def check_sizes(server: Server, at: Found, address: str) -> List[str]:
-    """Returns the settings of which a standby has too little to follow its primary."""
+    """Returns the settings that are too low for a standby of this primary, each with the primary's value."""
     names = ", ".join(f"'{name}'" for name in AT_LEAST_AS_MANY)
     sql = f"SELECT name, setting FROM pg_settings WHERE name IN ({names})"
     told = pg.psql(server, pg.spot(server, address), sql) or ""
@@ -310,31 +310,31 @@ def check_sizes(server: Server, at: Found, address: str) -> List[str]:
 
 
 def local_system(server: Server) -> Optional[str]:
-    """Returns which database the directory has, whether or not a server runs, or nothing."""
+    """Returns the identifier of the database in the directory, or `None`. No server needs to run."""
     done = pg.as_owner(server, f"{server.bin}/pg_controldata", "-D", server.data, seconds=10)
     parts = re.search(r"^Database system identifier: *(\d+)$", done.out, re.M)
     return parts[1] if parts else None
 
 
 def set_up_standby(server: Server, at: Found, choices: Choices) -> None:
-    """Makes the local server a standby of the primary. Data that it had before stay beside the new ones."""
+    """Makes the local server a standby of the primary. Its old data stay in `.booth-old`."""
     steps = Steps(choices.only_shows)
     fault = fault_of_password(server)
     if fault is not None:
         raise Failed(fault)
     owner = pwd.getpwnam(server.owner)
-    what = f"give {server.passfile} to {server.owner} alone"
+    what = f"make {server.passfile} readable for {server.owner} only"
     steps.do(what, lambda: give(server.passfile, owner.pw_uid, owner.pw_gid))
     if choices.only_shows and os.stat(server.passfile).st_uid != owner.pw_uid:
-        steps.note(f"the primary is asked once {server.owner} can read that file: what is to be done depends on it")
+        steps.note(f"would then ask the primary as {server.owner}: the next steps depend on its answer")
         return
     address, place = primary_of(server)
     short = check_sizes(server, at, address)
     if short:
-        raise Failed(f"{at.config} must have at least what {address} has: {', '.join(short)}")
+        raise Failed(f"a setting here is lower than at {address}: set at least {', '.join(short)} in {at.config}")
     write_common(steps, server, at, choices)
     system = local_system(server)
-    # (a machine that was cloned has the same system, and is no standby of the other one by that)
+    # (a cloned machine has the same system identifier, but is not therefore a standby)
     is_standby = system == place.system and os.path.exists(f"{server.data}/standby.signal")
     if is_standby and not pg.is_kept(server, "rebuilding"):
         steps.note(f"{server.data} has the database of {address} already")
@@ -350,39 +350,39 @@ def set_up_standby(server: Server, at: Found, choices: Choices) -> None:
     write_units(steps, server, at)
     steps.units("restart", server.unit)
     if not choices.only_shows and not pg.wait_until(lambda: is_streaming(server), 60):
-        raise Failed(f"the standby does not get the log of {address}: the server's own log says why")
+        raise Failed(f"the standby does not receive the log of {address}: the server's own log has the cause")
     if not choices.only_shows:
         pg.keep(server, "in-step", str(int(time.time())))
     steps.note(
-        f"The standby follows {address}. Start the follower here too, once the ticket is granted:\n"
+        f"The standby follows {address}. When the ticket is granted, start the follower here too:\n"
         f"systemctl enable --now booth-follow@{server.ticket}"
     )
 
 
 def primary_of(server: Server) -> Tuple[str, pg.Place]:
-    """Returns the peer that is the primary, and how far it is."""
+    """Returns the peer that is the primary, with its place."""
     primaries = [(address, place) for address, place in pg.answered(server) if not place.is_standby]
     if not primaries:
         whys = [f"{peer}: {pg.why_unanswered(server, pg.spot(server, peer))}" for peer in server.peers]
         raise Failed(
-            f"no primary answers {server.role} at port {server.peer_port}: is it set up, has it this site's address "
-            f"as its peer, and is the port open? {'; '.join(whys)}"
+            f"no primary answers {server.role} at port {server.peer_port}. Run setup --primary there first, with this "
+            f"site's address as its peer, and open the port. {'; '.join(whys)}"
         )
     if len(primaries) > 1:
-        raise Failed(f"more than one peer is a primary: {', '.join(address for address, _ in primaries)}")
+        raise Failed(f"several peers are primaries: {', '.join(address for address, _ in primaries)}")
     return primaries[0]
 
 
 def give(path: str, user: int, group: int) -> None:
-    """Gives a file to its owner alone."""
+    """Sets the owner of a file, who alone may read and write it."""
     os.chown(path, user, group)
     os.chmod(path, 0o600)
 
 
 def copied(server: Server, address: str) -> None:
-    """Copies the data, and raises `Failed` if that does not succeed."""
+    """Copies the data, and raises `Failed` if the copy fails."""
     if pg.processes(server):
-        raise Failed(f"a server runs on {server.data} that {server.unit} did not start: stop it")
+        raise Failed(f"a server that {server.unit} did not start runs on {server.data}: stop it")
     reasons: List[str] = []
     if not rebuilding.copy(server, address, reasons.append):
         raise Failed("; ".join(reasons))
@@ -391,5 +391,5 @@ def copied(server: Server, address: str) -> None:
 
 
 def is_streaming(server: Server) -> bool:
-    """Returns whether the local standby gets the log."""
+    """Returns whether the local standby receives the primary's log."""
     return pg.psql(server, pg.spot(server), "SELECT status FROM pg_stat_wal_receiver") == "streaming"

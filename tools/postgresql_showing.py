@@ -1,4 +1,4 @@
-"""Shows a server under Booth, and takes it from under its ticket.
+"""Shows a server under Booth, and removes it from the control of its ticket.
 
 It is imported by booth-postgresql, and not run by itself.
 """
@@ -13,16 +13,16 @@ from postgresql_server import Place, Server
 UNITS_FOLDER = "/etc/systemd/system"
 FOLLOW_FOLDER = "/etc/booth/follow"
 KEPT = {
-    "primary": "a primary runs, or may run: it was promoted by its follower",
-    "former": "it was the primary last, under the lease of term {}",
+    "primary": "its follower promoted it: a primary runs, or may run",
+    "former": "it was the last primary, under the lease of term {}",
     "timeline": "it began timeline {}",
-    "rebuilding": "its data are being brought up to those of another site ({})",
-    "accepted": "the next promotion asks no peer",
+    "rebuilding": "its data are being rewound or copied ({})",
+    "accepted": "the next promotion does not need a peer's answer",
 }
 
 
 def spelled(place: Optional[Place]) -> str:
-    """Returns what a server is, in a few words."""
+    """Returns the role and the place of a server as text."""
     if place is None:
         return "does not answer"
     role = "standby" if place.is_standby else "primary"
@@ -30,7 +30,7 @@ def spelled(place: Optional[Place]) -> str:
 
 
 def lines(server: Server) -> List[str]:
-    """Returns what is shown of a server."""
+    """Returns the lines that show a server."""
     own = pg.place_of(server)
     shown = [
         f"{server.name}: {server.data}, follows ticket {server.ticket}",
@@ -38,7 +38,7 @@ def lines(server: Server) -> List[str]:
         *(f"  {address:13}  {spelled(pg.place_of(server, address))}" for address in server.peers),
     ]
     state = pg.follower_state(server).get("service")
-    shown.append(f"  its follower   {f'says the service is {state}' if state else 'says nothing'}")
+    shown.append(f"  its follower   {f'reports the service as {state}' if state else 'reports nothing'}")
     if own is not None and own.is_standby:
         receiver = pg.psql(server, pg.spot(server), "SELECT status FROM pg_stat_wal_receiver")
         shown.append(f"  receives       {receiver or 'nothing'}")
@@ -53,10 +53,12 @@ def lines(server: Server) -> List[str]:
 
 
 def remove(server: Server) -> None:
-    """Takes a server from under its ticket. Its data and settings stay, and it runs on as what it is."""
+    """Removes a server from the control of its ticket. Its data, settings and role stay, and it keeps running."""
     active = pg.units("is-active", f"booth-follow@{server.ticket}.service").out.strip()
     if active in ("active", "activating", "reloading", "deactivating"):
-        raise pg.Failed(f"booth-follow@{server.ticket} is {active}: systemctl disable --now it first")
+        raise pg.Failed(
+            f"booth-follow@{server.ticket} is {active}: run systemctl disable --now booth-follow@{server.ticket} first"
+        )
     pg.units("disable", "--now", f"booth-postgresql@{server.name}.service")
     for path in (f"{UNITS_FOLDER}/{server.unit}.d/booth.conf", f"{FOLLOW_FOLDER}/{server.ticket}.env"):
         if os.path.exists(path):
@@ -67,4 +69,4 @@ def remove(server: Server) -> None:
     os.unlink(pg.conf_path(server.name))
     print(f"removed {pg.conf_path(server.name)}")
     pg.units("daemon-reload")
-    print(f"It starts as a standby while {server.data}/standby.signal is there: pg_ctl promote makes it a primary")
+    print(f"It starts as a standby while {server.data}/standby.signal exists: pg_ctl promote makes it a primary")

@@ -1,6 +1,6 @@
-"""Keeps a server under Booth a standby that follows the primary: what `booth-postgresql watch` does.
+"""Keeps a server that is not the primary a standby that follows the primary: the command `booth-postgresql watch`.
 
-It is imported by booth-postgresql, and not run by itself. It never promotes: the follower of the ticket does.
+It is imported by booth-postgresql, and not run by itself. It never promotes a server: the follower of the ticket does.
 """
 
 import os
@@ -15,28 +15,28 @@ from postgresql_rebuilding import COPY, PARTED, REWIND, WAIT
 from postgresql_server import Failed, Place, Server
 
 SECONDS_BETWEEN_LOOKS = 2
-# while a former primary comes back: until it was in step it is not promoted if no other site answers
+# used while a former primary comes back: until it is in step, it is not promoted if no other site answers
 SECONDS_BETWEEN_HURRIED_LOOKS = 0.5
-# after so many looks at which a standby gets nothing its place is compared with that of the primary
+# number of looks at which a standby receives nothing, before its position is compared with the primary's
 LOOKS_WITHOUT_STREAM = 2
-# after so many looks at which no primary answers although the follower started one, that follower starts again
+# number of looks at which the started primary does not answer, before its follower is restarted
 LOOKS_WITHOUT_SERVICE = 3
-# each so many looks it is noted that a standby is in step
+# number of looks between two notes that a standby is in step
 LOOKS_BETWEEN_NOTES = 5
 SECONDS_BETWEEN_RESTARTS = 10
 SECONDS_BETWEEN_REBUILDS = 20
 SECONDS_BETWEEN_STARTS = 30
 SECONDS_OF_A_CHECKPOINT, SECONDS_OF_A_STOP = 3_600, 600
-# another site cannot have had the ticket and a primary within that time
+# within this time another site cannot have acquired the ticket and started a primary
 SECONDS_OF_A_LEASE_UNSEEN = 3
-# while the follower does one of these, the server is its
+# states of the service in which only the follower acts on the server
 BUSY = ("starting", "stopping", "killing")
-# it has started it, and looks now and then whether it runs
+# states of a service that the follower has started
 FOLLOWED = ("running", "ended")
 
 
 class Watch:
-    """What the looks before have seen."""
+    """The results of the earlier looks."""
 
     def __init__(self, server: Server) -> None:
         self.server = server
@@ -48,14 +48,14 @@ class Watch:
         self.said: Dict[str, str] = {}
 
     def say(self, text: str, about: str = "") -> None:
-        """Prints a line on standard error, and about one thing no line twice in a row."""
+        """Prints a line on standard error, unless it repeats the last line that was printed about `about`."""
         if not about or self.said.get(about) != text:
             print(f"booth-postgresql: {self.server.name}: {text}", file=sys.stderr, flush=True)
         if about:
             self.said[about] = text
 
     def look(self) -> None:
-        """Looks once, and does what is to be done."""
+        """Looks at the server once, and does what is due."""
         server = self.server
         if pg.is_kept(server, "rebuilding"):
             self.resume()
@@ -85,26 +85,26 @@ class Watch:
         self.follow()
 
     def start(self) -> None:
-        """Starts a server that failed, as a standby. One that an operator stopped stays so."""
+        """Starts a server whose unit failed, as a standby. A server that an operator stopped stays stopped."""
         now = time.monotonic()
         if now - self.started >= SECONDS_BETWEEN_STARTS and pg.units("is-failed", "-q", self.server.unit).status == 0:
             self.started = now
-            self.say(f"starts {self.server.unit}, which failed")
+            self.say(f"{self.server.unit} failed: starts it again, as a standby")
             done = pg.units("start", "--no-block", self.server.unit)
             if done.status != 0:
                 self.say(f"cannot start {self.server.unit}: {rebuilding.last_line(done.err)}", "start")
 
     def note_term(self, term: int) -> None:
-        """Notes that no other site had a primary since this one's: until a lease of this term, which was seen.
+        """Records that no other site had a primary between this site's primary and this site's lease of this term.
 
-        A primary that answers after the lease was read shows that, and so does a lease that was never lost.
+        A primary that answers after the lease was read proves this. A lease that was never lost proves it too.
         """
         noted = pg.kept_value(self.server, "former")
         if noted is not None and (not noted.isdigit() or int(noted) < term):
             pg.keep(self.server, "former", str(term))
 
     def see_lease(self) -> Optional[record_file.Lease]:
-        """Returns the lease of this site, whose term may have risen since the last look although it was never lost."""
+        """Returns the lease of this site. Its term may have risen since the last look although it was never lost."""
         before, seen = self.held, self.seen
         self.held, self.seen = pg.lease(self.server), time.monotonic()
         if self.held is not None and before is not None and self.held.term > before.term:
@@ -114,7 +114,7 @@ class Watch:
         return self.held
 
     def see_no_primary(self, service: str, is_certain: bool) -> None:
-        """Has the follower look, if the server is no primary for certain, or none answered at some looks in a row."""
+        """Restarts the follower if the server is certainly no primary, or did not answer at several looks in a row."""
         if self.is_paused():
             return
         self.without_service += LOOKS_WITHOUT_SERVICE if is_certain else 1
@@ -124,12 +124,12 @@ class Watch:
             self.start_follower_again()
 
     def start_follower_again(self) -> None:
-        """Has the follower of the ticket find that its service does not run, stop and start it."""
+        """Restarts the follower of the ticket, which then finds that its service does not run, and starts it."""
         now = time.monotonic()
         if now - self.restarted >= SECONDS_BETWEEN_RESTARTS:
             self.restarted = now
             self.without_service = 0
-            self.say("the primary ended by itself: has its follower start it again")
+            self.say("the primary ended by itself: its follower starts it again")
             pg.units("restart", "--no-block", f"booth-follow@{self.server.ticket}.service")
 
     def is_paused(self) -> bool:
@@ -137,18 +137,18 @@ class Watch:
         return os.path.exists(f"{pg.STATE_FOLDER}/{self.server.ticket}.paused")
 
     def demote(self, service: str) -> None:
-        """Stops a primary that the follower did not start, as one that was promoted manually."""
+        """Stops a primary that the follower did not start, for example one that was promoted manually."""
         is_strange = service in ("stopped", "failed") and not self.is_paused()
         self.without_follower = self.without_follower + 1 if is_strange else 0
         if self.without_follower >= LOOKS_WITHOUT_SERVICE:
             self.without_follower = 0
-            self.say("is a primary that its follower did not start: has it stopped")
+            self.say("is a primary that its follower did not start: stops it")
             done = pg.run(pg.PROGRAM, self.server.name, "stop", seconds=SECONDS_OF_A_STOP)
             if done.status != 0:
                 self.say(f"the stop ended with status {done.status}: {rebuilding.last_line(done.err)}")
 
     def see_timeline(self) -> None:
-        """Notes the timeline of a primary, and writes its first checkpoint: no server can be rewound to it before."""
+        """Records the timeline of a primary, and has it write the first checkpoint, which a rewind to it needs."""
         line = "('x' || substr(pg_walfile_name(pg_current_wal_lsn()), 1, 8))::bit(32)::int"
         sql = f"SELECT timeline_id, {line} FROM pg_control_checkpoint()"
         told = (pg.psql(self.server, pg.spot(self.server), sql) or "").split("|")
@@ -160,7 +160,7 @@ class Watch:
             pg.psql(self.server, pg.spot(self.server), "CHECKPOINT", SECONDS_OF_A_CHECKPOINT)
 
     def follow(self) -> None:
-        """Sees whether the standby gets the log of a primary, and why not."""
+        """Checks whether the standby receives the log of a primary, and if not, why."""
         server = self.server
         self.is_coming_back = False
         if pg.psql(server, pg.spot(server), "SELECT status FROM pg_stat_wal_receiver") == "streaming":
@@ -175,12 +175,12 @@ class Watch:
         own = pg.place_of(server)
         primaries = [(address, place) for address, place in pg.answered(server) if not place.is_standby]
         if own is None or len(primaries) != 1:
-            self.say("no primary answers" if not primaries else "more than one peer is a primary", "stream")
+            self.say("no primary answers" if not primaries else "several peers are primaries", "stream")
             return
         self.compare(own, *primaries[0])
 
     def is_in_step(self) -> None:
-        """Notes when the standby last had all that its primary had, and that it is no former primary any more."""
+        """Records when the standby last had all data of its primary. It then no longer counts as the last primary."""
         server = self.server
         self.in_step += 1
         # (a former primary may be needed as the next one at once)
@@ -193,11 +193,11 @@ class Watch:
             return
         address, peer = primaries[0]
         if self.is_own_timeline(peer) or before.timeline == peer.timeline and before.position > peer.position:
-            self.say(f"gets a log of {address} that is no continuation of its own", "stream")
+            self.say(f"gets a log of {address} that does not continue its own", "stream")
             self.rebuild(address, PARTED)
             return
         if own.timeline != peer.timeline or own.position < peer.position:
-            # (it gets up: the next look is at that too)
+            # (it is catching up: the next look checks again)
             self.in_step = 0
             return
         self.say(f"follows {address} on timeline {own.timeline}", "stream")
@@ -207,9 +207,10 @@ class Watch:
                 pg.forget(server, what)
 
     def is_own_timeline(self, peer: Place) -> bool:
-        """Returns whether the primary's timeline is one that this server began: then the two share its number alone.
+        """Returns whether the primary's timeline has the number of a timeline that this server began itself.
 
-        A server gets no other log of a timeline that it began, and each promotion begins one.
+        If it has, the two timelines share only the number: each promotion begins a new timeline, and no other server
+        continues a timeline that this server began.
         """
         return pg.kept_value(self.server, "timeline") == str(peer.timeline)
 
@@ -217,14 +218,14 @@ class Watch:
         """Finds out what the standby needs to follow this primary, and does it."""
         server = self.server
         if own.system != peer.system:
-            self.say(f"{address} has another database: booth-postgresql setup --standby copies it", "stream")
+            self.say(f"{address} has another database: run booth-postgresql setup --standby to copy it here", "stream")
             return
         history = pg.history_of(server, address, peer.timeline)
         how = rebuilding.parted(own, pg.history_of(server, None, own.timeline), peer, history)
         if self.is_own_timeline(peer):
             how = PARTED
         if how == WAIT and rebuilding.lacks_log(server, own, address, peer):
-            self.say(f"{address} has removed the log that is needed here", "stream")
+            self.say(f"{address} no longer has the log that this standby needs", "stream")
             how = COPY
         if how == WAIT:
             self.say(f"does not get the log of {address} yet", "stream")
@@ -234,11 +235,11 @@ class Watch:
             self.say(f"waits for the first checkpoint of {address}", "stream")
             return
         if how == REWIND and lost is not None:
-            self.say(f"its data parted from those of {address}: {lost} bytes of its log are dropped")
+            self.say(f"its data diverged from those of {address}: {lost} bytes of its log are dropped")
         self.rebuild(address, how)
 
     def rebuild(self, address: str, how: str) -> None:
-        """Brings the data up to those of the primary, unless that was tried just now."""
+        """Rewinds or copies the data from the primary, unless the last try was less than 20 seconds ago."""
         now = time.monotonic()
         if now - self.rebuilt >= SECONDS_BETWEEN_REBUILDS:
             self.rebuilt = now
@@ -248,22 +249,22 @@ class Watch:
             self.rebuilt = time.monotonic()
 
     def resume(self) -> None:
-        """Goes on with what was begun before."""
+        """Continues an interrupted rewind or copy."""
         kind, _, address = (pg.kept_value(self.server, "rebuilding") or "").partition(" ")
-        # (what is half rewound is so by the data of one site)
+        # (a directory that is half rewound can be finished only with the data of the same site)
         peers = (address,) if address in self.server.peers and kind != PARTED else self.server.peers
         for peer in peers:
             place: Optional[Place] = pg.place_of(self.server, peer)
             if place is not None and not place.is_standby:
                 self.rebuild(peer, PARTED if kind == PARTED else REWIND)
                 return
-        self.say(f"waits for a primary at {' or '.join(peers)}, whose data are needed here", "stream")
+        self.say(f"waits for a primary at {' or '.join(peers)}, to rewind or copy its data from there", "stream")
 
 
 def watch(server: Server) -> None:
     """Looks again and again, until a signal ends it."""
     looks = Watch(server)
-    looks.say("watches: it is a standby unless its ticket is held here")
+    looks.say("is watched: it is a standby unless this site holds its ticket")
     while True:
         started = time.monotonic()
         try:
@@ -271,6 +272,6 @@ def watch(server: Server) -> None:
         except Failed as why:
             looks.say(str(why), "failed")
         except OSError as why:
-            looks.say(f"cannot look: {why}", "failed")
+            looks.say(f"cannot check the server: {why}", "failed")
         pause = SECONDS_BETWEEN_HURRIED_LOOKS if looks.is_coming_back else SECONDS_BETWEEN_LOOKS
         time.sleep(max(0.2, started + pause - time.monotonic()))

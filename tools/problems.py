@@ -1,17 +1,17 @@
-"""What may be wrong with a cluster or with its configuration, and how bad it is.
+"""Problems of a cluster or of its configuration, with their severity.
 
-It is imported by what booth-status is made of, and not run by itself.
+It is imported by the modules of booth-status, and not run by itself.
 """
 
 from typing import NamedTuple, Optional
 
-# how bad it is; also the exit status of booth-status
+# the severities, which are also the exit statuses of booth-status
 NOTICE, WARNING, CRITICAL = 0, 1, 2
 WORDS = {NOTICE: "notice", WARNING: "warning", CRITICAL: "critical"}
 
 
 class Problem(NamedTuple):
-    """Something that an operator must know. `kind` is one of those that booth-status(8) lists."""
+    """A problem that an operator must know. booth-status(8) lists the kinds."""
 
     severity: int
     kind: str

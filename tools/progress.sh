@@ -1,6 +1,6 @@
 #!/bin/sh
-# Reads what `rt run` prints, and says which crate of crates.txt it is at, as in `3 of 11: booth_wire`.
-# A crate whose proof stands from an earlier run is not named.
+# Reads the output of `rt run`, and prints which crate of crates.txt it proves now, for example `3 of 11: booth_wire`.
+# A crate that an earlier run has proved is not named.
 
 crates=$(sed -n 's/^\([a-z0-9_]*\):.*/\1/p' crates.txt)
 count=$(echo "$crates" | wc -l)

@@ -1,18 +1,18 @@
-"""What a record file says, as docs/RECORDS.md has its bytes: its slots, and which of them is in force.
+"""Reads record files, in the form of docs/RECORDS.md: their slots, and which one is in force.
 
-Version 1 has a slot at 0 and one at 64. Version 2, which says what a member promised too, has one at 128 and one at 256.
-It is imported by booth-record and the tests, and not run by itself. It writes nothing and reads no clock.
+Version 1 has slots at 0 and at 64. Version 2, which also has the member's promises, has slots at 128 and at 256. It is
+imported by booth-record and the tests, and not run by itself. It writes nothing and reads no clock.
 """
 
 import struct
 from typing import List, NamedTuple, Optional
 
-# where the last slot's record ends; what is missing of a file counts as zeros
+# the end of the last slot's record; a shorter file is read as if zeros followed
 FILE_BYTES = 336
 OPEN = 1
 NUMBER_AT, BODY_AT = 8, 16
 
-# a manual ticket's lease has no end: in a record that is so many milliseconds
+# the end of a manual ticket's lease in a record, in milliseconds: it stands for no end
 NO_END = 2**62
 
 # the flags of version 2
@@ -20,11 +20,11 @@ HAS_LEASE, HAS_BOUND, HAS_PROMISE = 1, 2, 4
 
 
 class Torn(Exception):
-    """A slot that counts holds no record; the text says why."""
+    """A valid slot has no record in it; the text is the cause."""
 
 
 class Layout(NamedTuple):
-    """Where a slot stands, and how the record in it is spelled."""
+    """The place of a slot, and the form of its record."""
 
     place: int
     version: int
@@ -33,8 +33,8 @@ class Layout(NamedTuple):
 
 # version, term, flag, the lease's term and end; zeros
 FIRST_FORM = struct.Struct(">IIIIQQ")
-# version, term, flags, the lease's term and end; to whom the member is bound; to whom it promised, the promise's term,
-# zeros and its end; until when the member abstains; zeros
+# version, term, flags, the lease's term and end; the site that the member has voted for; the promise's member, its
+# term, zeros and its end; until when the member abstains from elections; zeros
 SECOND_FORM = struct.Struct(">IIIIQIIIIQQQ")
 LAYOUTS = (
     Layout(0, 1, FIRST_FORM),
@@ -44,19 +44,19 @@ LAYOUTS = (
 )
 
 
-# a file of version 2 of a member that holds nothing, promised nothing and abstains no more: its one slot has number 1
+# a file of version 2 without a lease, a promise or an abstention, whose only slot has the number 1
 NOTHING_PLEDGED = bytes(128) + bytes([OPEN]) + bytes(7) + struct.pack(">QI", 1, 2) + bytes(60)
 
 
 class Lease(NamedTuple):
-    """`until` is in milliseconds since 1970 on the member's clock, as all moments here."""
+    """A lease. `until` is in milliseconds since 1970 on the member's clock, as all times here."""
 
     term: int
     until: int
 
 
 class Promise(NamedTuple):
-    """`to` is the id of the member that it was given to."""
+    """A promise. `to` is the id of the member that received it."""
 
     to: int
     term: int
@@ -64,7 +64,7 @@ class Promise(NamedTuple):
 
 
 class Record(NamedTuple):
-    """What is kept of a ticket. Of version 1 nobody is bound and nothing promised, and `abstain` is 0."""
+    """The record of a ticket. A record of version 1 has no vote and no promise, and `abstain` is 0."""
 
     version: int
     term: int
@@ -75,7 +75,7 @@ class Record(NamedTuple):
 
 
 class Slot(NamedTuple):
-    """A slot of the file. One that is closed does not count, and has no record; `why` says what tears an open one."""
+    """A slot of the file. A closed slot is not valid and has no record. `why` is the cause if an open slot is torn."""
 
     place: int
     version: int
@@ -86,7 +86,7 @@ class Slot(NamedTuple):
 
 
 def first_record(fields):
-    """The record of version 1 with these fields."""
+    """Returns the record of version 1 with these fields."""
     _, term, flag, lease_term, until, zeros = fields
     if flag not in (0, 1):
         raise Torn(f"its flag is {flag}, neither 0 nor 1")
@@ -96,7 +96,7 @@ def first_record(fields):
 
 
 def second_record(fields):
-    """The record of version 2 with these fields."""
+    """Returns the record of version 2 with these fields."""
     _, term, flags, lease_term, lease_until, bound, to, promise_term, zero, promise_until, abstain, zeros = fields
     if flags > HAS_LEASE | HAS_BOUND | HAS_PROMISE:
         raise Torn(f"its flags are {flags}, more than 7")
@@ -114,7 +114,7 @@ def second_record(fields):
 
 
 def slot_at(layout, content):
-    """What the slot of this layout holds."""
+    """Returns the slot with this layout."""
     is_open = content[layout.place] == OPEN
     number = int.from_bytes(content[layout.place + NUMBER_AT : layout.place + BODY_AT], "big")
     fields = layout.form.unpack_from(content, layout.place + BODY_AT)
@@ -130,14 +130,14 @@ def slot_at(layout, content):
 
 
 def slots_in(content) -> List[Slot]:
-    """The slots of a file with these bytes, in their order."""
+    """Returns the slots of a file with these bytes, in their order."""
     whole = content[:FILE_BYTES].ljust(FILE_BYTES, b"\0")
     return [slot_at(layout, whole) for layout in LAYOUTS]
 
 
 def in_force(slots):
-    """The slot that the file stands for, or None if it keeps no record, and if it is torn."""
+    """Returns the slot in force, or `None` if the file has no record or is torn."""
     if any(slot.why for slot in slots):
         return None
-    # (of equal numbers the first counts, as max takes it)
+    # (of slots with equal numbers, max returns the first)
     return max((slot for slot in slots if slot.record), key=lambda slot: slot.number, default=None)

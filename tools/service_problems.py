@@ -1,6 +1,6 @@
-"""What is shown of the services of this machine, and what is wrong with them.
+"""The services of this machine in the table of booth-status, and their problems.
 
-It is imported by what booth-status is made of, and not run by itself. It asks nobody and reads no clock.
+It is imported by the modules of booth-status, and not run by itself. It asks no other program and reads no clock.
 """
 
 from typing import Iterator, Optional
@@ -11,17 +11,17 @@ from service_state import ENDED, FAILED, KILLING, RUNNING, STARTING, STOPPED, ST
 from services import Here, Service
 from wording import count, span
 
-# how the table names a state
+# states that have another name in the table
 SHOWN = {RUNNING: "running here"}
 NO_FOLLOWER, PAUSED, UNKNOWN = "no follower", "paused", "unknown"
-# the service does not run yet, or not for long any more
+# states in which the service starts or ends
 CHANGES = (STARTING, STOPPING, KILLING)
-# something of the service may run
+# states in which a part of the service may run
 RUNS = (STARTING, RUNNING, STOPPING, KILLING)
 
 
 def shown(service: Optional[Service]) -> str:
-    """What the table has of a service."""
+    """Returns the table's entry for a service."""
     if service is None:
         return "-"
     if service.lives is False:
@@ -34,13 +34,13 @@ def shown(service: Optional[Service]) -> str:
 
 
 def seconds_to_kill(service: Service) -> Optional[float]:
-    """In how long the switch kills the service, unless the lease is renewed; None where no end is armed."""
+    """Returns in how many seconds the switch kills the service without a renewal, or `None` if no end is armed."""
     state = service.state
     return None if state is None or not state.kill_at else max(0.0, state.kill_at - service.now)
 
 
 def problems(here: Here, ticket: Ticket, is_held_here: bool) -> Iterator[Problem]:
-    """What is wrong with the service of a ticket, which this site holds or does not."""
+    """Yields the problems of a ticket's service. `is_held_here` is whether this site holds the ticket."""
     name = ticket.name
     service = here.services.get(name)
     if service is None:
@@ -62,36 +62,36 @@ def problems(here: Here, ticket: Ticket, is_held_here: bool) -> Iterator[Problem
 
 
 def is_down(state: State, now: float, ticket: Ticket) -> bool:
-    """Whether the service does not run: it is over, or its start or its stop takes longer than a lease."""
+    """Returns whether the service is down: it has ended, or its start or stop takes longer than a lease."""
     return state.service in (STOPPED, ENDED) or state.service in CHANGES and now - state.since > ticket.expire
 
 
 def down(service: Service) -> str:
-    """What is said of a service that does not run where it has to."""
+    """Returns the message about a service that is down although this site holds the ticket."""
     state, name = service.state, service.ticket
     assert state is not None
     lasts = span(service.now - state.since)
     if state.service == ENDED:
-        text = f"{name}: this site holds it, and its service ended by itself, which was seen {lasts} ago"
-        return f"{text}: systemctl restart booth-follow@{name} has it started again"
-    text = f"{name}: this site holds it, and its service has been {state.service} for {lasts}"
-    return text if service.lives is False else f"{text}: journalctl -u booth-follow@{name} says why"
+        text = f"{name}: this site holds it, but its service ended by itself, as was seen {lasts} ago"
+        return f"{text}: systemctl restart booth-follow@{name} starts it again"
+    text = f"{name}: this site holds it, but its service has been {state.service} for {lasts}"
+    return text if service.lives is False else f"{text}: journalctl -u booth-follow@{name} has the cause"
 
 
 def of_follower(here: Here, service: Service, is_held_here: bool) -> Iterator[Problem]:
-    """What is said where no follower lives."""
+    """Yields the problem if no follower of the ticket runs."""
     if service.lives is not False:
         return
     name, start = service.ticket, f"systemctl start booth-follow@{service.ticket}"
     if service.state is not None and service.state.service in RUNS:
         left = seconds_to_kill(service)
         killed = "" if left is None else f", and is killed in {span(left)}"
-        text = f"{name}: no follower lives, and its service runs here{killed}: {start}"
+        text = f"{name}: no follower runs, but its service runs here{killed}: {start}"
     elif is_held_here:
-        text = f"{name}: this site holds it, and no follower lives: {start}"
+        text = f"{name}: this site holds it, but no follower runs: {start}"
     elif service.has_unit:
-        # (one that is stopped and disabled is to be so)
-        text = f"{name}: no follower lives here, so nothing starts its service if this site gets it: {start}"
+        # (a unit that is stopped and disabled was disabled on purpose)
+        text = f"{name}: no follower runs here, so nothing starts its service if this site gets it: {start}"
         yield Problem(WARNING, "no-follower", text, here.site, ticket=name)
         return
     else:
@@ -100,7 +100,7 @@ def of_follower(here: Here, service: Service, is_held_here: bool) -> Iterator[Pr
 
 
 def failed(service: Service) -> str:
-    """What is said of a service that failed to start."""
+    """Returns the message about a service that failed to start."""
     state, name = service.state, service.ticket
     assert state is not None
     text = f"{name}: its service failed to start here, {count(state.failed_starts, 'time')} in a row"

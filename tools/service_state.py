@@ -13,12 +13,12 @@ FOLDER = "/run/booth-follow"
 FILE_BYTES = 65_536
 STOPPED, STARTING, RUNNING, ENDED = "stopped", "starting", "running", "ended"
 STOPPING, KILLING, FAILED = "stopping", "killing", "failed"
-# nothing of the service runs
+# states in which no part of the service runs
 OVER = (STOPPED, FAILED)
 
 
 class State(NamedTuple):
-    """What is known of a service in this boot. Times are seconds since the boot; the daemon's clock has `ends`."""
+    """The state of a service in this boot. Times are seconds since the boot; `ends` is by the daemon's clock."""
 
     service: str
     since: float = 0.0
@@ -30,29 +30,29 @@ class State(NamedTuple):
     word: str = ""
     status: str = ""
     is_paused: bool = False
-    # the end that the next follower reads, or None if no file has one
+    # the end that the next follower reads, or `None` if there is no file with an end
     armed: Optional[int] = None
 
 
 def folder() -> str:
-    """The folder of the states. A test names another one."""
+    """Returns the folder of the states. Tests set another one."""
     return os.environ.get("BOOTH_FOLLOW_RUN") or FOLDER
 
 
 def since_boot() -> float:
-    """The time since the boot of this machine, in seconds."""
+    """Returns the time since the boot of this machine, in seconds."""
     return time.clock_gettime(time.CLOCK_BOOTTIME)
 
 
 def text_of(path: str) -> Optional[str]:
-    """What a file of the folder has, or None if it is missing."""
+    """Returns the text of a file in the folder, or `None` if it is missing."""
     if not os.path.lexists(path):
         return None
     return configuration.bytes_of(path, FILE_BYTES).decode("ascii", "backslashreplace")
 
 
 def variable_in(path: str, name: str) -> Optional[str]:
-    """The last value of this name in a file of NAME=VALUE lines, as systemd reads them; None if there is none."""
+    """Returns the last value of a variable in a file of NAME=VALUE lines, as systemd reads them, or `None`."""
     if not os.path.exists(path):
         return None
     value = None
@@ -64,9 +64,9 @@ def variable_in(path: str, name: str) -> Optional[str]:
 
 
 def read(ticket: str) -> Optional[State]:
-    """The state of this ticket's service, or None if nothing is known of it in this boot.
+    """Returns the state of this ticket's service, or `None` if the follower has not run in this boot.
 
-    Raises `Unreadable` if a file is none that follow-service writes.
+    Raises `Unreadable` if a file has another form than follow-service writes.
     """
     path = os.path.join(folder(), f"{ticket}.state")
     text = text_of(path)
@@ -84,7 +84,7 @@ def read(ticket: str) -> Optional[State]:
             None if ends is None else int(ends),
         )
     except (KeyError, ValueError) as why:
-        raise configuration.Unreadable(f"{path} or the end beside it is no state of a service: {why}") from why
+        raise configuration.Unreadable(f"{path}, or the file of its end, is not a state of a service: {why}") from why
 
 
 # the numbers of a state, in its order

@@ -1,6 +1,6 @@
-"""The services that follow a ticket of a configuration on this machine: their states, and whether a follower lives.
+"""Finds the services that follow a ticket of a configuration on this machine: their states, and their followers.
 
-It is imported by booth-status, and not run by itself. What it finds tools/service_problems.py judges.
+It is imported by booth-status, and not run by itself. tools/service_problems.py judges what it finds.
 """
 
 import contextlib
@@ -18,10 +18,10 @@ import service_state
 from configuration import Configuration, Unreadable
 from service_state import State
 
-# where systemctl lies, beside PATH
+# the directories with systemctl, in addition to PATH
 PLACES = "/usr/bin:/bin:/usr/sbin:/sbin"
 UNIT = re.compile(r"booth-follow@(.+)\.service")
-# a unit in one of these states has a follower that runs, comes or goes
+# states of a unit whose follower runs, starts or stops
 LIVE = ("active", "activating", "reloading", "deactivating")
 # the options of booth-follow that have a value
 VALUED = ("-c", "-s", "-d", "-e", "-m", "-k")
@@ -29,35 +29,35 @@ PROGRAM = "booth-follow"
 
 
 class Service(NamedTuple):
-    """What is known of a service here. `now` is the time since the boot, in seconds."""
+    """A service on this machine. `now` is the time since the boot, in seconds."""
 
     ticket: str
-    # None where nothing is known of it in this boot, or what is known cannot be read, which `why` says
+    # `None` if the follower has not run in this boot, or if the state cannot be read; `why` then has the cause
     state: Optional[State]
     why: str
-    # whether a follower lives, or None where that cannot be told
+    # whether a follower runs, or `None` if that is unknown
     lives: Optional[bool]
-    # whether systemd has a unit of the follower, as one that is enabled
+    # whether systemd lists a unit of the follower, as it does for an enabled one
     has_unit: bool
     now: float
 
 
 class Here(NamedTuple):
-    """The site that this machine is, where that can be told, and its services by their tickets."""
+    """The site of this machine, if it is known, and its services by their tickets."""
 
     site: Optional[str] = None
     services: Dict[str, Service] = {}
-    # the cluster of Pacemaker of which this machine is a node, if that has leases
+    # the Pacemaker cluster of this machine, if it has leases
     cluster: Optional[pacemaker_status.ClusterSite] = None
 
 
 def systemctl() -> Optional[str]:
-    """The path of systemctl, or None."""
+    """Returns the path of systemctl, or `None`."""
     return shutil.which("systemctl", path=f"{os.environ.get('PATH', '')}{os.pathsep}{PLACES}")
 
 
 class Units:
-    """What systemd says of the followers' units. It is asked at once, and says so meanwhile."""
+    """A question to systemd about the followers' units, which runs while the members are asked."""
 
     def __init__(self) -> None:
         found = systemctl()
@@ -70,7 +70,7 @@ class Units:
                 self.process = subprocess.Popen([found, *words], **streams)
 
     def answer(self, seconds: float) -> Optional[Dict[str, bool]]:
-        """Whether each ticket's follower lives, within so many seconds; None where systemd does not say."""
+        """Returns whether each ticket's follower runs, after at most `seconds`; `None` if systemd does not answer."""
         if self.process is None:
             return None
         try:
@@ -83,20 +83,20 @@ class Units:
 
 
 def units_in(text: str) -> Dict[str, bool]:
-    """Whether each ticket's follower lives, by a list of units."""
+    """Returns whether each ticket's follower runs, from a list of units."""
     lives = {}
     for line in text.splitlines():
-        # (older versions have a mark before a unit that failed)
+        # (older versions of systemd print a mark before a failed unit)
         fields = [field for field in line.split() if field not in ("*", "●", "\\u25cf")]
         found = UNIT.fullmatch(fields[0]) if len(fields) >= 4 else None
         if found and fields[1] != "not-found":
-            # (one that waits to be started again is none)
+            # (a unit that waits for its restart has no follower)
             lives[found[1]] = fields[2] in LIVE and not fields[3].startswith("auto-restart")
     return lives
 
 
 def followers() -> Optional[List[str]]:
-    """The tickets of the followers that run as processes here; None where others' processes are hidden."""
+    """Returns the tickets of the follower processes here, or `None` if the processes of others are hidden."""
     if not os.path.exists("/proc/1/cmdline"):
         return None
     found = []
@@ -110,7 +110,7 @@ def followers() -> Optional[List[str]]:
 
 
 def followed_by(words: List[str]) -> List[str]:
-    """The ticket on a command line of booth-follow."""
+    """Returns the ticket on a command line of booth-follow, in a list, or an empty list."""
     rest = iter(words)
     for word in rest:
         if word in VALUED:
@@ -121,22 +121,22 @@ def followed_by(words: List[str]) -> List[str]:
 
 
 def lives_here(ticket: str, units: Optional[Dict[str, bool]], processes: Optional[List[str]]) -> Optional[bool]:
-    """Whether a follower of the ticket lives: a unit's, or one that was started without a unit."""
+    """Returns whether a follower of the ticket runs, in a unit or without one; `None` if unknown."""
     if units is not None and units.get(ticket):
         return True
     if processes is not None:
         return ticket in processes
-    # (no process can be seen: then systemd knows alone)
+    # (processes are hidden, so only systemd can tell)
     return None if units is None else False
 
 
 def cluster_of(conf: Configuration) -> str:
-    """The name of the cluster, as the units have it."""
+    """Returns the name of the cluster in the units."""
     return os.path.basename(conf.path).rsplit(".conf", 1)[0]
 
 
 def variable(name: str, path: str) -> Optional[str]:
-    """The value of this name in a file of variables; None where there is none, or the file cannot be read."""
+    """Returns a variable in a file below `FOLDER`, or `None` if it is missing or the file cannot be read."""
     try:
         return service_state.variable_in(f"{configuration.FOLDER}/{path}.env", name) or None
     except Unreadable:
@@ -144,22 +144,22 @@ def variable(name: str, path: str) -> Optional[str]:
 
 
 def variable_of(ticket: str, name: str) -> Optional[str]:
-    """A variable of the unit that follows this ticket."""
+    """Returns a variable of the unit that follows this ticket."""
     return variable(name, f"follow/{ticket}") if is_file_name(ticket) else None
 
 
 def is_file_name(ticket: str) -> bool:
-    """Whether files of the folder can have the ticket's name, and so a service can follow it."""
+    """Returns whether files can have the ticket's name. If not, no service can follow the ticket."""
     return not ticket.startswith(".") and "/" not in ticket
 
 
 def is_of(conf: Configuration, ticket: str) -> bool:
-    """Whether the unit that follows this ticket is one of this configuration's cluster."""
+    """Returns whether the unit that follows this ticket belongs to this configuration's cluster."""
     return (variable_of(ticket, "CLUSTER") or "booth") == cluster_of(conf)
 
 
 def is_own(address: str) -> bool:
-    """Whether this machine has the address."""
+    """Returns whether this machine has the address."""
     family = socket.AF_INET6 if ":" in address else socket.AF_INET
     try:
         with socket.socket(family, socket.SOCK_DGRAM) as own:
@@ -170,14 +170,14 @@ def is_own(address: str) -> bool:
 
 
 def spelled(address: Optional[str]) -> Optional[str]:
-    """An address as a configuration has it; None where it is none."""
+    """Returns an address in the spelling of configurations, or `None` if the text is not an address."""
     with contextlib.suppress(ValueError):
         return address and str(ipaddress.ip_address(address))
     return None
 
 
 def own_site(conf: Configuration, tickets: List[str]) -> Optional[str]:
-    """The site that this machine is: by ADDRESS= of the units, else by the one address that it has."""
+    """Returns this machine's site: from ADDRESS= of the units, or the only site whose address this machine has."""
     sites = [member.address for member in conf.members if member.role == "site"]
     named = [variable("ADDRESS", cluster_of(conf)), *(variable_of(ticket, "ADDRESS") for ticket in tickets)]
     for found in (set(map(spelled, named)) & set(sites), set(filter(is_own, sites))):
@@ -187,7 +187,7 @@ def own_site(conf: Configuration, tickets: List[str]) -> Optional[str]:
 
 
 def followed(conf: Configuration, units: Optional[Dict[str, bool]]) -> Iterator[str]:
-    """The tickets of the configuration that are followed here: they have a state in this boot, or a unit."""
+    """Yields the tickets of the configuration that are followed here: those with a state in this boot, or a unit."""
     folder = service_state.folder()
     states = set()
     with contextlib.suppress(OSError):
@@ -199,11 +199,11 @@ def followed(conf: Configuration, units: Optional[Dict[str, bool]]) -> Iterator[
 
 
 def look(conf: Configuration, asked: Units, seconds: float) -> Here:
-    """What is known of the services here. Systemd may answer for so many seconds more."""
+    """Returns the services on this machine. Waits at most `seconds` for systemd and for Pacemaker."""
     units = asked.answer(seconds)
     cluster = asked.pacemaker.answer(conf, seconds)
     ruled = cluster.services if cluster else {}
-    # (a service of the cluster is what Pacemaker says)
+    # (Pacemaker runs these services, so its answer counts)
     tickets = [ticket for ticket in followed(conf, units) if ticket not in ruled]
     if not tickets:
         return Here(cluster.address, {}, cluster) if cluster else Here()

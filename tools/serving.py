@@ -1,7 +1,7 @@
-"""Starts boothd, waits until it answers, and ends it whatever comes, for the Python programs here.
+"""Starts boothd for the Python programs here, waits until it answers, and always ends it.
 
-It is imported by tools/demo.py and the programs in tests/ and bench/, and not run by itself. Each daemon is given a
-lock, a directory and mostly an address of its own; programs that share something take turns.
+It is imported by tools/demo.py and the programs in tests/ and bench/, and not run by itself. Each daemon has its own
+lock and directory, and mostly its own address. Programs that share one of them take turns.
 """
 
 import contextlib
@@ -16,53 +16,53 @@ import time
 
 import frames
 
-# (on a machine that does much else a start takes long; one that ended is told at once)
+# (a start takes long on a busy machine; a daemon that ends is noticed at once)
 SECONDS_TO_START = 30
 
 TOP = os.path.dirname(os.path.dirname(os.path.abspath(__file__)))
 
-# what boothd locks if no other file is named
+# the lock file of boothd without -l
 LOCK = "/var/run/booth.lock"
 
-# what may help, by what boothd said
+# hints for boothd's messages
 HINTS = {
     "already running": "another boothd holds its lock: end that one first",
-    "cannot open": "its port is in use, the address is none of this machine, or another boothd has its directory of records",
+    "cannot open": "its port or its directory of records is in use, or this machine does not have the address",
 }
 
 
 def built_program(name="boothd"):
-    """The path of this proved program as it was built last, or None if it is not."""
-    # where make build leaves a program, and where rt does
+    """Returns the path of this proved program's last build, or `None` if it was not built."""
+    # (make build and rt leave a program in different directories)
     paths = [f"{TOP}/out/{name}", f"{TOP}/crates/{name}/out/{name}"]
     built = [path for path in paths if os.access(path, os.X_OK)]
     return max(built, key=os.path.getmtime, default=None)
 
 
 def own_addresses():
-    """Loopback addresses at which no other program is likely to have the port.
+    """Returns loopback addresses at which probably no other program uses the port.
 
-    All of 127.0.0.0/8 is loopback: so each server has an address of its own.
+    All of 127.0.0.0/8 is loopback, so each server can have its own address.
     """
     high, low = divmod(os.getpid() % 65_536, 256)
     return (f"127.{high}.{low}.{last}" for last in range(2, 255))
 
 
 def exit_code(status):
-    """The exit code of a child that was waited for: a signal's number, below 0, if one ended it."""
+    """Returns the exit code of an ended child, or the negative number of the signal that ended it."""
     return os.WEXITSTATUS(status) if os.WIFEXITED(status) else -os.WTERMSIG(status)
 
 
 def end_by_signals():
-    """Has SIGTERM and SIGHUP leave every `with` block, so that what was started there is ended."""
+    """Makes SIGTERM and SIGHUP leave every `with` block, so that the programs which were started there are ended."""
     for number in (signal.SIGTERM, signal.SIGHUP):
         signal.signal(number, lambda *_: sys.exit(1))
 
 
 @contextlib.contextmanager
 def turn(name):
-    """A `with` block that only one of these programs is in at a time. The others wait."""
-    # (the folder's own lock: it leaves no file behind, and boothd does not look at it)
+    """A `with` block that only one of these programs can be in at a time. The others wait."""
+    # (locks the directory itself, which leaves no file behind, and which boothd does not look at)
     folder = os.open(os.path.dirname(LOCK), os.O_RDONLY)
     try:
         try:
@@ -76,9 +76,7 @@ def turn(name):
 
 
 def written(file):
-    """What programs have written to this file. Its place in it stays, since they share that: after a seek they would
-    write on from there.
-    """
+    """Returns what programs have written to this file, without a seek: the programs share the file's position."""
     return os.pread(file.fileno(), os.fstat(file.fileno()).st_size, 0)
 
 
@@ -87,10 +85,10 @@ class NotServing(Exception):
 
 
 class Server:
-    """A program that answers at this address and port, in a `with` block, from its first answer on.
+    """A program that answers at this address and port. The `with` block begins with its first answer.
 
-    `key` is what its requests are sealed with. It prints its log only if `logs` is set before it is entered, and
-    writes the journal of that path if `journal` is. `prepare` is called in the new process.
+    `key` seals the requests to it. It prints its log only if `logs` is set before the block, and writes a journal to
+    the path `journal` if that is set. `prepare` is called in the new process.
     """
 
     logs = False
@@ -120,7 +118,7 @@ class Server:
     def __exit__(self, fault, *_):
         status = self.process.poll()
         self.end()
-        # (an answer may have come from another program that has the port)
+        # (the answer may have come from another program at this port)
         if fault is None and status not in (None, -signal.SIGTERM):
             raise self.ended_by_itself(status)
 
@@ -130,7 +128,7 @@ class Server:
         self.process.wait()
 
     def said(self):
-        """What the program has printed, on either stream."""
+        """Returns what the program has printed, on both streams."""
         return written(self.printed)
 
     def ended_by_itself(self, status):
@@ -151,17 +149,17 @@ class Server:
                     asker.recv(frames.FRAME_BYTES)
                     return
                 except ConnectionRefusedError:
-                    # it takes the program a moment to its socket, and until then nobody listens
+                    # (nobody listens until the program has opened its socket)
                     time.sleep(0.001)
                 except socket.timeout:
                     pass
                 status = self.process.poll()
                 if status is not None:
                     raise self.ended_by_itself(status)
-        raise NotServing(f"the program gave no answer in {SECONDS_TO_START} seconds")
+        raise NotServing(f"the program gave no answer within {SECONDS_TO_START} seconds")
 
 
 def boothd(program, path, address, port=frames.PORT, key=None, options=()):
-    """The daemon with this configuration file at this address, with these options more."""
+    """Returns the daemon with this configuration and address, and with these additional options."""
     words = [program, "daemon", "-c", path, "-s", address, *options]
     return Server(words, address, port, key)

@@ -1,4 +1,4 @@
-"""The bundle of booth-setup: all that another member of the cluster needs, the key too, in one file.
+"""The bundle of booth-setup: one file with everything that another member of the cluster needs, including the key.
 
 The file has a line with its version, a line with the SHA-256 of the rest, and a document of JSON. It is imported by
 booth-setup, and not run by itself.
@@ -21,7 +21,7 @@ VERSION = 1
 HEAD = re.compile(rb"booth-setup bundle, version ([0-9]{1,9})")
 CHECKSUM = re.compile(rb"sha256 ([0-9a-f]{64})")
 MOST_BYTES = 2 * configuration.TEXT_BYTES + 2 * configuration.KEY_FILE_BYTES
-# who else may read or write the file
+# the mode bits for users other than the owner
 OTHERS = stat.S_IRWXG | stat.S_IRWXO
 
 
@@ -46,7 +46,7 @@ class Bundle(NamedTuple):
 
 
 def spelled(bundle: Bundle) -> bytes:
-    """Returns the file of a bundle."""
+    """Returns the content of a bundle's file."""
     postgresql = None if bundle.postgresql is None else bundle.postgresql._asdict()
     document = {
         "name": bundle.name, "configuration": bundle.text, "key": base64.b64encode(bundle.key).decode("ascii"),
@@ -58,34 +58,34 @@ def spelled(bundle: Bundle) -> bytes:
 
 
 def read(path: str) -> Bundle:
-    """Reads a bundle. Raises `Failed` if it is none, was changed, or may be read by others."""
+    """Reads a bundle. Raises `Failed` if the file is not a bundle, was changed, or is readable for others."""
     content = configuration.bytes_of(path, MOST_BYTES + 1)
     mode = stat.S_IMODE(os.stat(path).st_mode)
     if mode & OTHERS:
         raise Failed(
-            f"{path}: others may read it, by its mode {mode:04o}: if nobody else has read the key in it, chmod 0600 "
-            f"{path}, else make a new bundle with a new key"
+            f"{path}: its mode {mode:04o} allows others to read it: if nobody else has read the key in it, run chmod "
+            f"0600 {path}; otherwise make a new bundle with a new key"
         )
     if len(content) > MOST_BYTES:
-        raise Failed(f"{path}: has more than {MOST_BYTES} bytes, so it is no bundle")
+        raise Failed(f"{path}: has more than {MOST_BYTES} bytes, so it is not a bundle of booth-setup")
     head, _, rest = content.partition(b"\n")
     found = HEAD.fullmatch(head)
     if found is None:
-        raise Failed(f"{path}: is no bundle of booth-setup: its first line is another one")
+        raise Failed(f"{path}: is not a bundle of booth-setup: its first line differs")
     if int(found[1]) != VERSION:
-        raise Failed(f"{path}: is a bundle of version {int(found[1])}, and this booth-setup reads version {VERSION}")
+        raise Failed(f"{path}: is a bundle of version {int(found[1])}, but this booth-setup reads version {VERSION}")
     line, _, rest = rest.partition(b"\n")
     checksum = CHECKSUM.fullmatch(line)
     if checksum is None or hashlib.sha256(rest).hexdigest().encode("ascii") != checksum[1]:
-        raise Failed(f"{path}: its checksum is wrong, so it was changed or cut: copy it again")
+        raise Failed(f"{path}: its checksum is wrong, so it was changed or truncated: copy it again")
     try:
         return of_document(json.loads(rest))
     except (ValueError, KeyError, TypeError, binascii.Error) as why:
-        raise Failed(f"{path}: has no cluster in the form of version {VERSION}: {why!r}") from why
+        raise Failed(f"{path}: its content has another form than version {VERSION}: {why!r}") from why
 
 
 def of_document(document: Dict[str, Any]) -> Bundle:
-    """Returns the bundle of a document, and raises a `ValueError`, `KeyError` or `TypeError` if it has another form."""
+    """Returns the bundle in a document. Raises a `ValueError`, `KeyError` or `TypeError` if it has another form."""
     key = base64.b64decode(typed(document, "key", str), validate=True)
     frames.key_in(key)
     units = typed(document, "units", dict)
@@ -105,8 +105,8 @@ def of_document(document: Dict[str, Any]) -> Bundle:
 
 
 def typed(document: Dict[str, Any], field: str, kind: type) -> Any:
-    """Returns a field of a document, which must have that type."""
+    """Returns a field of a document. Raises `ValueError` if it has another type."""
     value = document[field]
     if not isinstance(value, kind):
-        raise ValueError(f"{field} is no {kind.__name__}")
+        raise ValueError(f"{field} is not of the type {kind.__name__}")
     return value

@@ -1,4 +1,4 @@
-"""The cluster that `booth-setup init` is asked for: its configuration, which boothd checks, and its key.
+"""The cluster that `booth-setup init` makes: its configuration, which boothd checks, and its key.
 
 It is imported by booth-setup, and not run by itself.
 """
@@ -16,22 +16,22 @@ from problems import CRITICAL, WARNING
 from setup_bundle import Bundle, Postgresql
 from setup_steps import Failed, content_of
 
-# the name of a file, a unit's instance and a ticket at once
+# a name that can be the name of a file, of a unit's instance and of a ticket
 NAME = re.compile(r"[A-Za-z0-9_][A-Za-z0-9:_.-]{0,62}")
 UNIT = re.compile(r"[A-Za-z0-9_][A-Za-z0-9:_.@\\-]*\.[a-z]+")
 DEFAULT_NAME = "booth"
 KEY_BYTES = 64
 # the order of the keys in the file
 TIMES = ("expire", "acquire-after", "timeout", "retries", "renewal-freq")
-# those of the example two-sites.conf; renewal-freq is half of expire if nothing is said
+# the times of the example two-sites.conf; the default of renewal-freq is half of expire
 DEFAULT_TIMES = {"expire": 60, "acquire-after": 30, "timeout": 3, "retries": 3}
 FEWEST_SITES = 2
-# refuses the ticket while the service fails to start at this site, so that another one takes it over
+# the handler that refuses the ticket while the service fails to start at this site, so that another site takes it over
 HANDLER = "/usr/share/booth-proved/handler-follow"
 
 
 class Wishes(NamedTuple):
-    """What the command line of `init` says."""
+    """The arguments of `init`."""
 
     name: str
     sites: Sequence[str]
@@ -46,13 +46,13 @@ class Wishes(NamedTuple):
 
 
 def bundle_of(wishes: Wishes, root: str) -> Bundle:
-    """Returns the cluster that is asked for, with the key that is there or a new one."""
+    """Returns the requested cluster, with the key that exists already or a new one."""
     if not NAME.fullmatch(wishes.name):
-        raise Failed(f"{wishes.name!r} is no name of a cluster: it has letters, digits, '_', '-', '.' and ':'")
+        raise Failed(f"{wishes.name!r} cannot be the name of a cluster: allowed are letters, digits, '_-.:', 63 bytes")
     if len(wishes.sites) < FEWEST_SITES:
-        raise Failed(f"a ticket needs two sites at least: name each by --site ({len(wishes.sites)} found)")
+        raise Failed(f"a ticket needs at least two sites: give each with --site ({len(wishes.sites)} found)")
     if not wishes.tickets:
-        raise Failed("a cluster needs a ticket: name it by --ticket")
+        raise Failed("a cluster needs a ticket: give it with --ticket")
     units = units_of(wishes.tickets)
     key = key_of(root + key_path(wishes.name))
     bundle = Bundle(wishes.name, text_of(wishes, list(units)), key, units, wishes.has_journal)
@@ -60,31 +60,31 @@ def bundle_of(wishes: Wishes, root: str) -> Bundle:
 
 
 def units_of(tickets: Sequence[str]) -> Dict[str, str]:
-    """Returns the unit of each ticket, from texts as `TICKET` and `TICKET=UNIT`."""
+    """Returns the unit of each ticket, from texts of the form `TICKET` or `TICKET=UNIT`."""
     units: Dict[str, str] = {}
     for each in tickets:
         ticket, named, unit = each.partition("=")
         if not NAME.fullmatch(ticket):
-            raise Failed(f"--ticket {each}: a name has letters, digits, '_', '-', '.' and ':', and 63 bytes at most")
+            raise Failed(f"--ticket {each}: a name has letters, digits, '_', '-', '.' and ':', and at most 63 bytes")
         if ticket in units:
             raise Failed(f"--ticket {ticket} is named twice")
         if named and not UNIT.fullmatch(unit):
-            raise Failed(f"--ticket {each}: {unit!r} is no unit of systemd, as db8.service")
+            raise Failed(f"--ticket {each}: {unit!r} is not the name of a systemd unit, such as db8.service")
         units[ticket] = unit if named else f"{ticket}.service"
     return units
 
 
 def postgresql_of(wishes: Wishes, units: Dict[str, str]) -> Optional[Postgresql]:
-    """Returns the PostgreSQL server that is put under a ticket, from a text as `SERVER` and `TICKET=SERVER`."""
+    """Returns the PostgreSQL server under a ticket, from a text of the form `SERVER` or `TICKET=SERVER`."""
     if wishes.postgresql is None:
         return None
     if wishes.name != DEFAULT_NAME:
-        raise Failed(f"booth-postgresql knows the cluster {DEFAULT_NAME} alone, and not {wishes.name}")
+        raise Failed(f"--postgresql works only for the cluster {DEFAULT_NAME}, and this one is {wishes.name}")
     ticket, named, server = wishes.postgresql.partition("=")
     if not named:
         ticket, server = next(iter(units)), wishes.postgresql
         if len(units) > 1:
-            raise Failed(f"--postgresql {server}: name the ticket too, as {ticket}={server}")
+            raise Failed(f"--postgresql {server}: give the ticket too, for example {ticket}={server}")
     if ticket not in units:
         raise Failed(f"--postgresql {wishes.postgresql}: there is no --ticket {ticket}")
     if not server:
@@ -95,10 +95,10 @@ def postgresql_of(wishes: Wishes, units: Dict[str, str]) -> Optional[Postgresql]
 def address_of(option: str, text: str) -> str:
     """Returns an address in its usual form."""
     try:
-        # (an address has no zone here)
+        # (an address must not have a zone)
         return str(ipaddress.ip_address(text.replace("%", " ")))
     except ValueError as why:
-        raise Failed(f"{option} {text}: is no IP address, as 192.0.2.10 (names are not resolved)") from why
+        raise Failed(f"{option} {text}: is not an IP address, such as 192.0.2.10 (names are not resolved)") from why
 
 
 def text_of(wishes: Wishes, tickets: Sequence[str]) -> str:
@@ -132,7 +132,7 @@ def key_path(name: str) -> str:
 
 
 def key_of(path: str) -> bytes:
-    """Returns the key in a file if it is there, or a new key."""
+    """Returns the key in a file if the file exists, or a new key."""
     there = content_of(path)
     if there is None:
         return os.urandom(KEY_BYTES)
@@ -144,7 +144,7 @@ def key_of(path: str) -> bytes:
 
 
 def check(bundle: Bundle) -> Tuple[configuration.Configuration, List[str]]:
-    """Returns the configuration of a bundle, and what is doubtful in it. Raises `Failed` if it is refused."""
+    """Returns the configuration of a bundle, and warnings about it. Raises `Failed` if the configuration is refused."""
     path = conf_path(bundle.name)
     with tempfile.TemporaryDirectory(prefix="booth-setup-") as folder:
         tried = f"{folder}/{os.path.basename(path)}"

@@ -19,14 +19,14 @@ UNITS_FOLDER = "/etc/systemd/system"
 RECORDS_FOLDER = "/var/lib/booth"
 SHARE = "/usr/share/booth-proved"
 JOURNAL = "booth@.service.d/journal.conf"
-# the daemon has a line with the system's words, and then one with its own
+# the daemon prints a line with the system's message, and then one of its own
 LINES_OF_A_CAUSE = 2
-# how many seconds more than the silence after a first start a grant is told to wait
+# in seconds: how much longer than the silence after a first start an operator waits before a grant
 SLACK = 3
 
 
 class Member(NamedTuple):
-    """This machine as a member: the cluster, its configuration as it was read, and this machine's address in it."""
+    """This machine as a member: the cluster, its parsed configuration, and this machine's address in it."""
 
     bundle: Bundle
     conf: Configuration
@@ -35,7 +35,7 @@ class Member(NamedTuple):
     keeps_records: bool
 
     def is_site(self) -> bool:
-        """Returns whether it may hold tickets."""
+        """Returns whether this member can hold tickets."""
         return any((member.role, member.address) == ("site", self.address) for member in self.conf.members)
 
     def daemon(self) -> str:
@@ -43,14 +43,14 @@ class Member(NamedTuple):
         return f"booth@{self.bundle.name}.service"
 
     def followed(self) -> List[str]:
-        """Returns the tickets whose service is a unit, which a follower starts and stops here."""
+        """Returns the tickets whose service is a unit that a follower starts and stops here."""
         postgresql = self.bundle.postgresql
         left_out = postgresql.ticket if postgresql else None
         return [name for name in self.bundle.units if self.is_site() and name != left_out]
 
 
 def fault_of(address: str) -> Optional[str]:
-    """Returns why no program of this machine can listen at an address, in the system's words, or nothing."""
+    """Returns the system's message if no program on this machine can listen at an address, or `None`."""
     family = socket.AF_INET6 if ":" in address else socket.AF_INET
     try:
         with socket.socket(family, socket.SOCK_DGRAM) as tried:
@@ -61,19 +61,19 @@ def fault_of(address: str) -> Optional[str]:
 
 
 def own_address(conf: Configuration, asked: Optional[str], root: str) -> str:
-    """Returns the member that this machine is: the one that is asked for, or the one whose address is here."""
+    """Returns this machine's address as a member: the requested one, or the only member's address that it has."""
     members = [member.address for member in conf.members]
     if asked is not None:
         if asked not in members:
             raise Failed(f"{asked} is not a member: the members are {', '.join(members)}")
         fault = None if root else fault_of(asked)
         if fault is not None:
-            raise Failed(f"{asked} is no address of this machine: {fault}")
+            raise Failed(f"{asked} is not an address of this machine: {fault}")
         return asked
     here = [] if root else [each for each in members if fault_of(each) is None]
     if len(here) != 1:
         found = f"{' and '.join(here)} are addresses" if here else f"none of {', '.join(members)} is an address"
-        raise Failed(f"{found} of this machine: name this member by --address")
+        raise Failed(f"{found} of this machine: give this member's address with --address")
     return here[0]
 
 
@@ -109,7 +109,10 @@ def files_of(member: Member) -> List[File]:
 
 
 def address_file(member: Member) -> bytes:
-    """Returns the member's address: the units' variable, and that of booth and geostore, which an older file lacks."""
+    """Returns the file with the member's address: the units' variable, and the one of booth and geostore.
+
+    A file of an older version lacks the second variable, and stays so.
+    """
     there = content_of(f"{member.root}{FOLDER}/{member.bundle.name}.env")
     is_older = there is not None and b"BOOTH_ADDRESS=" not in there
     names = ("ADDRESS",) if is_older else ("ADDRESS", "BOOTH_ADDRESS")
@@ -117,7 +120,7 @@ def address_file(member: Member) -> bytes:
 
 
 def environment_of(member: Member, ticket: str) -> str:
-    """Returns the environment of a ticket's follower, as far as its unit has another one by default."""
+    """Returns the variables of a ticket's follower that differ from the defaults in its unit."""
     bundle, unit = member.bundle, member.bundle.units[ticket]
     lines = []
     if bundle.name != setup_cluster.DEFAULT_NAME:
@@ -128,13 +131,13 @@ def environment_of(member: Member, ticket: str) -> str:
 
 
 def share() -> str:
-    """Returns the directory of the package's programs: that of this module, where it is installed."""
+    """Returns the directory of the package's programs: this module's directory if it is installed there."""
     here = os.path.dirname(os.path.realpath(__file__))
     return here if os.path.exists(f"{here}/follow-unit") else SHARE
 
 
 def shared(name: str) -> bytes:
-    """Returns what a file of the package has."""
+    """Returns the content of a file of the package."""
     here = os.path.dirname(os.path.realpath(__file__))
     places = (f"{here}/{name}", f"{here}/../packaging/{name}")
     found = next((content for content in map(content_of, places) if content is not None), None)
@@ -144,40 +147,40 @@ def shared(name: str) -> bytes:
 
 
 def refuse(member: Member, files: List[File]) -> None:
-    """Raises `Failed` if a step would write over something, or would begin with records of another cluster."""
+    """Raises `Failed` if a step would overwrite a file, or would start with the records of another cluster."""
     others = []
     for file in files:
         there = content_of(member.root + file.path)
         if there is not None and not is_alike(there, file):
             others.append(file.path)
     if others:
-        are, them = ("is", "it") if len(others) == 1 else ("are", "them")
+        exist, them = ("exists", "it") if len(others) == 1 else ("exist", "them")
         raise Failed(
-            f"{', '.join(others)} {are} there already, with other content: move {them} away if nothing needs {them}"
+            f"{', '.join(others)} {exist} already, with other content: move {them} away if nothing needs {them}"
         )
     records = f"{RECORDS_FOLDER}/{member.bundle.name}"
     is_new = content_of(member.root + setup_cluster.conf_path(member.bundle.name)) is None
     if is_new and not member.keeps_records and glob.glob(f"{glob.escape(member.root + records)}/*.rec"):
         raise Failed(
-            f"{records} has records of an earlier cluster, which bind this member: if they are this cluster's, say "
-            "--keep-records; else read RECORDS.md before you move them away"
+            f"{records} has records of an earlier cluster, with promises that this member must keep: if they are this "
+            "cluster's records, add --keep-records; otherwise read RECORDS.md before you move them away"
         )
 
 
 def is_alike(there: bytes, file: File) -> bool:
-    """Returns whether a file has what is wanted; an environment may have more variables."""
+    """Returns whether a file has the wanted content. An environment may have additional variables."""
     if file.path.endswith(".env"):
         return set(file.content.splitlines()) <= set(there.splitlines())
     return there == file.content
 
 
 def set_up(member: Member, steps: Steps) -> None:
-    """Sets this machine up. If a step fails, those before it are undone."""
+    """Sets this machine up. If a step fails, the steps before it are undone."""
     files = files_of(member)
     refuse(member, files)
     try:
         for file in files:
-            # (an environment that has more is left as it is)
+            # (an environment with additional variables stays unchanged)
             if content_of(member.root + file.path) is not None:
                 steps.note(f"{file.path} has this content already")
             else:
@@ -206,22 +209,22 @@ def start_daemon(member: Member, steps: Steps) -> None:
         steps.systemctl("enable", "--now", unit, undo=("disable", "--now", unit))
     except Failed as why:
         cause = cause_of(unit)
-        # (what was enabled before the start failed)
+        # (the unit was enabled before the start failed)
         run("systemctl", "disable", "--now", unit, seconds=60)
         raise Failed(f"{why} {cause}(journalctl -u {unit} has more)") from why
 
 
 def cause_of(unit: str) -> str:
-    """Returns the last lines by which the daemon says why it does not start, as far as the journal has them."""
+    """Returns the daemon's last lines in the journal, which say why it does not start."""
     told = run("journalctl", "-u", unit, "-b", "-n", "20", "-o", "cat", "-p", "err")
     lines = [line.strip() for line in told.out.splitlines() if line.strip()]
-    # (systemd's own line says no more than the command did; each try of a start has the same ones)
+    # (systemd's own lines add nothing; each try of a start prints the same lines of the daemon)
     causes = [line for line in lines if not line.startswith(("Failed to start", "-- "))][-LINES_OF_A_CAUSE:]
     return f"{'; '.join(dict.fromkeys(causes))} " if causes else ""
 
 
 def start_follower(member: Member, ticket: str, steps: Steps) -> None:
-    """Has a follower start and stop the ticket's unit. A service that runs is not stopped."""
+    """Starts the follower of the ticket's unit. If the service runs, the follower is only enabled."""
     unit, follower = member.bundle.units[ticket], f"booth-follow@{ticket}.service"
     if member.root:
         steps.systemctl("enable", follower, undo=("disable", follower))
@@ -230,26 +233,27 @@ def start_follower(member: Member, ticket: str, steps: Steps) -> None:
         steps.note(f"there is no {unit} here: install it, then run systemctl enable --now {follower}")
         return
     if says("is-enabled", unit).startswith("enabled"):
-        steps.note(f"the system must not start {unit} at boot: its follower does")
+        steps.note(f"the system must not start {unit} at boot, since its follower starts it:")
         steps.systemctl("disable", unit, undo=("enable", unit))
     if says("is-active", follower) == "active":
         steps.note(f"{follower} runs")
     elif says("is-active", unit) == "active":
         steps.systemctl("enable", follower, undo=("disable", follower))
         steps.note(
-            f"{unit} runs on. Its follower would stop it now, since nobody holds the ticket. At the site that gets the "
-            f"ticket, run systemctl start {follower} after the grant: it restarts {unit}; elsewhere, run it now"
+            f"{unit} keeps running. Its follower would stop it now, since nobody holds the ticket. At the site that "
+            f"gets the ticket, run systemctl start {follower} after the grant, which restarts {unit}. Elsewhere, run "
+            "it now."
         )
     else:
         steps.systemctl("enable", "--now", follower, undo=("disable", "--now", follower))
 
 
 def says(question: str, unit: str) -> str:
-    """Returns the word that systemctl answers about a unit, as `enabled` and `active`."""
+    """Returns systemctl's answer about a unit, for example `enabled` or `active`."""
     return run("systemctl", question, unit).out.strip()
 
 
 def silence(conf: Configuration) -> int:
-    """Returns after how many seconds from the last first start a ticket can be granted."""
+    """Returns how many seconds after the last member's first start a ticket can be granted."""
     automatic = [ticket for ticket in conf.tickets if not ticket.is_manual]
     return max((math.ceil(ticket.promise()) + SLACK for ticket in automatic), default=SLACK)

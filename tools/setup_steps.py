@@ -1,4 +1,4 @@
-"""The steps of booth-setup: each is printed, is done unless it is only shown, and is undone if a later one fails.
+"""The steps of booth-setup: each is printed and, except in a dry run, done. If a later step fails, it is undone.
 
 It is imported by the modules of booth-setup, and not run by itself.
 """
@@ -17,11 +17,11 @@ SECONDS_TO_START, SECONDS_TO_ANSWER = 300, 10
 
 
 class Failed(Unreadable):
-    """What was asked for is not done; the text says why."""
+    """The command failed; the text is the cause."""
 
 
 class Ended(NamedTuple):
-    """How a command ended: its status (124 if its time was over, 127 if it did not start), and what it printed."""
+    """The exit status of a command (124 after a timeout, 127 if it did not start), and what it printed."""
 
     status: int
     out: str
@@ -29,7 +29,7 @@ class Ended(NamedTuple):
 
 
 class File(NamedTuple):
-    """A file to be written. `owner` has the numbers of its user and its group, or nothing for those of this process."""
+    """A file to write. `owner` has the numbers of its user and group, or `None` for those of this process."""
 
     path: str
     content: bytes
@@ -38,7 +38,7 @@ class File(NamedTuple):
 
 
 def run(*words: str, seconds: float = SECONDS_TO_ANSWER) -> Ended:
-    """Runs a command with a limit of time, and returns how it ended."""
+    """Runs a command with a time limit, and returns how it ended."""
     try:
         done = subprocess.run(
             words, stdin=subprocess.DEVNULL, capture_output=True, timeout=seconds, check=False,
@@ -52,32 +52,32 @@ def run(*words: str, seconds: float = SECONDS_TO_ANSWER) -> Ended:
 
 
 def content_of(path: str) -> Optional[bytes]:
-    """Returns what a file has, or nothing if there is none. Raises `Failed` if it cannot be read."""
+    """Returns the content of a file, or `None` if it does not exist. Raises `Failed` if it cannot be read."""
     try:
         with open(path, "rb") as file:
             return file.read()
     except FileNotFoundError:
-        # (a link that leads nowhere is there too)
+        # (a dangling link occupies the name too)
         if os.path.islink(path):
-            raise Failed(f"{path}: is a link that leads nowhere") from None
+            raise Failed(f"{path}: is a symbolic link to a file that does not exist") from None
         return None
     except OSError as why:
         raise Failed(f"cannot read {path}: {why.strerror}") from why
 
 
 class Steps:
-    """Prints each step, does it unless `only_shows`, and can undo the steps that were done."""
+    """Prints each step, does it unless `only_shows` is set, and can undo the steps that were done."""
 
     def __init__(self, root: str, only_shows: bool) -> None:
         self.root, self.only_shows = root, only_shows
         self.done: List[Tuple[str, Action]] = []
 
     def note(self, text: str) -> None:
-        """Prints what needs no step."""
+        """Prints a line about something that needs no step."""
         print(text, flush=True)
 
     def do(self, what: str, action: Action, undo: Optional[Tuple[str, Action]] = None) -> None:
-        """Prints a step and does it. `undo` says how it is undone, and does that."""
+        """Prints a step and does it. `undo` has the text and the action that undo it."""
         print(f"would {what}" if self.only_shows else what, flush=True)
         if not self.only_shows:
             action()
@@ -85,7 +85,7 @@ class Steps:
                 self.done.append(undo)
 
     def undo(self) -> None:
-        """Undoes the steps that were done, the last one first, and prints each. No signal interrupts that."""
+        """Undoes the steps that were done, the last one first, and prints each. Signals do not interrupt this."""
         for number in (signal.SIGTERM, signal.SIGHUP, signal.SIGINT):
             signal.signal(number, signal.SIG_IGN)
         while self.done:
@@ -95,24 +95,24 @@ class Steps:
                 told = f"undone: {what}"
             except (OSError, Failed) as why:
                 told = f"not undone: {what}: {getattr(why, 'strerror', None) or why}"
-            # (the terminal may be gone)
+            # (the terminal may have been closed)
             with contextlib.suppress(OSError):
                 print(told, flush=True)
 
     def write(self, file: File) -> None:
-        """Writes a file unless it has that content already. Raises `Failed` if there is another one of its name."""
+        """Writes a file unless it has this content already. Raises `Failed` if a file with other content exists."""
         path = self.root + file.path
         there = content_of(path)
         if there == file.content:
             self.note(f"{file.path} has this content already")
             return
         if there is not None:
-            raise Failed(f"{file.path} is there already, and has other content")
+            raise Failed(f"{file.path} exists already, with other content")
         self.make_folder(os.path.dirname(path))
         self.do(f"write {file.path}", lambda: write_new(path, file), (f"write {file.path}", lambda: os.unlink(path)))
 
     def make_folder(self, path: str) -> None:
-        """Makes a directory and those above it. What was made is removed again if a later step fails."""
+        """Makes a directory and its parents. They are removed again if a later step fails."""
         if self.only_shows or os.path.isdir(path):
             return
         self.make_folder(os.path.dirname(path))
@@ -121,7 +121,7 @@ class Steps:
         self.done.append((f"make {path}", lambda: os.rmdir(path)))
 
     def systemctl(self, *words: str, undo: Tuple[str, ...] = ()) -> None:
-        """Runs systemctl as a step, for the units below the root if there is one."""
+        """Runs systemctl as a step, with `--root` if there is a root."""
         undoing = (f"by systemctl {' '.join(undo)}", lambda: self.must_systemctl(*undo)) if undo else None
         self.do(f"run systemctl {' '.join(words)}", lambda: self.must_systemctl(*words), undoing)
 
@@ -136,7 +136,7 @@ class Steps:
 
 @contextlib.contextmanager
 def translated(path: str) -> Iterator[None]:
-    """A `with` block whose system errors become `Failed` with the path and the system's words."""
+    """Turns system errors of a `with` block into `Failed`, with the path and the system's message."""
     try:
         yield
     except OSError as why:
@@ -144,7 +144,7 @@ def translated(path: str) -> Iterator[None]:
 
 
 def write_new(path: str, file: File) -> None:
-    """Writes a new file. Nobody sees a part of it, and a file that came meanwhile is not overwritten."""
+    """Writes a new file as a whole. If a file of this name exists by now, fails and does not overwrite it."""
     new = f"{path}.new-{os.getpid()}"
     with translated(path):
         handle = os.open(new, os.O_WRONLY | os.O_CREAT | os.O_EXCL | os.O_NOFOLLOW | os.O_CLOEXEC, 0o600)
@@ -162,5 +162,5 @@ def write_new(path: str, file: File) -> None:
 
 
 def first_line(text: str) -> str:
-    """Returns the first line of a text that is not empty, or an empty text."""
+    """Returns the first line of a text that is not blank, or an empty text."""
     return next((line.strip() for line in text.splitlines() if line.strip()), "")

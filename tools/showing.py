@@ -1,4 +1,4 @@
-"""The table of booth-status: the members, the tickets as each member sees them, and what is wrong.
+"""The table of booth-status: the members, the tickets according to each member, and the problems.
 
 It is imported by booth-status, and not run by itself.
 """
@@ -13,7 +13,7 @@ STATES = {looking.NO_DAEMON: "no daemon", looking.PARTLY: "in part"}
 
 
 def members(view):
-    """A row for each member: how it answered, how long ago each other one heard it, and what it dropped."""
+    """Returns a row for each member: its answer, how long ago each other member heard from it, and what it dropped."""
     numbers = {answer.member.address: str(place) for place, answer in enumerate(view.answers, 1)}
     heard = {}
     for answer in view.answers:
@@ -30,17 +30,17 @@ def members(view):
 
 
 def answered(answer):
-    """How a member answered, and how far its clock is ahead of this machine's."""
+    """Returns how a member answered, and how far its clock is ahead of this machine's."""
     state = STATES.get(answer.state, answer.state)
     if answer.took is None:
         return state, "?"
-    # (+ 0.0 leaves no sign at 0)
+    # (+ 0.0 turns -0.0 into 0.0)
     ahead = f"{round(answer.ahead, 1) + 0.0:+.1f} s"
     return f"{answer.took * 1000:.1f} ms" if answer.state == looking.ANSWERS else state, ahead
 
 
 def dropped(answer, numbers):
-    """What a member dropped, and what it could not send, where it is not nothing."""
+    """Returns what a member dropped, and what it could not send; `-` stands for nothing."""
     if answer.counts is None:
         return "?", "?"
     faults = ", ".join(f"{fault} {count}" for fault, count in answer.counts.dropped.items() if count)
@@ -49,10 +49,10 @@ def dropped(answer, numbers):
 
 
 def tickets(view):
-    """A row for each ticket, and a further one for each way in which members see it otherwise."""
+    """Returns a row for each ticket, and one more for each different view that members have of it."""
     numbers = {answer.member.address: str(place) for place, answer in enumerate(view.answers, 1)}
     there = [answer.member.address for answer in view.answers if answer.held is not None]
-    # (a machine on which nothing follows a ticket has no column of services)
+    # (the column of services is left out if no service follows a ticket on this machine)
     services = {name: shown(service) for name, service in view.here.services.items()}
     if view.here.cluster is not None:
         services.update({name: service.shown() for name, service in view.here.cluster.services.items()})
@@ -72,7 +72,7 @@ def tickets(view):
 
 
 def table(view):
-    """All lines of the table."""
+    """Returns all lines of the table."""
     lines = [f"{view.path} at {date(view.moment)} UTC", "", *members(view), "", *tickets(view), ""]
     if view.problems:
         lines += [*aligned([(WORDS[problem.severity], problem.text) for problem in view.problems]), ""]

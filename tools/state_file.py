@@ -1,4 +1,4 @@
-"""The files that booth-status writes: the state in which it remembers its last look, and others, each of them whole.
+"""The files that booth-status writes, each as a whole: the state with the results of its last look, and others.
 
 It is imported by booth-status, and not run by itself.
 """
@@ -16,9 +16,9 @@ STATE_BYTES = 4_194_304
 
 
 def load(path, configuration):
-    """What the file remembers of the last look at this configuration, or None if there is no such file.
+    """Returns the results of the last look at this configuration in the file, or `None` if the file does not exist.
 
-    A file that is something else is refused, and so never written over.
+    Any other file is refused, so booth-status never overwrites it.
     """
     if not os.path.lexists(path):
         return None
@@ -27,19 +27,20 @@ def load(path, configuration):
         if told["form"] != FORM:
             raise ValueError("another form")
         if told["configuration"] != os.path.abspath(configuration.path):
-            raise Unreadable(f"{path}: is the state of {told['configuration']}: each configuration has one of its own")
+            other = told["configuration"]
+            raise Unreadable(f"{path}: is the state of {other}: use another file for this configuration")
         peers = {name: [Peer(*peer) for peer in counts["peers"]] for name, counts in told["members"].items()}
         counts = {name: Counts(counts["dropped"], peers[name]) for name, counts in told["members"].items()}
-        # (an earlier booth-status remembered no holders)
+        # (an earlier version of booth-status did not store holders)
         holders = told.get("held", {})
         held = {name: Holding(str(owner), end and int(end), bool(gave)) for name, (owner, end, gave) in holders.items()}
         return Memory(counts, held)
     except (ValueError, TypeError, KeyError, AttributeError) as why:
-        raise Unreadable(f"{path}: is no state of booth-status: name another file, or remove it") from why
+        raise Unreadable(f"{path}: is not a state of booth-status: name another file, or remove it") from why
 
 
 def save(path, configuration, memory):
-    """Remembers looks in this file."""
+    """Writes the results of looks into this file."""
     told = {"form": FORM, "configuration": os.path.abspath(configuration.path)}
     told["members"] = {name: {"dropped": each.dropped, "peers": each.peers} for name, each in memory.counts.items()}
     names = {ticket.name for ticket in configuration.tickets}
@@ -48,7 +49,7 @@ def save(path, configuration, memory):
 
 
 def write_whole(path, text):
-    """Writes a file anew: who reads it meanwhile has the old text or this one."""
+    """Replaces a file: a reader sees the old text or the new one, never a part."""
     new = f"{path}.{os.getpid()}.{time.time_ns()}"
     try:
         handle = os.open(new, os.O_WRONLY | os.O_CREAT | os.O_EXCL | os.O_CLOEXEC, 0o644)

@@ -1,7 +1,7 @@
-"""What booth-switchover does: it stops a service through its follower, moves the ticket, and starts the follower again.
+"""The steps of booth-switchover: stops a service through its follower, moves the ticket, and starts the follower again.
 
-It is imported by booth-switchover, and not run by itself. Each failure is told with where the ticket is, and is undone
-as far as it can be.
+It is imported by booth-switchover, and not run by itself. A failure is undone as far as possible, and its message says
+which site holds the ticket.
 """
 
 import argparse
@@ -18,49 +18,49 @@ import configuration
 import looking
 import service_state
 
-# the exit statuses: the other site has the ticket; it is where it was; neither, or the follower does not run
+# the exit statuses: the other site has the ticket; the holder is unchanged; neither, or the follower does not run
 MOVED, UNCHANGED, ELSEWHERE = 0, 1, 2
 
-# in seconds: how long a look at the members may take; a question to systemd; and a stop and a start of the follower,
-# which its unit bounds by 480
+# in seconds: how long a look at the members may take; a question to systemd; and a stop or a start of the follower,
+# which its unit limits to 480
 LOOK, QUESTION, FOLLOWER = 3.0, 5.0, 540.0
-# how often, and for how long, the state is looked at until the service is stopped
+# in seconds: the interval and the longest time of the checks whether the service is stopped
 PAUSE, SETTLE = 0.1, 5.0
-# where the programs lie, beside PATH
+# the directories of the programs, in addition to PATH
 PLACES = "/usr/local/sbin:/usr/sbin:/usr/bin:/sbin:/bin"
 
 
 class Refused(Exception):
-    """Nothing was done, for this reason."""
+    """The move was refused before anything was changed; the text is the cause."""
 
 
 class Ran(NamedTuple):
-    """How a program ended, and what it printed. The status is None where its time was over."""
+    """The exit status of a program, or `None` after a timeout, and what it printed."""
 
     status: Optional[int]
     said: str
 
     def why(self) -> str:
-        """What is told of a program that failed."""
-        ended = "it was not over in time" if self.status is None else f"its status is {self.status}"
+        """Returns why the program failed: its output, its status or the timeout."""
+        ended = "it did not end in time" if self.status is None else f"its status is {self.status}"
         return self.said or ended
 
 
 def why_silent(answers: List[looking.Answer], address: str) -> str:
-    """Returns why a member did not answer, as far as that is known, in brackets behind a blank."""
+    """Returns why a member did not answer, if this is known, in parentheses after a blank."""
     found = next((answer for answer in answers if answer.member.address == address), None)
     if found is None:
         return ""
     hints = {
         looking.NO_DAEMON: "no daemon listens there",
-        looking.SILENT: f"nothing came in {LOOK:g} s: is it up, its port open, its key the same and its clock right?",
+        looking.SILENT: f"no answer within {LOOK:g} s: is it up, is its port open, its key the same, its clock right?",
     }
     why = ": ".join(part for part in (hints.get(found.state, ""), found.why) if part)
     return f" ({why})" if why else ""
 
 
 def program(name: str) -> str:
-    """The path of a program."""
+    """Returns the path of a program."""
     places = f"{os.environ.get('PATH', '')}{os.pathsep}{PLACES}"
     found = shutil.which(name, path=places)
     if found is None:
@@ -69,7 +69,7 @@ def program(name: str) -> str:
 
 
 def ran(seconds: float, *words: str) -> Ran:
-    """Runs a program for so many seconds at most."""
+    """Runs a program for at most so many seconds."""
     try:
         streams = {"stdin": subprocess.DEVNULL, "stdout": subprocess.PIPE, "stderr": subprocess.STDOUT}
         done = subprocess.run(words, timeout=seconds, check=False, **streams)
@@ -80,32 +80,32 @@ def ran(seconds: float, *words: str) -> Ran:
 
 
 def say(text: str) -> None:
-    """Prints a line of what was done."""
+    """Prints a line about a step."""
     print(text, flush=True)
 
 
 def complain(text: str) -> None:
-    """Prints a line of what went wrong."""
+    """Prints a line about a failure."""
     print(f"booth-switchover: {text}", file=sys.stderr, flush=True)
 
 
 def address_of(text: str, what: str) -> str:
-    """The address in one spelling."""
+    """Returns the address in its usual form."""
     try:
         return str(ipaddress.ip_address(text))
     except ValueError as why:
-        raise Refused(f"{what} {text!r} is no address") from why
+        raise Refused(f"{what} {text!r} is not an IP address") from why
 
 
 def own_address(ticket: str, conf_path: str) -> str:
-    """The address of this site, as the unit of the follower reads it."""
+    """Returns this site's address, from the environment of the follower's unit."""
     cluster = os.path.basename(conf_path).rsplit(".conf", 1)[0]
     paths = [f"{configuration.FOLDER}/follow/{ticket}.env", f"{configuration.FOLDER}/{cluster}.env"]
     for path in paths:
         found = service_state.variable_in(path, "ADDRESS")
         if found:
             return found
-    raise Refused(f"neither {paths[0]} nor {paths[1]} has ADDRESS=: name this site by -s")
+    raise Refused(f"neither {paths[0]} nor {paths[1]} has ADDRESS=: give this site's address with -s")
 
 
 class Switchover:
@@ -122,40 +122,40 @@ class Switchover:
         self.to = address_of(options.to, "SITE")
         self.systemctl, self.booth = program("systemctl"), program("booth")
 
-    # ---- what is so
+    # ---- the current state
 
     def own_address(self) -> str:
-        """The address of this site, if none is named."""
+        """Returns this site's address, if the command line has none."""
         return own_address(self.ticket, self.conf_path)
 
     def check_words(self) -> None:
-        """Refuses what cannot be moved by the words and the configuration alone."""
+        """Refuses a move that the arguments or the configuration make impossible."""
         tickets = {ticket.name: ticket for ticket in self.conf.tickets}
         if self.ticket not in tickets:
             raise Refused(f"{self.conf_path} has no ticket {self.ticket}")
         if tickets[self.ticket].is_manual:
-            raise Refused(f"ticket {self.ticket} is manual, so nothing follows it: booth move moves it")
+            raise Refused(f"ticket {self.ticket} is manual, so no service follows it: use booth move instead")
         sites = [member.address for member in self.conf.members if member.role == "site"]
         for address in (self.own, self.to):
             if address not in sites:
-                raise Refused(f"{address} is no site of {self.conf_path}, which has {', '.join(sites)}")
+                raise Refused(f"{address} is not a site of {self.conf_path}, which has the sites {', '.join(sites)}")
         if self.own == self.to:
-            raise Refused(f"{self.to} is this site: name another one")
+            raise Refused(f"{self.to} is this site: name another site")
 
     def answers(self) -> List[looking.Answer]:
-        """What each member says now."""
+        """Returns the current answers of the members."""
         return looking.look(self.conf, self.key, LOOK)
 
     def holder_by(self, answer: looking.Answer) -> Optional[str]:
-        """Who holds the ticket, as this member says; None for nobody."""
+        """Returns the holder of the ticket according to this member; `None` for nobody."""
         return next((held.owner for held in answer.held or [] if held.ticket == self.ticket), None)
 
     def answer_of(self, answers: List[looking.Answer], address: str) -> Optional[looking.Answer]:
-        """The answer of this member that has a list, or None."""
+        """Returns the answer of this member if it has a list, or `None`."""
         return next((each for each in answers if each.member.address == address and each.held is not None), None)
 
     def is_moved_already(self) -> bool:
-        """Whether the other site has the ticket now. Refuses where the move could not be made."""
+        """Returns whether the other site holds the ticket already. Refuses if the move is not possible."""
         answers = self.answers()
         own, other = self.answer_of(answers, self.own), self.answer_of(answers, self.to)
         if own is None:
@@ -174,22 +174,22 @@ class Switchover:
         if 2 * live <= len(answers):
             silent = [answer.member.address for answer in answers if answer.held is None]
             raise Refused(
-                f"{live} of {len(answers)} members answer, and no majority could grant the ticket: silent are "
-                f"{', '.join(silent)}"
+                f"only {live} of {len(answers)} members answer, so no majority could grant the ticket; no answer came "
+                f"from {', '.join(silent)}"
             )
         return False
 
     def check_follower(self) -> None:
-        """Refuses where no follower runs whose service could be stopped."""
+        """Refuses if no follower runs that could stop the service."""
         found = ran(QUESTION, self.systemctl, "is-active", self.unit)
         if found.status != 0:
             state = found.said or "unknown"
-            raise Refused(f"{self.unit} is {state}, and not active: see to the service, and use booth move")
+            raise Refused(f"{self.unit} is {state}, and not active: stop the service yourself, then use booth move")
 
-    # ---- what is done
+    # ---- the steps
 
     def stop(self) -> Optional[str]:
-        """Stops the follower, and with it the service. Gives why that failed, or None."""
+        """Stops the follower, which stops the service. Returns why this failed, or `None`."""
         begun = time.monotonic()
         done = ran(FOLLOWER, self.systemctl, "stop", self.unit)
         if done.status != 0:
@@ -204,30 +204,30 @@ class Switchover:
                 say(f"the service of {self.ticket} is stopped, after {time.monotonic() - begun:.1f} s")
                 return None
             if time.monotonic() > until:
-                return f"its service is {'of an unknown state' if state is None else state.service}, and not stopped"
+                return f"its service is {'in an unknown state' if state is None else state.service}, and not stopped"
             time.sleep(PAUSE)
 
     def start(self) -> bool:
-        """Has the follower run again. Says whether it does."""
+        """Starts the follower again. Returns whether it runs."""
         done = ran(FOLLOWER, self.systemctl, "start", self.unit)
         if done.status != 0:
-            complain(f"{self.unit} does not start ({done.why()}), so nothing follows the ticket here: start it")
+            complain(f"{self.unit} does not start ({done.why()}), so no service follows the ticket here: start it")
         return done.status == 0
 
     def ask(self, *words: str) -> Ran:
-        """Runs booth with these words, for as long as a move may take."""
+        """Runs booth with these arguments, for as long as a move may take."""
         command, *rest = words
         return ran(self.seconds, self.booth, command, "-w", "-c", self.conf_path, "-s", self.own, *rest)
 
     def holder(self) -> Optional[str]:
-        """Who holds the ticket by the member that holds it itself; nobody else is believed."""
+        """Returns the site that lists itself as the holder. The lists of other members do not count."""
         for answer in self.answers():
             if self.holder_by(answer) == answer.member.address:
                 return answer.member.address
         return None
 
     def move(self) -> Optional[str]:
-        """Moves the ticket, and has it back where that fails. Gives the holder afterwards."""
+        """Moves the ticket, and grants it to this site again if the move fails. Returns the holder afterwards."""
         done = self.ask("move", self.ticket, self.to)
         if done.status == 0:
             return self.to
@@ -241,7 +241,7 @@ class Switchover:
         return holder
 
     def carry_out(self) -> int:
-        """Makes the move, and gives the status."""
+        """Makes the move, and returns the status."""
         self.check_words()
         if self.is_moved_already():
             say(f"ticket {self.ticket} is held by {self.to} already: nothing is changed")
@@ -253,15 +253,15 @@ class Switchover:
             why = self.stop()
             if why is None:
                 holder = self.move()
-        except BaseException as cause:  # (a signal too: the ticket may be anywhere, and the follower sees where)
-            where = f"booth list -s {self.to} says where ticket {self.ticket} is"
+        except BaseException as cause:  # (also a signal: any site may hold the ticket, and the follower finds out)
+            where = f"booth list -s {self.to} shows which site holds ticket {self.ticket}"
             complain(f"interrupted ({type(cause).__name__}): {where}")
             self.start()
             return ELSEWHERE
         return self.told(holder, why)
 
     def told(self, holder: Optional[str], why: Optional[str]) -> int:
-        """Has the follower run again, says where the ticket is, and gives the status."""
+        """Starts the follower again, prints which site holds the ticket, and returns the status."""
         runs = self.start()
         if why is not None:
             complain(f"{why}: ticket {self.ticket} was not moved, and is held by {self.own}")
@@ -280,8 +280,8 @@ class Switchover:
 
 
 def run(options: argparse.Namespace, made: Callable[[argparse.Namespace], Switchover] = Switchover) -> int:
-    """The status of a switchover with these words, which `made` makes."""
-    # (a signal leaves each block as an interrupt does, so that the follower runs again)
+    """Makes a switchover with these options by `made`, runs it, and returns the status."""
+    # (a signal leaves each block as an interrupt does, so the follower is started again)
     for number in (signal.SIGTERM, signal.SIGHUP):
         signal.signal(number, lambda *_: sys.exit(ELSEWHERE))
     try:

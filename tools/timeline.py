@@ -4,9 +4,10 @@
     python3 timeline.py [FILE] >PICTURE
 
 FILE has the lines that `boothd audit` prints, `ticket NAME, site ADDRESS, from FROM until UNTIL`, in milliseconds
-since 1970; without it they are read from standard input. A line that is none is refused by its number, with status 1.
+since 1970; without FILE they are read from standard input. Any other line is refused by its number, with status 1.
 Lines of one site are joined if they touch. There is an overlap if two sites have a line of one ticket at the same
-reading, each by its own clock: if their clocks differ, they may overlap by that although they never held it together.
+clock reading, each by its own clock. If their clocks differ, there may be an overlap as long as this difference,
+although the sites never held the ticket at the same time.
 """
 
 import os
@@ -20,15 +21,15 @@ from typing import List, NamedTuple, Optional
 NUMBER = r"(0|[1-9][0-9]{0,19})"
 LINE = re.compile(rf"ticket ([\x21-\x7E]{{1,63}}), site ([0-9a-f.:]{{2,45}}), from {NUMBER} until {NUMBER}")
 NUMBERS = 2**64
-# a manual ticket's lease has no end; and from the year 10000 on no date is told
+# a manual ticket's lease has no end; a time from the year 10000 on is not shown as a date
 NO_END = 253_402_300_800_000
 HOUR = 3_600_000
 
 WIDTH, ROW, BAR, EDGE, BELOW = 960, 26, 14, 24, 34
 LETTER = 7.0
-# between two marks of the axis there is so much room at least
+# the least room between two marks of the axis
 MARK_ROOM = 90
-# the steps between marks, in milliseconds; beyond, so many days
+# the possible steps between marks, in milliseconds; the last ones are whole days
 STEPS = [1, 2, 5, 10, 20, 50, 100, 200, 500, *(each * 1000 for each in (1, 2, 5, 10, 15, 30))]
 STEPS += [each * 60_000 for each in (1, 2, 5, 10, 15, 30)] + [each * HOUR for each in (1, 2, 3, 6, 12)]
 STEPS += [each * 24 * HOUR for each in (1, 2, 5, 10, 30, 90, 365, 3650, 36500, 365_000)]
@@ -55,11 +56,11 @@ text { font: 12px sans-serif; fill: #1c1c1c; }
 
 
 class BadLine(Exception):
-    """A line is no holding. Its number counts from 1."""
+    """A line that is not a holding. Its number counts from 1."""
 
 
 class Holding(NamedTuple):
-    """A lease of a ticket at a site, in milliseconds since 1970. It is in force before `until`, and not at it."""
+    """A lease of a ticket at a site, in milliseconds since 1970. It is in force before `until`, but not at `until`."""
 
     ticket: str
     site: str
@@ -73,7 +74,7 @@ class Span(NamedTuple):
 
 
 class Row(NamedTuple):
-    """What one site has of one ticket: when it held, when another one did too, and when each lease began."""
+    """One ticket at one site: when the site held it, when another site held it too, and when each lease began."""
 
     ticket: str
     site: str
@@ -86,7 +87,7 @@ class Row(NamedTuple):
 
 
 def holding_in(line) -> Optional[Holding]:
-    """The holding that a line says, or None."""
+    """Returns the holding in a line, or `None`."""
     found = LINE.fullmatch(line)
     if found is None:
         return None
@@ -96,7 +97,7 @@ def holding_in(line) -> Optional[Holding]:
 
 
 def holdings_in(text) -> List[Holding]:
-    """The holdings that the lines of a text say, in their order."""
+    """Returns the holdings in the lines of a text, in their order."""
     lines = text.split("\n")
     if lines[-1] == "":
         lines.pop()
@@ -105,7 +106,7 @@ def holdings_in(text) -> List[Holding]:
         holding = holding_in(line)
         if holding is None:
             shown = line if len(line) <= 60 else f"{line[:60]}..."
-            raise BadLine(f"line {number}: no holding: {shown!r}")
+            raise BadLine(f"line {number}: not a holding: {shown!r}")
         holdings.append(holding)
     return holdings
 
@@ -114,7 +115,7 @@ def holdings_in(text) -> List[Holding]:
 
 
 def joined(spans) -> List[Span]:
-    """Spans that touch as one, in order of time."""
+    """Returns the spans in order of time, with those that touch joined into one."""
     whole: List[Span] = []
     for span in sorted(span for span in spans if span.start < span.until):
         if whole and span.start <= whole[-1].until:
@@ -125,7 +126,7 @@ def joined(spans) -> List[Span]:
 
 
 def common(one, other) -> List[Span]:
-    """When both hold, each being joined spans."""
+    """Returns when both hold. Each argument has joined spans."""
     found, at, place = [], 0, 0
     while at < len(one) and place < len(other):
         start, until = max(one[at].start, other[place].start), min(one[at].until, other[place].until)
@@ -139,7 +140,7 @@ def common(one, other) -> List[Span]:
 
 
 def rows_of(holdings) -> List[Row]:
-    """The rows: tickets in the order in which they come, and of each its sites likewise."""
+    """Returns the rows: the tickets in the order of their first lines, and the sites of each ticket likewise."""
     sites: dict = {}
     for holding in holdings:
         sites.setdefault(holding.ticket, {}).setdefault(holding.site, []).append(holding)
@@ -158,14 +159,14 @@ def rows_of(holdings) -> List[Row]:
 
 
 def moment(millis, shape="%Y-%m-%d %H:%M:%S"):
-    """A moment as a date in UTC, or as its number if no date tells it."""
+    """Returns a time as a date in UTC, or as its number from the year 10000 on."""
     if millis >= NO_END:
         return str(millis)
     return time.strftime(shape, time.gmtime(millis // 1000))
 
 
 def length_of(millis):
-    """How long a time is, in its two greatest units."""
+    """Returns a duration in its two largest units."""
     units = (("d", 24 * HOUR), ("h", HOUR), ("min", 60_000), ("s", 1000), ("ms", 1))
     parts = []
     for name, size in units:
@@ -178,7 +179,7 @@ def length_of(millis):
 
 
 def shown_span(rows) -> Span:
-    """The time that is drawn: all leases, but of one without an end only its beginning."""
+    """Returns the time that is drawn: all leases, but only the beginning of a lease without an end."""
     spans = [span for row in rows for span in row.held]
     moments = [each for span in spans for each in span if each < NO_END]
     if not moments:
@@ -192,7 +193,7 @@ def shown_span(rows) -> Span:
 
 
 class Axis:
-    """Where a moment stands across."""
+    """The axis of time: it converts a time to a place on the picture."""
 
     def __init__(self, span, left):
         self.span = span
@@ -204,13 +205,13 @@ class Axis:
         return self.left + (self.right - self.left) * inside / (self.span.until - self.span.start)
 
     def step(self):
-        """The shortest time between marks for which there is room."""
+        """Returns the shortest time between marks for which there is room."""
         most = max(1, int((self.right - self.left) / MARK_ROOM))
         whole = self.span.until - self.span.start
         return next((step for step in STEPS if whole <= step * most), whole)
 
     def marks(self):
-        """The moments of the marks, each with what is said of it: the date if it is another than before."""
+        """Returns the times of the marks, each with its text, and with the date if it differs from the last mark's."""
         step, day, marks = self.step(), None, []
         shape = "%H:%M" if step >= 60_000 else "%H:%M:%S"
         for millis in range(-(-self.span.start // step) * step, self.span.until + 1, step):
@@ -226,7 +227,7 @@ class Axis:
 
 
 def box(kind, axis, span, top, title):
-    """A bar with what is said if a pointer rests on it. One without an end goes on to the picture's edge."""
+    """Returns a bar with the text that is shown under a pointer. A bar without an end reaches the picture's edge."""
     left = axis.at(span.start)
     right = WIDTH if span.until >= NO_END else axis.at(span.until)
     size = f'x="{left:.1f}" y="{top}" width="{max(right - left, 1):.1f}" height="{BAR}"'
@@ -239,12 +240,12 @@ def told_of(row, span, what):
 
 
 def drawn_row(row, axis, top):
-    """One row: its leases, above them what another site has too, and where each renewal began."""
+    """Returns one row: its leases, above them the overlaps with other sites, and the beginning of each renewal."""
     middle = top + BAR / 2
     parts = [f'<text x="{EDGE}" y="{middle + 4:.0f}">{escape(row.ticket)} at {escape(row.site)}</text>']
     parts += [box("held", axis, span, top, told_of(row, span, "at")) for span in row.held]
     parts += [box("both", axis, span, top, told_of(row, span, "at another site and at")) for span in row.both]
-    # (if there is room between them)
+    # (only if there is room between the beginnings)
     if 0 < len(row.starts) * 4 < axis.right - axis.left:
         lines = (f"M{axis.at(start):.1f} {top}v{BAR}" for start in row.starts)
         parts.append(f'<path class="turn" d="{"".join(lines)}"/>')
@@ -252,7 +253,7 @@ def drawn_row(row, axis, top):
 
 
 def drawn_axis(axis, top, bottom):
-    """The axis below the rows, with a line up for each mark, and dates if they change."""
+    """Returns the axis below the rows, with a vertical line for each mark, and dates where they change."""
     parts = [f'<path class="rule" d="M{axis.left:.1f} {bottom}H{axis.right:.1f}"/>']
     for millis, clock, date in axis.marks():
         across = axis.at(millis)
@@ -265,7 +266,7 @@ def drawn_axis(axis, top, bottom):
 
 
 def heading(rows):
-    """What the picture says in a sentence."""
+    """Returns the picture's title."""
     if not rows:
         return "No holdings"
     both: dict = {}
@@ -283,7 +284,7 @@ def heading(rows):
 
 
 def picture(holdings) -> str:
-    """The SVG of these holdings."""
+    """Returns the SVG of these holdings."""
     rows = rows_of(holdings)
     longest = max((len(row.ticket) + len(row.site) + 4 for row in rows), default=0)
     axis = Axis(shown_span(rows), min(EDGE + longest * LETTER, WIDTH * 0.6))

@@ -1,9 +1,10 @@
 #!/usr/bin/env python3
-"""Shows what tools/demo.py shows, with programs that are not proved: `rt try` builds them in a minute or two.
+"""Shows the demo of tools/demo.py with programs that are not proved: `rt try` builds them in a minute or two.
 
 Run it as `make try`. `rt try -- ARGUMENTS` builds a program and runs it with these arguments, in a folder that it
-removes. So the daemon is started that way, with arguments by which it runs for a while. Its command line names its file,
-which has all programs: it is copied, and then rt is ended. This leaves nothing, and needs only the use of port 9929.
+removes. This program starts the daemon that way, with arguments with which it keeps running. The daemon's command line
+names its file, which has all programs. This program copies the file, and then ends rt. It leaves no files behind, and
+needs only the port 9929.
 """
 
 import contextlib
@@ -22,11 +23,11 @@ from serving import end_by_signals
 
 TOP = os.path.dirname(os.path.dirname(os.path.abspath(__file__)))
 PROGRAMS = ("boothd", "booth", "booth-follow")
-# how long a build may take, on a machine that does much else
+# how long a build may take on a busy machine
 SECONDS_TO_BUILD = 1800
-# how often the processes are looked at
+# the pause between two looks at the processes, in seconds
 PAUSE = 0.1
-# addresses at which nobody listens
+# addresses at which no program listens
 OWN, OTHER = "127.0.0.250", "127.0.0.251"
 CONF = f"""\
 site = "{OWN}"
@@ -37,7 +38,7 @@ ticket = "ticket-db8"
 
 
 class Failed(Exception):
-    """No program came of it; the text says why."""
+    """The build made no program; the text is the cause."""
 
 
 class Build(NamedTuple):
@@ -57,7 +58,7 @@ def parent_of(process: int) -> int:
 
 
 def is_below(process: int, ancestor: int) -> bool:
-    """Returns whether a process was started by another one, or by one that this started."""
+    """Returns whether a process is a descendant of another one."""
     while process > 1:
         process = parent_of(process)
         if process == ancestor:
@@ -66,10 +67,10 @@ def is_below(process: int, ancestor: int) -> bool:
 
 
 def program_of(build: Build) -> Optional[List[str]]:
-    """Returns the command by which the built program runs, without its arguments, or nothing if it does not run yet.
+    """Returns the command of the built program without its arguments, or `None` if it does not run yet.
 
-    It is the command line of a process below rt that ends with exactly these arguments. The program's file is the last
-    word of the command: a loader may stand before it.
+    It is the command line of a descendant of rt that ends with exactly these arguments. The last word of the command is
+    the program's file; a loader may come before it.
     """
     count = len(build.arguments)
     for name in os.listdir("/proc"):
@@ -84,13 +85,13 @@ def program_of(build: Build) -> Optional[List[str]]:
 
 
 def copied(command: List[str], folder: str) -> List[str]:
-    """Writes a program for each name, which runs a copy of the file that this command runs, and returns their paths."""
+    """Writes a script for each name, which runs a copy of the command's file, and returns the paths of the scripts."""
     *before, source = command
     paths = []
     files = os.path.join(folder, "files")
     os.makedirs(files)
     for name in PROGRAMS:
-        # (the file is the program that its name says)
+        # (the name of the file selects which program it is)
         file, path = os.path.join(files, name), os.path.join(folder, name)
         shutil.copyfile(source, file)
         with open(path, "w", encoding="utf-8") as script:
@@ -112,7 +113,7 @@ def begin(arguments: List[str], folder: str) -> Build:
 
 
 def end(build: Build) -> None:
-    """Tells rt to stop, and waits until it has removed its folder and ended the program."""
+    """Sends rt a signal to stop, and waits until it has removed its folder and ended the program."""
     with contextlib.suppress(ProcessLookupError):
         build.process.send_signal(signal.SIGTERM)
     try:
@@ -147,7 +148,7 @@ def await_programs(build: Build, folder: str) -> List[str]:
 
 @contextlib.contextmanager
 def built(folder: str) -> Iterator[demo.Programs]:
-    """A `with` block in which the programs are there, built without a proof."""
+    """Builds the programs without a proof. They exist during the `with` block."""
     conf = f"{folder}/try.conf"
     with open(conf, "w", encoding="ascii") as file:
         file.write(CONF)

@@ -1,20 +1,21 @@
-"""Which ways between two members carry nothing, by what both count of one another.
+"""Finds broken network paths between two members, from the counters of both.
 
-A takeover wants the ways between a site that holds nothing and the others, which nobody uses for days: there a member
-says something when it starts, and then when it acquires. It is imported by tools/judging.py, and not run by itself.
+A takeover needs the paths between a site that holds nothing and the other members. Nobody uses these paths for days:
+such a site sends something when it starts, and then only when it acquires a ticket. The module is imported by
+tools/judging.py, and not run by itself.
 """
 
 from problems import WARNING, Problem
 from wording import span
 
-# of so many messages in turn one comes, if the way is there at all
+# if so many messages in a row are lost, the path counts as broken
 LOST_IN_TURN = 3
-# how much later than in a lease a holder may be heard, in seconds: `last` is a whole second
+# in seconds: how much longer than a lease a holder may be silent, because `last` is a whole second
 SLACK = 2
 
 
 class End:
-    """What one of two members tells of the other."""
+    """The counters of one member about another one."""
 
     def __init__(self, answer, peer, change, limit):
         self.address = answer.member.address
@@ -26,17 +27,17 @@ class End:
 
 
 def limit_of(configuration, answer):
-    """The shortest lease that the member holds, or None."""
+    """Returns the shortest lease that the member holds, or `None`."""
     held = {held.ticket for held in answer.held or () if held.owner == answer.member.address}
     automatic = (ticket for ticket in configuration.tickets if not ticket.is_manual)
     return min((ticket.expire for ticket in automatic if ticket.name in held), default=None)
 
 
 def what_fails(sender, hearer):
-    """How it shows that nothing of the sender comes to the hearer, or None if it does not show."""
+    """Returns since when the hearer has received nothing from the sender, as text, or `None` if the path works."""
     if sender.peer.sent and not hearer.peer.received:
         return "since it started"
-    # a holder says something in the time of a lease, and is answered
+    # a holder sends something, and gets answers, at least once in a lease
     limits = [limit for limit in (sender.limit, hearer.limit) if limit is not None]
     if limits and hearer.age is not None and hearer.age > min(limits) + SLACK:
         return f"for {span(hearer.age)}"
@@ -46,7 +47,7 @@ def what_fails(sender, hearer):
 
 
 def problems(configuration, answers, changed):
-    """Each pair of members of which one hears nothing of the other."""
+    """Yields each pair of members of which one receives nothing from the other."""
     told = {}
     for answer in answers:
         for peer in answer.counts.peers if answer.counts else ():
@@ -59,10 +60,10 @@ def problems(configuration, answers, changed):
             continue
         there, back = what_fails(first, second), what_fails(second, first)
         if there and back:
-            text = f"{one} and {other} hear nothing of one another ({back}; {there})"
+            text = f"{one} and {other} receive nothing from each other ({back}; {there})"
             yield Problem(WARNING, "no-way", text, one, other)
         elif there or back:
             deaf, heard, how = (second, first, there) if there else (first, second, back)
-            text = f"{deaf.address}: hears nothing of {heard.address} ({how})"
-            text += f", which heard it {span(heard.age or 0)} ago"
+            text = f"{deaf.address}: receives nothing from {heard.address} ({how})"
+            text += f", which heard from it {span(heard.age or 0)} ago"
             yield Problem(WARNING, "one-way", text, deaf.address, heard.address)

@@ -1,6 +1,6 @@
-"""How moments, spans of time and columns are written.
+"""The text forms of dates, durations and columns.
 
-It is imported by the programs of the package and by modules of theirs, and not run by itself.
+It is imported by the programs of the package and their modules, and not run by itself.
 """
 
 import time
@@ -10,40 +10,40 @@ UNITS = (("d", 86_400), ("h", 3600), ("min", 60), ("s", 1))
 
 
 def plain(text):
-    """The text with an escape in place of each character that a terminal would act on, as those of a file's name may be."""
+    """Returns the text with each unprintable character escaped. (A file's name may have ones that act on terminals.)"""
     return "".join(each if each.isprintable() else each.encode("unicode_escape").decode("ascii") for each in text)
 
 
 def date(seconds):
-    """The date in UTC. A number of seconds whose year has more than four digits stays as it is."""
+    """Returns the date in UTC. If the year has more than four digits, returns the number of seconds."""
     if not 0 <= seconds < YEAR_10000:
         return f"@{int(seconds)}"
     return time.strftime("%Y-%m-%d %H:%M:%S", time.gmtime(seconds))
 
 
 def span(seconds):
-    """How long something lasts, in the greatest unit of which it has two."""
+    """Returns a duration in the largest unit of which it has at least two."""
     whole = max(0, int(seconds))
     unit, size = next((each for each in UNITS if whole >= 2 * each[1]), UNITS[-1])
     return f"{whole // size} {unit}"
 
 
 def aligned(rows):
-    """The rows as lines, each column as wide as its widest field."""
+    """Returns the rows as lines, with each column as wide as its widest field."""
     widths = [max(map(len, column)) for column in zip(*rows)]
     return ["  ".join(field.ljust(width) for field, width in zip(row, widths)).rstrip() for row in rows]
 
 
 def count(number, what):
-    """So many of what this word names."""
+    """Returns a number with a noun, in the plural if needed."""
     return f"{number} {what}{'' if number == 1 else 's'}"
 
 
 def listed(names, most=3):
-    """The first of these names, and how many more there are."""
+    """Returns the first of these names, and how many more there are."""
     return ", ".join(names[:most]) + (f" and {len(names) - most} more" if len(names) > most else "")
 
 
 def several(what, names):
-    """These names with what they are, as in `tickets a, b`."""
+    """Returns these names after a noun, as in `tickets a, b`."""
     return f"{what}{'s' if len(names) > 1 else ''} {listed(names)}"
