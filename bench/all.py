@@ -1,7 +1,7 @@
 #!/usr/bin/env python3
-"""Runs every bench of this folder, one after another, and prints one table of all that they measured.
+"""Runs every bench of this folder, one after another, and prints one table with all their results.
 
-Run it as `python3 bench/all.py [--write] [NAME..]` on a machine that does nothing else, over what `make build` and the
+Run it as `python3 bench/all.py [--write] [NAME..]` on an idle machine, over what `make build` and the
 gate leave; NAME is that of a bench, as `links`, and without one all are run, in some 15 minutes. With --write the table
 takes the place of the one in bench/README.md. The status is 1 if a mark is missed by more than a tenth, or a bench
 failed.
@@ -40,6 +40,7 @@ BENCHES = {
     "simulation": "the simulation",
     "tickets": "a cluster",
     "follow": "a service",
+    "followers": "many services",
     "thousands": "thousands",
 }
 README = f"{HERE}/README.md"
@@ -48,7 +49,7 @@ PLACE = re.compile(r"(<!-- figures -->\n).*?(<!-- end of figures -->\n)", re.S)
 
 
 def rows_of(name, folder):
-    """The rows of a bench, and whether it ended well. What it prints is shown."""
+    """Runs a bench, shows its output, and returns its rows and whether it succeeded."""
     notes = os.path.join(folder, name)
     started = time.monotonic()
     print(f"\n== bench/{name}.py", flush=True)
@@ -61,7 +62,7 @@ def rows_of(name, folder):
 
 
 def machine(load):
-    """What the table was taken on."""
+    """Returns the machine on which the table was measured."""
     kernel = f"Linux {platform.release()}"
     loads = f"a load of {load:.1f} before and {os.getloadavg()[0]:.1f} after"
     with open("/proc/cpuinfo", encoding="utf-8") as file:
@@ -71,7 +72,7 @@ def machine(load):
 
 
 def written(text):
-    """Puts the text in its place in the README."""
+    """Writes the text into its place in the README."""
     with open(README, encoding="utf-8") as file:
         before = file.read()
     after, count = PLACE.subn(lambda found: found[1] + text + found[2], before)

@@ -1,13 +1,14 @@
 #!/usr/bin/env python3
-"""Measures what a burst of answers loses at a proved boothd whose sockets have the room of Linux's defaults.
+"""Measures how many datagrams of a burst of answers a proved boothd loses with the default socket buffers of Linux.
 
 Run it as `python3 bench/backlog.py [BOOTHD [WITHOUT [TICKETS]]]`, BOOTHD being what `make build` leaves if it is
 left out, and WITHOUT a boothd whose host has no backlog: one in which `Socket::drain` of crates/booth_real takes
 nothing. It prints one table, and takes half a minute for each program.
 
-A site starts whose records have a lease of each of 4,096 tickets. It holds on, and asks for all of them anew in one
-turn: so 8,192 answers come while it keeps 4,096 records. What the system dropped at its socket is counted, and how long
-it takes from the start until all leases are renewed. What was lost is asked for again a `timeout` later.
+A site starts whose records have a lease of each of 4,096 tickets. It still holds them, and starts an election for each
+of them in one turn, so 8,192 answers arrive while it writes 4,096 records. The bench counts the datagrams that the
+system dropped at its socket, and measures the time from the start until all leases are renewed. A request whose answer
+was lost is sent again a `timeout` later.
 """
 
 import itertools
@@ -42,27 +43,27 @@ ADDRESSES = own_addresses()
 
 
 def lease_record(until):
-    """A record file of version 2 with a lease in term 1 until this moment, and nothing else."""
+    """Returns a record file of version 2 with only a lease in term 1 until this time."""
     fields = record_file.SECOND_FORM.pack(2, 1, record_file.HAS_LEASE, 1, int(until * 1000), 0, 0, 0, 0, 0, 0, 0)
     slot = bytes([record_file.OPEN]) + bytes(7) + struct.pack(">Q", 1) + fields
     return bytes(record_file.LAYOUTS[2].place) + slot
 
 
 def hold_all(member, tickets, until):
-    """Gives the member, which does not run, a lease of each ticket."""
+    """Writes a lease of each ticket into the records of the member, which does not run."""
     for ticket in tickets:
         with open(member.record_path(ticket), "wb") as file:
             file.write(lease_record(until))
 
 
 def is_renewed(member, ticket, until):
-    """Whether the lease of a ticket ends later than it did."""
+    """Returns whether the lease of a ticket ends later than before."""
     record = member.record(ticket)
     return record is not None and record.until is not None and record.until > until
 
 
 def measured(program, folder, count):
-    """How long the renewal of all takes, and how many datagrams were dropped meanwhile."""
+    """Returns how long the renewal of all tickets takes, and how many datagrams were dropped during it."""
     tickets, until = names(count), now() + TIMES.expire / 2
     addresses = list(itertools.islice(ADDRESSES, 3))
     with Cluster(program, folder, addresses, times=TIMES, tickets=tickets) as made:

@@ -28,7 +28,7 @@ from serving import NotServing, built_program, end_by_signals, own_addresses
 TRIES = 20
 # as many clients as may wait, each for a ticket of its own
 MANY = tuple(b"ticket-%02d" % number for number in range(64))
-# how long the clients must come before the members that were stopped go on, in seconds
+# how long the clients must come before the members that were stopped continue, in seconds
 SECONDS_TO_COME = 1.5
 # as many attributes as a member has room for, of eight tickets, as one ticket has
 NAMES, TICKETS = 64, 8
@@ -46,7 +46,7 @@ def require(holds, what):
 
 @contextlib.contextmanager
 def serving(programs, folder, tickets):
-    """Three members that answer rounds."""
+    """Three members that vote from their start on."""
     addresses = list(itertools.islice(ADDRESSES, 3))
     with Cluster(programs[0], folder, addresses, client=programs[1], tickets=tickets) as made:
         made.remember()
@@ -55,12 +55,12 @@ def serving(programs, folder, tickets):
 
 
 def words_of(made, ticket, *command):
-    """The words of a run of `booth` at the first member."""
+    """Returns the arguments of a run of `booth` at the first member."""
     return [made.client, *command, ticket.decode(), "-c", made.conf, "-s", made.members[0].address]
 
 
 def grant_rows(programs, folder):
-    """`booth grant -w` from exec to exit, each after a revocation."""
+    """Measures `booth grant -w` from exec to exit, each after a revocation."""
     took = []
     with serving(programs, folder, (TICKET,)) as made:
         for _ in range(TRIES):
@@ -76,7 +76,7 @@ def signalled(members, number):
 
 
 def waiting_rows(programs, folder):
-    """64 clients that wait while the other members are stopped, until the last is told."""
+    """Measures 64 clients that wait while the other members are stopped, until the last client gets its answer."""
     with serving(programs, folder, MANY) as made:
         one, *others = made.members
         resident = status_field(one.server.process, "VmRSS")
@@ -96,7 +96,7 @@ def waiting_rows(programs, folder):
 
 
 def attribute(number):
-    """A name of the greatest length."""
+    """Returns a name of the greatest length."""
     return b"%0*d" % (NAME_BYTES, number)
 
 
@@ -106,7 +106,7 @@ def answered(member, letters, ticket, number, value=b""):
 
 
 def get_micros(member, ticket, number):
-    """The daemon's CPU of a get of one name, in microseconds."""
+    """Returns the daemon's CPU time for a get of one name, in microseconds."""
     before = cpu_seconds(member.server.process)
     for _ in range(GETS):
         answered(member, "AGet", ticket, number)

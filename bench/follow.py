@@ -1,11 +1,11 @@
 #!/usr/bin/env python3
 """Measures services that follow their ticket at three proved boothd on loopback: at rest, and from a death to a start.
 
-Run it as `python3 bench/follow.py [BOOTHD BOOTH-FOLLOW]`, the programs being what `make build` leaves where they are
-left out. It prints one table and takes two minutes. The ticket has `expire = 10` and `timeout = 1`, and the times of the
-follower are those that follow from them.
+Run it as `python3 bench/follow.py [BOOTHD BOOTH-FOLLOW]`, the programs being what `make build` leaves where they
+are left out. It prints one table and takes two minutes. The ticket has `expire = 10` and `timeout = 1`, and the
+times of the follower are those that follow from them.
 
-A start is told by the service's first line, and a stop by its last one before the lease's end, of ten in a second.
+The service writes ten lines a second: its first line shows a start, and its last line before the lease's end a stop.
 """
 
 import os
@@ -36,7 +36,7 @@ def require(holds, what):
 
 
 def at_rest(services, member):
-    """What a follower takes whose service runs: memory, and processor time in a day."""
+    """Returns the memory of a follower whose service runs, and its processor time in a day."""
     follower = services.followers[member.address]
     before = cpu_seconds(follower)
     time.sleep(SECONDS_AT_REST)
@@ -47,7 +47,7 @@ def at_rest(services, member):
 
 
 def dies(cluster, services, holder, other):
-    """From the holder's death to the start elsewhere, and how long before the lease's end the service was stopped."""
+    """Measures the time from the holder's death to the start elsewhere, and from the stop to the lease's end."""
     died = now()
     holder.kill()
     until = holder.record().until

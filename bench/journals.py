@@ -1,9 +1,9 @@
 #!/usr/bin/env python3
-"""Measures what a journal costs a proved boothd on loopback, and what an audit of a million lines takes.
+"""Measures the cost of a journal for a proved boothd on loopback, and the time of an audit of a million lines.
 
 Run it as `python3 bench/journals.py [PROGRAM]`, PROGRAM being what `make build` leaves if it is left out. It prints
-one table, has the status 1 if a mark is missed by more than a tenth, and takes half a minute. The turns with and
-without a journal are taken in rounds by turns, so that other work on the machine spoils both alike.
+one table, has the status 1 if a mark is missed by more than a tenth, and takes half a minute. Rounds with and without
+a journal alternate, so that other work on the machine disturbs both equally.
 """
 
 import contextlib
@@ -33,7 +33,7 @@ LINES_A_SECOND, TIMES_ITS_BYTES = 200_000, 4
 
 
 def dropped(member):
-    """Datagrams that are dropped, no faster than they are taken. Gives how many turns they made."""
+    """Sends datagrams that are dropped, no faster than the daemon reads them. Returns how many turns they made."""
     with socket.socket(socket.AF_INET, socket.SOCK_DGRAM) as sender:
         sender.connect((member.address, frames.PORT))
         for number in range(DROPPED):
@@ -51,7 +51,7 @@ def listed(member):
 
 
 def micros(member, work):
-    """The daemon's CPU of a turn of this work, in microseconds."""
+    """Returns the daemon's CPU time for a turn of this work, in microseconds."""
     before = cpu_seconds(member.server.process)
     turns = work(member)
     return (cpu_seconds(member.server.process) - before) / turns * 1e6
@@ -59,7 +59,7 @@ def micros(member, work):
 
 @contextlib.contextmanager
 def pair(program, folder):
-    """An arbitrator that writes a journal and one that writes none, each alone in a cluster of three."""
+    """Runs an arbitrator with a journal and one without, each as the only running member of a cluster of three."""
     addresses = own_addresses()
     with contextlib.ExitStack() as both:
         members = []
@@ -82,7 +82,7 @@ def turn_rows(members):
 
 
 def byte_rows(member):
-    """What a daemon writes that has nothing to do."""
+    """Measures the journal of an idle daemon."""
     before = os.path.getsize(member.journal)
     started = time.monotonic()
     time.sleep(SECONDS_OF_QUIET)
@@ -94,7 +94,7 @@ def byte_rows(member):
 
 
 def audit_rows(program, conf, begin, address, folder):
-    """An audit of a million lines."""
+    """Measures an audit of a million lines."""
     path = os.path.join(folder, "long")
     lines = long_journal(begin, address)
     with open(path, "wb") as file:

@@ -1,9 +1,10 @@
 #!/usr/bin/env python3
-"""Measures lists over TCP at a proved boothd on loopback, on one open link and on sixteen, beside UDP in the same run.
+"""Measures lists over TCP at a proved boothd on loopback, on one link and on sixteen, and over UDP in the same run.
 
-Run it as `python3 bench/links.py [BOOTHD [BEFORE]]`, BOOTHD being what `make build` leaves if it is left out. It prints one
-table in some seconds, and has the status 1 if a mark is missed by more than a tenth. With BEFORE, a boothd that serves no
-links, it also counts the instructions of a turn of both, as bench/turn.py does, which needs valgrind and a minute.
+Run it as `python3 bench/links.py [BOOTHD [BEFORE]]`, BOOTHD being what `make build` leaves if it is left out. It
+prints one table in some seconds, and has the status 1 if a mark is missed by more than a tenth. With BEFORE, a
+boothd that serves no links, it also counts the instructions of a turn of both, as bench/turn.py does, which needs
+valgrind and a minute.
 """
 
 import contextlib
@@ -32,7 +33,7 @@ MOST, OF, MILLIS = 999, 1000, 5
 
 
 def frame_of(link):
-    """The bytes of the next reply."""
+    """Returns the bytes of the next reply."""
     head = link.receive(frames.HEAD_BYTES)
     return head + link.receive(frames.Head.read(head).length - frames.HEAD_BYTES)
 
@@ -48,7 +49,7 @@ def over_udp(asker, request):
 
 
 def times_of(ask, request, count):
-    """How long each of so many lists takes, in seconds."""
+    """Returns how long each of so many lists takes, in seconds."""
     took = []
     for _ in range(count):
         begun = time.perf_counter()
@@ -58,7 +59,7 @@ def times_of(ask, request, count):
 
 
 def in_turns(asks, request, process):
-    """The times of each of these ways, in rounds that take turns, and the daemon's CPU a list of each."""
+    """Measures each of these transports in alternating rounds: the times, and the daemon's CPU time for a list."""
     took, cpu = [[] for _ in asks], [0.0 for _ in asks]
     for _ in range(ROUNDS):
         for place, ask in enumerate(asks):
@@ -69,7 +70,7 @@ def in_turns(asks, request, process):
 
 
 def lists_a_second(askers, ask, answer, process):
-    """Lists a second of askers that ask at once, of the best round, and the daemon's CPU a list."""
+    """Measures clients that ask at the same time: lists a second of the best round, and CPU time a list."""
     best, before = 0.0, cpu_seconds(process)
     for _ in range(ROUNDS):
         begun = time.perf_counter()
@@ -84,7 +85,7 @@ def lists_a_second(askers, ask, answer, process):
 
 @contextlib.contextmanager
 def udp_askers(count, address):
-    """So many sockets that ask over UDP."""
+    """Opens so many sockets for requests over UDP."""
     with contextlib.ExitStack() as stack:
         made = [stack.enter_context(socket.socket(socket.AF_INET, socket.SOCK_DGRAM)) for _ in range(count)]
         for each in made:
@@ -94,7 +95,7 @@ def udp_askers(count, address):
 
 
 def many_rows(address, request, process):
-    """Sixteen that ask at once, over UDP and over TCP."""
+    """Measures sixteen clients that ask at the same time, over UDP and over TCP."""
     with udp_askers(LINKS, address) as made:
         udp = lists_a_second(made, lambda each: each.send(request), lambda each: each.recv(frames.FRAME_BYTES), process)
     with links(LINKS, address) as opened:
@@ -129,7 +130,7 @@ def rows(program, folder):
 
 
 def turn_rows(program, before):
-    """The instructions of a turn without links, of a daemon that serves them and of one that does not."""
+    """Counts the instructions of a turn without links, for a daemon that serves links and for one that does not."""
     counted = [a_turn(each, 1) for each in (before, program)]
     ratio = counted[1] / counted[0]
     yield Row("instructions of a turn, before; with links served", "; ".join(f"{count:,.0f}" for count in counted))

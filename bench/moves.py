@@ -1,12 +1,12 @@
 #!/usr/bin/env python3
-"""Measures `booth move -w` at three proved boothd on loopback: from exec to exit, and how long nobody held.
+"""Measures `booth move -w` at three proved boothd on loopback: from exec to exit, and how long no site held the ticket.
 
 Run it as `python3 bench/moves.py [BOOTHD BOOTH]`, the programs being what `make build` leaves where they are left out.
 It prints one table and takes half a minute. The members share this machine with each other and with what else it does.
 
-How long nobody held is told from outside, by the record files alone: a look is a read of the old holder's record and of
-the new one's. It is the time between the last look at which the old record was in force and the first at which the new
-one is, so it is too long by the time of two looks at most.
+The time without a holder is measured from the record files alone: a look reads the records of the old holder and of the
+new one. It is the time between the last look at which the old lease was in force and the first look at which the new
+one is, so the value is too long by at most the time of two looks.
 """
 
 import itertools
@@ -40,7 +40,7 @@ def require(holds, what):
 
 
 class Looks(threading.Thread):
-    """Looks from a move's begin to the new holder's lease, as often as it can."""
+    """Looks as often as it can, from the beginning of a move to the new holder's lease."""
 
     def __init__(self, old, new):
         super().__init__(daemon=True)
@@ -68,7 +68,7 @@ def move_words(made, target):
 
 
 def moved(made, old, new):
-    """How long a move from one to the other took, and how long nobody held, in milliseconds."""
+    """Returns how long a move from one site to the other took, and how long no site held, in milliseconds."""
     looks = Looks(old, new)
     looks.start()
     took = one_run(move_words(made, new))
@@ -78,7 +78,7 @@ def moved(made, old, new):
 
 
 def rows(programs, folder):
-    """Moves between the two sites, of which each is looked at, and as many of which none is."""
+    """Makes moves between the two sites, half of them with looks at the records and half without."""
     with Cluster(programs[0], folder, list(itertools.islice(ADDRESSES, 3)), client=programs[1]) as made:
         made.remember()
         made.start()

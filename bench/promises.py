@@ -2,7 +2,7 @@
 """Measures what kept promises cost: keeps of an election and a renewal, votes a second, and a voter's restart.
 
 Run it as `python3 bench/promises.py [BOOTHD TRIALS]`, the programs being what `make build` and rt leave where they are
-left out. It prints one table, has the status 1 if a mark is missed by more than a tenth, and takes two minutes. All
+left out. It prints one table, has the status 1 if a mark is missed by more than a tenth, and takes three minutes. All
 of it is on one disk, in the folder for temporary files: what else writes to that spoils it. A voter is asked by a site
 that is none: this program has its address.
 """
@@ -19,7 +19,7 @@ import time
 
 HERE = os.path.dirname(os.path.abspath(__file__))
 TOP = os.path.dirname(HERE)
-sys.path[:0] = [HERE, f"{TOP}/tools"]
+sys.path[:0] = [HERE, f"{TOP}/tools", f"{TOP}/tests"]
 
 import frames
 import record_file
@@ -28,6 +28,7 @@ from records import TRIALS, host_round
 from rows import Row, at_least, below, print_table
 from run import cpu_seconds
 from serving import NotServing, built_program, end_by_signals, own_addresses
+from slow_disk import SlowDisk
 
 MANY = tuple(b"ticket-%02d" % number for number in range(64))
 FEW = MANY[:10]
@@ -37,6 +38,8 @@ SECONDS = 20
 ROUNDS, VOTES, AT_ONCE = 15, 400, 16
 RESTARTS = 40
 SECONDS_TO_ANSWER = 10
+# how long a sync of a slow disk takes, in seconds
+SLOW_SYNC = 0.01
 LAST_TERM = 4_294_967_294
 
 ADDRESSES = own_addresses()
@@ -123,7 +126,7 @@ def heard_at(address):
         yield hearer
 
 
-def renewal_rows(program, folder):
+def renewals(program, folder):
     """From the turn of a renewal to what is said of the kept lease, as the arbitrator hears it, which is silent."""
     with made(program, folder, FEW) as cluster:
         cluster.start(0, 1)
@@ -139,8 +142,16 @@ def renewal_rows(program, folder):
                 elif head.cmd == frames.code("UpdE") and ticket in opened:
                     took.append(moment - opened.pop(ticket))
     require(len(took) >= len(FEW), f"{len(took)} renewals")
-    shown = f"{statistics.median(took) * 1e3:.1f} ms (lowest: {min(took) * 1e3:.1f} ms, {len(took)} of them)"
-    yield Row("a renewal, from its round to what is said of the kept lease", shown)
+    return f"{statistics.median(took) * 1e3:.1f} ms (lowest: {min(took) * 1e3:.1f} ms, {len(took)} of them)"
+
+
+def renewal_rows(program, folder):
+    """Renewals on this disk, and on one whose syncs take longer, at the holder and at the voter."""
+    yield Row("a renewal, from its round to what is said of the kept lease", renewals(program, f"{folder}/quick"))
+    os.makedirs(f"{folder}/slow")
+    slow = SlowDisk(f"{folder}/slow", program)
+    slow.sync_takes(SLOW_SYNC)
+    yield Row(f"the same with syncs of {SLOW_SYNC * 1e3:.0f} ms", renewals(slow.program, f"{folder}/slow"))
 
 
 class Site:

@@ -1,5 +1,5 @@
 #!/usr/bin/env python3
-"""Measures keeps of the real host beside a bare loop in C, and a start with many record files.
+"""Measures writes of records by the real host, compared with a bare loop in C, and a start with many record files.
 
 Run it as `python3 bench/records.py [TRIALS [BOOTHD]]`, the programs being what rt and `make build` leave if
 they are left out; without boothd nothing is said of starts. It prints one table, and has the status 1 if a
@@ -41,7 +41,7 @@ def cpu_of_children():
 
 
 def host_round(program, directory):
-    """The seconds of a keep and those of the processor, those of the start with them."""
+    """Returns the seconds of a write of a record, and its processor seconds, including the start."""
     before, started = cpu_of_children(), time.perf_counter()
     subprocess.run([program, "keeps", directory, str(KEEPS_A_ROUND)], stdout=subprocess.DEVNULL, check=True)
     took = time.perf_counter() - started
@@ -66,7 +66,7 @@ def keep_rows(program, folder):
 
 
 def record_file():
-    """A file with a record in each slot of version 2."""
+    """Returns a file with a record in each slot of version 2."""
     slots = (b"\1" + bytes(7) + number.to_bytes(8, "big") + b"\0\0\0\2" + bytes(108) for number in (1, 2))
     return (bytes(128) + b"".join(slots))[:336]
 

@@ -1,7 +1,7 @@
-"""Rows of a table: what was measured, its value, and the mark that it is held to, if any.
+"""Rows of a table: what was measured, its value, and its mark, if there is one.
 
-It is imported by the programs here, and not run by itself. Each of them has its rows printed, and bench/all.py has them
-noted in a file too, which a variable of the environment names.
+It is imported by the programs here, and not run by itself. It prints their rows, and for bench/all.py also writes them
+to a file, which an environment variable names.
 """
 
 import json
@@ -35,7 +35,7 @@ def below(name, value, shown, mark, unit):
 
 
 def all_of(name, count, total, shown=None):
-    """A row of which each is to be so."""
+    """A row of the table, with the value and the mark that it must meet."""
     return Row(name, shown or f"{count:,} of {total:,}", "all", 0 if count == total else 2)
 
 
@@ -48,7 +48,7 @@ def noted(row):
 
 
 def told(rows):
-    """Prints each row as it comes. Gives the status: 1 if a mark is missed by more than a tenth."""
+    """Prints each row when it is measured. Returns the status: 1 if a mark is missed by more than a tenth."""
     status = 0
     for row in map(noted, rows):
         words = [word.ljust(width) for word, width in zip(row[:3], WIDTHS)]
@@ -58,7 +58,7 @@ def told(rows):
 
 
 def table(rows):
-    """The lines of a table of rows, each of which is a tuple of texts, below one of names."""
+    """Returns the lines of a table of rows. Each row is a tuple of texts, and the first one has the column names."""
     rows = list(rows)
     widths = [max(map(len, column)) for column in zip(*rows)]
     rows.insert(1, tuple("-" * width for width in widths))
@@ -66,7 +66,7 @@ def table(rows):
 
 
 def print_table(rows):
-    """Prints rows that are all there. Gives the status as `told` does."""
+    """Prints all rows together. Returns the status as `told` does."""
     rows = [noted(row) for row in rows]
     print("\n".join(table([("What", "Value", "Mark", "Met")] + [(*row[:3], row.met()) for row in rows])))
     return int(any(row.met() == "NO" for row in rows))

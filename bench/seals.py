@@ -1,5 +1,5 @@
 #!/usr/bin/env python3
-"""Measures sealed frames of members, by either hash, beside OpenSSL's HMAC of the same bytes.
+"""Measures sealed frames of members, with both hashes, compared with OpenSSL's HMAC of the same bytes.
 
 Run it as `python3 bench/seals.py [--quick] [PROGRAM]`, PROGRAM being what `make build` leaves if it is left out. It
 prints one table, and has the status 1 if a mark is missed by more than a tenth. It builds two programs in C with cc,
@@ -50,7 +50,7 @@ class Pace:
 
 
 def daemon_with(bench, ring):
-    """A daemon that has this ring, or no key."""
+    """Returns a daemon with this ring, or without a key."""
     text = one_ticket()
     if ring is None:
         return bench.daemon(text)
@@ -61,7 +61,7 @@ def daemon_with(bench, ring):
 
 
 def flooded(bench, ring, frames, pace):
-    """One round of the frames at a daemon that has this ring. What it counted of them."""
+    """Sends one round of the frames to a daemon with this ring. Returns its counters of them."""
     path = bench.file("flood.frames", request_now("Peer", NO_ONE, key=ring) + b"".join(frames))
     with daemon_with(bench, ring) as daemon:
         # (so that it has seen each kind before it is measured)
@@ -89,14 +89,14 @@ def refused(bench, ring, frames, pace):
 
 
 def macs(bench, program, name, frames, pace):
-    """One round of OpenSSL's MACs of the frames."""
+    """Runs one round of OpenSSL's MACs of the frames."""
     path = bench.file("macs.frames", b"".join(frames))
     seconds, cpu = bench.said(program, name, bench.key_file, path, str(EACH))
     pace.add(seconds, cpu / 1e9)
 
 
 def served(bench, program, ring, frames, pace):
-    """One round of the frames at the peer in C, which receives each and makes its MAC."""
+    """Sends one round of the frames to the peer in C, which receives each frame and makes its MAC."""
     path = bench.file("served.frames", request_now("Peer", NO_ONE, key=ring) + b"".join(frames))
     address = bench.echo_address
     with Server([program, ring.hash, bench.key_file, "serve", address], address, key=ring) as peer:

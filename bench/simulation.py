@@ -1,9 +1,9 @@
 #!/usr/bin/env python3
-"""Measures `boothd sim` beside a bare loop in C that draws the same words and does nothing with them.
+"""Measures `boothd sim`, compared with a bare loop in C that only draws the same random words.
 
-Run it as `python3 bench/simulation.py [PROGRAM]`, PROGRAM being the built boothd (out/boothd). It prints one table and takes half
-a minute. Both programs run in turns; a value is the processor's time of the best round, less that of a run of no events. Its
-status is 1 if a mark is missed by more than a tenth.
+Run it as `python3 bench/simulation.py [PROGRAM]`, PROGRAM being the built boothd (out/boothd). It prints one table
+and takes half a minute. Both programs run in turns; a value is the processor's time of the best round, less that of
+a run of no events. Its status is 1 if a mark is missed by more than a tenth.
 """
 
 import os
@@ -33,7 +33,7 @@ def cluster_of(tickets):
 
 
 def used_by(words):
-    """The processor's seconds of a run, its peak memory in kB, and what it prints."""
+    """Returns the processor seconds of a run, its peak memory in kB, and its output."""
     with tempfile.TemporaryFile("w+") as said:
         child = subprocess.Popen(list(map(str, words)), stdout=said)
         _, status, used = os.wait4(child.pid, 0)
@@ -45,7 +45,7 @@ def used_by(words):
 
 
 def best_of(words_of, events):
-    """The processor's seconds of so many events, beyond a run of none."""
+    """Returns the processor seconds of so many events, less those of a run without events."""
     whole = min(used_by(words_of(events))[0] for _ in range(ROUNDS))
     idle = min(used_by(words_of(0))[0] for _ in range(ROUNDS))
     return max(whole - idle, 1e-6)

@@ -31,7 +31,7 @@ FORMS = (("the table", []), ("--brief", ["-b"]), ("--json", ["-j"]), ("--metrics
 
 
 def millis_of(words):
-    """How long a run takes, which must find that all is well."""
+    """Returns how long a run takes. The run must report no problem."""
     started = time.perf_counter()
     done = subprocess.run(words, stdin=subprocess.DEVNULL, stdout=subprocess.PIPE, check=False)
     took = time.perf_counter() - started
@@ -41,7 +41,7 @@ def millis_of(words):
 
 
 def hold_all(made):
-    """The first member holds every ticket, and every member lists it."""
+    """Has the first member acquire every ticket, and waits until every member lists it."""
     made.remember()
     made.start()
     one = made.members[0]
@@ -53,7 +53,7 @@ def hold_all(made):
 
 
 def rows(program, folder, key):
-    """The time of each form, and that of Python alone."""
+    """Measures the time of each form of output, and the time of Python alone."""
     addresses = list(itertools.islice(own_addresses(), 3))
     with Cluster(program, folder, addresses, tickets=MANY, key=key) as made:
         hold_all(made)

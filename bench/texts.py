@@ -1,4 +1,4 @@
-"""The configurations that bench/run.py and others measure with. @ stands for the daemon's address.
+"""The configurations for bench/run.py and other benches. @ stands for the daemon's address.
 
 It is imported by them, and not run by itself.
 """
@@ -28,12 +28,12 @@ def one_ticket():
 
 
 def many_tickets():
-    """As many as there may be, with the longest names, so the longest reply."""
+    """Returns the largest number of tickets with the longest names, which have the longest reply."""
     return MEMBERS + b"".join(b'ticket = "%02d%s"\n' % (n, b"-" * 61) for n in range(TICKETS))
 
 
 def ticket(number):
-    """A ticket with all of its keys, a handler and prerequisites as long as they may be."""
+    """Returns a ticket with all of its keys, and with the longest possible handler and prerequisites."""
     prereqs = b"".join(
         b"  attr-prereq = auto %s eq %s\n" % (b"%d" % place * 63, b"v" * 127) for place in range(8)
     )
@@ -51,7 +51,7 @@ ticket = "ticket-%02d"   # the number %d
 
 
 def long_text(size, address="192.168.201.100", key_file="/etc/booth/authkey"):
-    """A text of this size. Each 4,096 bytes of it have one ticket with all keys, and the rest is comments."""
+    """Returns a text of this size. Each 4,096 bytes of it have one ticket with all keys; the rest is comments."""
     piece = 4_096
     made = bytearray(TOP.replace(b"/etc/booth/authkey", key_file.encode()) + MEMBERS.replace(b"@", address.encode()))
     for number in range(size // piece):

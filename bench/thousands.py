@@ -5,7 +5,7 @@ Run it as `python3 bench/thousands.py [BOOTHD BOOTH [TICKETS]]`, the programs be
 are left out. It prints one table, has the status 1 if a mark is missed by more than a tenth, and takes four minutes.
 The members share this machine and its disk with each other and with what else it does.
 
-What the system drops at a member's socket is counted, so a boothd whose host has no backlog can be measured beside.
+The bench counts the datagrams that the system drops at a socket, so a boothd without a backlog can be compared with it.
 """
 
 import itertools
@@ -42,19 +42,19 @@ def require(holds, what):
 
 
 def names(count, length=20):
-    """Names of so many bytes."""
+    """Returns names of so many bytes."""
     return [b"ticket-%06d-" % number + b"x" * (length - 14) for number in range(count)]
 
 
 def held(member, tickets):
-    """How many of the tickets the member's records say that it holds."""
+    """Returns how many of the tickets the member holds according to its records."""
     moment = now()
     records = (member.record(ticket) for ticket in tickets)
     return sum(record is not None and record.holds(moment) for record in records)
 
 
 def syncs_a_second(folder):
-    """How many small writes with a sync the disk takes in a second."""
+    """Returns how many small writes with a sync the disk does in a second."""
     path, count = os.path.join(folder, "probe"), 0
     with open(path, "wb", buffering=0) as file:
         before = time.monotonic()
@@ -67,7 +67,7 @@ def syncs_a_second(folder):
 
 
 def one_list(words, path):
-    """Runs booth, which prints into this file. How many milliseconds that takes, and how many lines are there."""
+    """Runs booth, which prints into this file. Returns the milliseconds that it takes, and the number of lines."""
     into = [(os.POSIX_SPAWN_OPEN, 1, path, os.O_WRONLY | os.O_CREAT | os.O_TRUNC, 0o600)]
     before = time.perf_counter()
     _, status = os.waitpid(os.posix_spawn(words[0], words, os.environ, file_actions=into), 0)
@@ -99,7 +99,7 @@ def start_row(cluster, place, count):
 
 
 def full_row(program, folder):
-    """The memory of a member whose configuration is as long as it may be, of 4,096 tickets with all keys."""
+    """Returns the memory of a member with the longest configuration: 4,096 tickets with all keys."""
     address, key_file, conf = next(ADDRESSES), os.path.join(folder, "key"), os.path.join(folder, "full.conf")
     with open(key_file, "wb") as file:
         file.write(KEY)
@@ -115,7 +115,7 @@ def full_row(program, folder):
 
 
 def grant_all(member, tickets):
-    """Grants each, and again those whose grant came to nothing; how long it took until all were held."""
+    """Grants each ticket, again if a grant fails. Returns how long it took until all tickets were held."""
     before = time.monotonic()
     for _ in range(20):
         missing = [ticket for ticket in tickets if not held(member, [ticket])]
@@ -128,7 +128,7 @@ def grant_all(member, tickets):
 
 
 def renewal_rows(members, tickets):
-    """The processor's share and the leases' ends over a time in which all are renewed."""
+    """Measures the processor's share, and the ends of the leases, during a time in which all are renewed."""
     one = members[0]
     first = [one.record(ticket).until for ticket in tickets]
     before = [cpu_seconds(member.server.process) for member in members]
@@ -143,7 +143,7 @@ def renewal_rows(members, tickets):
 
 
 def takeover_rows(members, tickets):
-    """From the kill of the holder of all: how long behind the first that may be held the last one is."""
+    """Kills the holder of all tickets. Measures the time from the first possible takeover to the last takeover."""
     one, two, voter = members
     ends = [one.record(ticket).until for ticket in tickets]
     lost = [lost_datagrams(member.address) for member in (two, voter)]

@@ -43,7 +43,7 @@ def require(holds, what):
 
 
 def started(cluster):
-    """The first member of a cluster whose members answer rounds from their start on."""
+    """The first member of a cluster whose members vote from their start on."""
     cluster.remember()
     cluster.start()
     return cluster.members[0]
@@ -55,7 +55,7 @@ def held(member, tickets):
 
 
 def grant_rows(program, folder):
-    """A grant from the request to its reply, and to the kept record, each after a revocation."""
+    """Measures a grant from the request to its reply, and to the record on disk, each after a revocation."""
     replies, records = [], []
     with cluster(program, folder) as made:
         one = started(made)
@@ -72,14 +72,14 @@ def grant_rows(program, folder):
 
 
 def idle_seconds(member, seconds):
-    """The CPU that the member takes in so many seconds without a request."""
+    """Returns the CPU time of the member in so many seconds without a request."""
     before = cpu_seconds(member.server.process)
     time.sleep(seconds)
     return cpu_seconds(member.server.process) - before
 
 
 def dropped_micros(member):
-    """The CPU of a turn that only drops a datagram, in microseconds."""
+    """Returns the CPU time of a turn that only drops a datagram, in microseconds."""
     with socket.socket(socket.AF_INET, socket.SOCK_DGRAM) as sender:
         sender.connect((member.address, frames.PORT))
         before = cpu_seconds(member.server.process)
@@ -91,7 +91,7 @@ def dropped_micros(member):
 
 
 def list_micros(member):
-    """The CPU of a list, in microseconds."""
+    """Returns the CPU time of a list, in microseconds."""
     before = cpu_seconds(member.server.process)
     for _ in range(LISTS):
         require(member.ask("CLst"), "a list is not answered")
@@ -99,7 +99,7 @@ def list_micros(member):
 
 
 def held_rows(program, folder):
-    """64 tickets that one member holds, and one that it holds alone."""
+    """Measures 64 tickets that one member holds, and a single ticket."""
     turns = {}
     for count, tickets in ((1, MANY[:1]), (64, MANY)):
         times = Times(expire=20, timeout=2, retries=3, renewal=10)
@@ -128,7 +128,7 @@ def held_rows(program, folder):
 
 
 def takeover_rows(program, folder):
-    """From the last renewal of a holder that is killed to the record of the next."""
+    """Measures the time from the last renewal of a killed holder to the record of the next holder."""
     times = Times(expire=10, timeout=1, retries=3, renewal=5)
     with cluster(program, folder, times=times) as made:
         one = started(made)

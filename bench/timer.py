@@ -1,5 +1,5 @@
 #!/usr/bin/env python3
-"""Measures the timer alone beside a binary heap in C, at 64, 4,096 and 1,000,000 slots.
+"""Measures the timer alone, compared with a binary heap in C, at 64, 4,096 and 1,000,000 slots.
 
 Run it as `python3 bench/timer.py [PROGRAM]`, PROGRAM being the built `trials`, which rt leaves at
 crates/trials/out/trials. It prints one table and takes half a minute. Both programs run the same words in turns; a
@@ -32,7 +32,7 @@ MOMENTS = {64: 300_000, 4_096: 300_000, 1_000_000: 3_000}
 
 
 def cpu_of(words):
-    """The processor's time of a run, in seconds, and the number that it prints first."""
+    """Returns the processor time of a run, in seconds, and the first number that it prints."""
     before = resource.getrusage(resource.RUSAGE_CHILDREN)
     said = subprocess.run(list(map(str, words)), stdout=subprocess.PIPE, check=True).stdout
     after = resource.getrusage(resource.RUSAGE_CHILDREN)
@@ -41,7 +41,7 @@ def cpu_of(words):
 
 
 def nanos(programs, whole, idle):
-    """The nanoseconds that each program takes for `whole` beyond `idle`, and the number that all of them print."""
+    """Returns the nanoseconds of each program for `whole` less `idle`, and the number that all of them print."""
     best, numbers = {}, set()
     for _ in range(ROUNDS):
         for program in programs:

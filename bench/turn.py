@@ -3,11 +3,11 @@
 
 Run it as `python3 bench/turn.py [PROGRAM]`, PROGRAM being what `make build` leaves if it is left out. It needs
 valgrind, whose callgrind counts the daemon's own instructions, and takes some minutes. In a turn in which nothing is
-due an empty datagram is dropped; a request for the list of members after every 50 waits until they are read. A value
-is what 10,000 such turns more cost. A turn in which all tickets are due is the first one of a site whose records have
-a lease of each: it asks for all of them again. Its instructions are those of three functions of booth_node: the search
-for the tickets that are due (`deadlines::drain`, with the timer's walk), what each does then, and its next deadline.
-At last it measures the processor time of a start. The status is 1 if a mark is missed by more than a tenth.
+due an empty datagram is dropped; after every 50 datagrams a request for the list of members waits until they are read.
+A value is the cost of 10,000 more such turns. A turn in which all tickets are due is the first turn of a site whose
+records have a lease of each: it starts an election for each of them. Its instructions are those of three functions of
+booth_node: the search for the due tickets (`deadlines::drain`, with the timer's walk), the action of each, and its next
+deadline. Finally it measures the processor time of a start. The status is 1 if a mark is missed by more than a tenth.
 """
 
 import os
@@ -47,7 +47,7 @@ ADDRESSES = own_addresses()
 
 
 def ask(client):
-    """Waits for an answer, which the daemon gives once it has read what was sent before."""
+    """Waits for an answer, which the daemon sends after it has read all earlier datagrams."""
     until = time.monotonic() + SECONDS_TO_START
     while time.monotonic() < until:
         try:
@@ -62,7 +62,7 @@ def ask(client):
 
 
 def instructions(program, tickets, turns):
-    """What a daemon with so many tickets executes that drops so many datagrams."""
+    """Returns the instructions of a daemon with so many tickets that drops so many datagrams."""
     address = next(ADDRESSES)
     with tempfile.TemporaryDirectory(prefix="booth-bench-") as folder:
         conf = os.path.join(folder, "booth.conf")
@@ -97,7 +97,7 @@ def a_turn(program, tickets):
 
 
 class Counted(NamedTuple):
-    """The instructions for the tickets that are due in a turn, and those of the search for them."""
+    """Returns the instructions for the due tickets of a turn, and those of the search for them."""
 
     total: int
     search: int
