@@ -15,6 +15,7 @@ import frames
 import journal
 import journal_changes
 import journal_file
+import record_silence
 from auditing import (
     KEY,
     PATIENCE,
@@ -35,14 +36,14 @@ from serving import own_addresses
 
 SEED = 9929
 KILLS = 60
-# of so many kills one at least must come within a keep
+# at least one of 20 kills must interrupt a write of a record
 KILLS_OF_ONE_CUT = 20
-# a long journal: so many lines, of each ten turns one that answers a client, and what an audit of it may take
+# a long journal: its number of lines; one of ten turns answers a client; and the limits of an audit of it
 LINES, TURNS_OF_ONE_LIST = 1_000_000, 10
 LINES_A_SECOND, TIMES_ITS_BYTES = 200_000, 4
-# how much of a mark a machine that does other things may miss
+# an audit may miss its limits by this part on a machine that does other work
 TENTH = 0.1
-# runs a program, and writes its processor time in seconds and its greatest memory in kilobytes to a file
+# runs a program, and writes its CPU time in seconds and its peak memory in kilobytes to a file
 MEASURES = """\
 import resource, subprocess, sys
 status = subprocess.call(sys.argv[2:])
@@ -54,7 +55,7 @@ sys.exit(status)
 
 
 def line_of(path, holds):
-    """The first entry of a journal, from the last start on, for which this holds."""
+    """Returns the first entry of a journal, from the last start on, for which this holds."""
     return next(entry for entry in reversed(journal_file.read(path)) if holds(entry))
 
 
@@ -105,7 +106,7 @@ def other_times_in_the_file(boothd, folder):
 
 
 def a_record_that_is_not_the_last(boothd, folder):
-    """a record that was restored from a copy is found, and so is a record that was removed"""
+    """a record that was restored from a copy is found, and a record that an arbitrator lost is no fault"""
     with cluster_in(boothd, folder) as (cluster, forward):
         one, two, arbitrator = cluster.members
         cluster.start()
@@ -122,11 +123,46 @@ def a_record_that_is_not_the_last(boothd, folder):
         os.remove(arbitrator.record_path())
         cluster.start(1, 2)
         good = ended(cluster)
-    lines = [line_of(path, lambda entry: entry.kind == "kept").line + 1 for path in good.paths]
-    names(good.found(good.paths), good.paths, 1, lines[1], "record")
+    line = first_read(good.paths[1])
+    names(good.found(good.paths), good.paths, 1, line, "record")
     turned = [good.paths[0], good.paths[2], good.paths[1]]
-    names(good.found(turned), turned, 1, lines[2], "record")
-    return f"at lines {lines[1]} and {lines[2]}"
+    names(good.found(turned), turned, 2, line, "record")
+    return f"at line {line}"
+
+
+def first_read(path):
+    """The line of the record that the last start of a journal read, or of `none`."""
+    return line_of(path, lambda entry: entry.kind == "kept").line + 1
+
+
+def silent_starts_are_told(boothd, folder):
+    """an arbitrator without its record passes and is told, and a site with a silent one; a site without is found"""
+    with cluster_in(boothd, folder) as (cluster, forward):
+        one, two, arbitrator = cluster.members
+        cluster.start()
+        forward(SILENT)
+        is_granted(one)
+        require(wait_for(lambda: two.record() and arbitrator.record(), PATIENCE), "no promise is kept")
+        for member in (two, arbitrator):
+            member.kill()
+        term = two.record().term + record_silence.ABOVE
+        with open(two.record_path(), "wb") as file:
+            file.write(record_silence.silent_record(term))
+        os.remove(arbitrator.record_path())
+        cluster.start(1, 2)
+        good = ended(cluster)
+        told = [(good.paths[1], term), (good.paths[2], 0)]
+        due = "".join(f"{path}: line {first_read(path)}: silent: {TICKET.decode()}, term {at}\n" for path, at in told)
+        require(journal_changes.silent_starts(good.roster, good.paths, good.texts) == due, "tests/journal_changes.py")
+        due = journal_changes.holdings(good.roster, good.texts) + due
+        found = good.found(good.paths)
+        require(found.passes() and found.printed == due, f"due is {due}, and it left {found}")
+        os.remove(two.record_path())
+        cluster.start(1)
+        good = ended(cluster)
+    line = first_read(good.paths[1])
+    names(good.found(good.paths), good.paths, 1, line, "record")
+    return f"a site without its record at line {line}"
 
 
 def a_frame_that_nobody_sent(boothd, folder):
@@ -182,7 +218,7 @@ def kills_within_keeps_leave_journals(boothd, folder):
 
 
 def list_turn(reading, number, address):
-    """The lines of a turn in which a client is answered that nobody holds the ticket."""
+    """Returns the lines of a turn that answers a client: nobody holds the ticket."""
     request = frames.sealed(KEY, "CLst", request=number, **frames.clock_fields(reading))
     clock = frames.Head(**frames.clock_fields(reading))
     reply = frames.reply_due("CLst", number, address, b"%s none 0\n" % TICKET, KEY, clock=clock)
@@ -191,7 +227,8 @@ def list_turn(reading, number, address):
 
 
 def long_journal(begin, address):
-    """The whole turns of a journal, followed by turns without an arrival and ten lists a second, up to this many lines.
+    """Returns the whole turns of a journal, and then turns without an arrival and ten list requests a second, up to
+    this many lines.
     """
     lines = journal_file.lines_of(begin)
     lines = lines[: len(lines) - 1 - lines[::-1].index("next")]
@@ -208,9 +245,9 @@ def long_journal(begin, address):
 
 
 def run_measured(words, folder):
-    """The outcome of a run, its processor time in seconds, and its greatest memory in bytes."""
+    """Runs a program. Returns its outcome, its CPU time in seconds, and its peak memory in bytes."""
     path = os.path.join(folder, "measured")
-    # (a program begins with the greatest memory of the one that started it: this one is large, and that one small)
+    # (a process starts with the peak memory of the one that started it: this process is large, and that one is small)
     starter = [sys.executable, "-IS", "-c", MEASURES, path, *words]
     done = subprocess.run(starter, stdin=subprocess.DEVNULL, capture_output=True, text=True)
     with open(path, encoding="ascii") as file:
@@ -244,6 +281,7 @@ CHECKS = (
     another_member_in_the_file,
     other_times_in_the_file,
     a_record_that_is_not_the_last,
+    silent_starts_are_told,
     a_frame_that_nobody_sent,
     kills_within_keeps_leave_journals,
     a_long_journal_is_quick,

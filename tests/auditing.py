@@ -13,16 +13,16 @@ import time
 from typing import NamedTuple
 
 import journal_file
-from journal_changes import Roster, holdings
+from journal_changes import Roster, holdings, silent_starts
 from members import Cluster, Times, wait_for
 from serving import own_addresses
 
-# how long an audit may take, and how long a thing of a cluster's beginning
+# in seconds: the limits for an audit, and for each step in which a cluster is set up
 SECONDS_OF_AUDIT, PATIENCE = 60, 30
-# how much later than the silence of a first start, and than a promise, the clocks are put, in seconds
+# in seconds: how much further than the silence of a first start, and than a promise, the clocks are set ahead
 MARGIN = 5
 FAULTS = ("syntax", "differs", "record", "unsent")
-# what a handler of tests/handler_stories.py leaves
+# the files that a handler of tests/handler_stories.py leaves
 NOTES = ("ran", "descriptors", "pid")
 KEY = b"a-key-of-the-cluster"
 TIMES = Times()
@@ -77,7 +77,7 @@ class Audit(NamedTuple):
         return self.status == 0 and not self.said
 
     def fault(self, paths):
-        """The place of the refused journal, the line or None, and the fault; or None if there is no fault."""
+        """Returns the place of the refused journal, the line or None, and the fault; or None if there is no fault."""
         for place, path in enumerate(paths):
             begin = f"boothd: {path}: "
             if self.status != 1 or self.printed or not self.said.startswith(begin) or not self.said.endswith("\n"):
@@ -91,12 +91,12 @@ class Audit(NamedTuple):
         return None
 
     def told(self, paths):
-        """The result of the audit: a fault, or the printed lines if the journals pass; or None."""
+        """Returns the result of the audit: a fault, the printed lines if the journals pass, or None."""
         return self.printed if self.passes() else self.fault(paths)
 
 
 def can_audit(program):
-    """Whether this program has the command `audit`."""
+    """Returns whether this program has the command `audit`."""
     if program is None or not os.access(program, os.X_OK):
         return False
     done = subprocess.run([program, "audit", "--help"], capture_output=True, timeout=SECONDS_OF_AUDIT)
@@ -104,7 +104,7 @@ def can_audit(program):
 
 
 def audit(program, conf, paths):
-    """The auditor's result for these journals."""
+    """Returns the auditor's result for these journals."""
     words = [program, "audit", "-c", conf, *paths]
     done = subprocess.run(words, stdin=subprocess.DEVNULL, capture_output=True, text=True, timeout=SECONDS_OF_AUDIT)
     return Audit(done.returncode, done.stdout, done.stderr)
@@ -112,7 +112,9 @@ def audit(program, conf, paths):
 
 @contextlib.contextmanager
 def clocks(folder):
-    """A function that sets the clocks of all programs that are started in the block this many seconds ahead."""
+    """Returns a function that sets the clocks of all programs that are started in the block ahead, by a number of
+    seconds.
+    """
     if shutil.which("cc") is None:
         raise LeftOut("there is no cc, so no clock can be put forward")
     source, library, shift = (os.path.join(folder, name) for name in ("clocks.c", "clocks.so", "clocks"))
@@ -136,7 +138,7 @@ def clocks(folder):
 
 
 def holds_and_gives_back(member, ticket):
-    """The member is granted the ticket, and releases it."""
+    """Has the member acquire the ticket and release it."""
     name = ticket.decode()
     taken = wait_for(lambda: member.about("CGnt", ticket) in ("ok", "Asyn"), PATIENCE)
     require(taken, f"no grant of {name} is taken")
@@ -177,7 +179,7 @@ class AuditedCluster(Cluster):
     def __init__(self, program, *words, **more):
         super().__init__(program, *words, **more)
         self.has_auditor = can_audit(program)
-        # what an audit says of each of its journals, if it is not that they pass
+        # the fault that an audit must find in the journals, or `None` if they must pass
         self.refused = None
         for member in self.members:
             member.journals = True
@@ -185,7 +187,7 @@ class AuditedCluster(Cluster):
     def remember(self):
         if self.has_auditor and shutil.which("cc"):
             live_through(self)
-            # (no story tells of that first grant)
+            # (the first grant is no part of a story)
             for path in (path for name in NOTES for path in glob.glob(os.path.join(self.folder, f"{name}.*"))):
                 os.remove(path)
             return
@@ -197,7 +199,8 @@ class AuditedCluster(Cluster):
         return Roster(members, (*self.tickets, *self.manual), self.key)
 
     def of_one_file(self):
-        """The audit of the members that had one configuration all the time, and how many members had several."""
+        """Returns the audit of the members that had one configuration all the time, and how many members had several.
+        """
         groups, several = {}, 0
         for member in self.members:
             if len(member.confs) == 1 and os.path.exists(member.journal):
@@ -206,7 +209,7 @@ class AuditedCluster(Cluster):
         return groups, several
 
     def judged(self, refused=None):
-        """A sentence about the results of the audits, with the fault that they must find, if there is one."""
+        """Returns a sentence about the results of the audits, with the fault that they must find, if there is one."""
         if not self.has_auditor:
             return "not checked, since boothd has no auditor: what the journals say"
         groups, several = self.of_one_file()
@@ -216,18 +219,20 @@ class AuditedCluster(Cluster):
         return f"journals: {'; '.join(told) or 'none'}{left}"
 
     def judged_by(self, conf, members, has_others, refused):
-        """The same for the members that had this configuration."""
+        """Returns the same for the members that had this configuration."""
         paths = [member.journal for member in members]
         found = audit(self.program, conf, paths)
         if found.passes():
             require(refused is None, f"journals pass that have to be refused with {refused}: {paths}")
             texts = [content(path) for path in paths]
-            due = holdings(self.roster(), texts)
+            leases, silent = holdings(self.roster(), texts), silent_starts(self.roster(), paths, texts)
+            due = leases + silent
             require(found.printed == due, f"the audit of {paths} printed {found.printed}, and not {due}")
             lines = sum(len(journal_file.lines_of(text)) for text in texts)
-            return f"{len(paths)} pass, with {lines} lines and {len(found.printed.splitlines())} leases"
+            told = f", and {silent.count(chr(10))} reads in silent starts" if silent else ""
+            return f"{len(paths)} pass, with {lines} lines and {leases.count(chr(10))} leases{told}"
         fault = found.fault(paths)
-        # (members of another file are heard, and not audited with these)
+        # (the messages of members with another file arrive, but their journals are not audited together with these)
         taken = (refused,) if refused else ("unsent",) if has_others else ()
         require(fault is not None and fault[2] in taken, f"the audit of {paths} left {found}, {shown_at(paths, fault)}")
         return f"{members[fault[0]].role} refused with {fault[2]}, as it has to be"
@@ -239,7 +244,7 @@ def content(path):
 
 
 def shown_at(paths, fault):
-    """The lines around a fault, for the reader of a report."""
+    """Returns the lines around a fault, for the reader of a report."""
     if fault is None or fault[1] is None:
         return ""
     lines = journal_file.lines_of(content(paths[fault[0]]))
@@ -250,7 +255,9 @@ def shown_at(paths, fault):
 
 
 class Journals(NamedTuple):
-    """A cluster's file, what its journals are judged by, their paths, and their texts."""
+    """The journals of a cluster: the program that wrote them, its configuration, what judges them, their paths and
+    their texts.
+    """
 
     program: str
     folder: str
@@ -265,7 +272,9 @@ class Journals(NamedTuple):
 
 @contextlib.contextmanager
 def cluster_in(boothd, folder, **more):
-    """A cluster with a key whose clocks are behind, and a function that sets them ahead by this many seconds."""
+    """Makes a cluster with a key, whose clocks are behind. Returns it, and a function that sets its clocks ahead by a
+    number of seconds.
+    """
     addresses = own_addresses()
     with AuditedCluster(boothd, folder, addresses, times=TIMES, key=KEY, **more) as cluster, clocks(folder) as put:
         shift = [-BEHIND]
@@ -292,7 +301,7 @@ def is_renewed(member, forward):
 
 
 def ended(cluster, *members):
-    """The journals of these members, or else of all members, which are killed first."""
+    """Kills all members. Returns the journals of these members, or of all members."""
     members = members or cluster.members
     for member in members:
         member.kill()

@@ -7,9 +7,9 @@ If a program is not built it checks nothing, with status 0.
 
 What an operator does is done by booth and geostore, at each member: their status and each text that they print or
 say are held to what they must be. The stories of handlers and of tickets that are granted manually stand in
-handler_stories.py, those of members that are killed and restarted in promise_stories.py, that of the log in
-log_stories.py, that of a file that changes in change_stories.py, that of a ticket that is shown in show_stories.py, and
-those of moves in move_stories.py.
+handler_stories.py, those of members that are killed and restarted in promise_stories.py, those of members that lose
+their records in lost_stories.py, that of the log in log_stories.py, that of a file that changes in change_stories.py,
+that of a ticket that is shown in show_stories.py, and those of moves in move_stories.py.
 
 Who holds a ticket is judged from the record files and this machine's clock, hundred times a second over
 the whole run, and never from what a daemon says of itself. Each daemon writes a journal, and if boothd has an
@@ -32,6 +32,7 @@ sys.path[:0] = [HERE, f"{HERE}/../tools"]
 import change_stories  # (its story comes into the list)
 import key_stories  # (its stories are taken into the list)
 import log_stories  # (its story comes into the list)
+import lost_stories  # (its stories are taken into the list)
 import move_stories  # (its stories are taken into the list)
 import show_stories  # (its story comes into the list)
 from auditing import AuditedCluster
@@ -60,9 +61,9 @@ from stories import (
 
 KEY, OTHER_KEY = b"a-key-of-the-cluster", b"another-key-than-that"
 BADMAC = 2
-# how many stories run at once
+# the number of stories that run at the same time
 SIDE_BY_SIDE = 6
-# stories whose records come from elsewhere, and what an audit says of their journals
+# the stories whose records the members did not write, and the fault that an audit must find in their journals
 REFUSED = {"members_from_version_1": "record"}
 
 
@@ -184,7 +185,7 @@ def a_directory_that_is_gone(cluster):
     passed("another site is granted the ticket meanwhile")
     said = one.printed().decode()
     require(said == f"boothd: cannot keep the record of ticket {NAME}: {os.strerror(2)} (os error 2)\n", f"it said {said}")
-    # (what runs at the end of a story is to have said nothing)
+    # (programs that still run at the end of a story must have printed nothing)
     one.kill()
     passed("and the first one said why, once")
 
@@ -275,7 +276,7 @@ def attributes_that_are_waited_for(cluster):
 
 
 def has_ipv6():
-    """Whether a program can listen at ::1 here."""
+    """Returns whether a program can listen at ::1 here."""
     try:
         with socket.socket(socket.AF_INET6, socket.SOCK_DGRAM) as listener:
             listener.bind(("::1", 0))
@@ -323,7 +324,7 @@ attr-prereq = "manual maintenance ne yes"
 
 
 def made(function, folder, program, client, geostore):
-    """The cluster that a story needs, by its name."""
+    """Returns the cluster that a story needs, by its name."""
     key = KEY if "key" in function.__name__ else None
     addresses = own_addresses()
     places = [next(addresses) for _ in range(3)]
@@ -351,7 +352,7 @@ def tell(function, cluster):
 
 
 def outcome(place, programs):
-    """Whether the story at this place of the list passes in its own cluster, and the lines that it printed."""
+    """Returns whether the story at this place of the list passes in its own cluster, and the lines that it printed."""
     function, printed, passes = stories[place], io.StringIO(), False
     with contextlib.redirect_stdout(printed), scratch("booth-cluster-") as folder:
         try:

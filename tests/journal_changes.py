@@ -1,31 +1,32 @@
-"""Journals with a changed line or changed bytes, and which of them are still journals.
+"""Changes of a journal's lines or bytes, and the expected result of an audit of each changed journal.
 
-It is imported by tests/audit.py, and not run by itself. It asks no auditor, and has few rules of the protocol: what is
-let in, as tests/gate.py reads docs/PROTOCOL.md, which reading a turn uses, and that each frame bears it.
+It is imported by tests/audit.py, and not run by itself. It asks no auditor. It has few rules of the protocol: which
+datagrams are accepted (tests/gate.py, from docs/PROTOCOL.md), which clock reading a turn uses, and that each frame has
+this reading. A changed journal passes, or is refused, or may do either. It is refused at the changed line or a later
+one.
 
-**Which changes leave a journal.** By the form of the lines (`form`):
+**Lines** (`form`) that are left out, doubled or swapped:
 
-- A line left out, doubled or swapped is a journal still if only a call lost its answer, and this call is the last of
-  its session: the end follows, or a start, which is `now` and then `open`, another start or the end. So it is if the
-  last line is left out, if the answer before a start is, and if a start's `now` is doubled. Else the first call
-  behind it that is no `now` is not demanded there, since a start must continue by `open`.
-- A cut journal is one always. Others may have heard what it then does not say was sent.
+- The journal passes if a call only lost its answer, and this call is the last of its session. After it comes the end,
+  or a start: `now`, and then `open`, another start or the end. This is so if the last line is left out, if the answer
+  before a start is left out, and if the `now` of a start is doubled.
+- Otherwise the journal is refused. The first later call that is not `now` is not demanded there, since a start must
+  continue with `open`.
+- A journal that is cut at its end passes. But other members may have received messages that it no longer has as sent.
 
-By whole calls, with their answers (`judged_call`): a call that is left out, doubled or swapped with the next is another
-than the one that is demanded there, or the one behind it is. But the last of a session may be missing, and a start may
-read its clock twice.
+**Calls** with their answers (`judged_call`) that are left out, doubled or swapped: the journal is refused, since this
+call or the next one is not the demanded one. But the last call of a session may be missing, and a start may read its
+clock twice.
 
-By what a digit says (`judged_digit`):
+**Digits** (`judged_digit`):
 
-- A call's digit changed is none, since each call is demanded as it stands; and none is a record that a start read.
-- A reading is one still if each turn uses the same reading as before; and none if a turn that sends uses another,
-  since frames bear it. Any other is one or none, by what is due when.
-- Where a datagram came from is one still if it was a member's, since answers go to where that member listens; and
-  none if a client was answered there in that turn. Any other is one or none.
-- A datagram is one still if it is let in as the same message, or dropped for the same fault; and none where it was
-  a client's that was answered in that turn, and is dropped now. Any other is one or none.
-
-If one is none, the fault stands at the changed line or behind it.
+- In a call, or in a record that a start read: refused, since the rules demand each call exactly.
+- In a clock reading: passes if each turn uses the same reading as before; refused if a turn that sends frames uses
+  another one. Otherwise either, by the deadlines.
+- In the sender of a datagram: passes if it was a member, since answers go to the member's own address; refused if a
+  client was answered there in this turn. Otherwise either.
+- In the bytes of a datagram: passes if it is accepted as the same message, or dropped for the same fault; refused if it
+  was a client's request that was answered in this turn, and is dropped now. Otherwise either.
 """
 
 import functools
@@ -38,6 +39,8 @@ import journal_file
 import record_file
 
 GREATEST = 2**62 - 1
+# what counts as read if there is no record
+NO_RECORD = record_file.FIRST_FORM.pack(1, 0, 0, 0, 0, 0).hex()
 # the kind of a change of whole calls, with their answers
 CALL = "call"
 
@@ -68,8 +71,8 @@ class Change(NamedTuple):
 
 
 class Due(NamedTuple):
-    """The due result of an audit of a changed journal: one of these faults at a line from `first` to `last`; or, if it
-    may pass, the lines that are printed for the journals.
+    """The expected result of an audit of a changed journal: one of these faults at a line from `first` to `last`; or,
+    if it may pass, the lines that are printed for the journals.
     """
 
     faults: tuple = ()
@@ -78,7 +81,8 @@ class Due(NamedTuple):
     may_pass: bool = False
 
     def allows(self, line, fault):
-        """Whether this fault of the changed journal is one of these. The fault of a whole journal has no line."""
+        """Returns whether this fault of the changed journal is one of these. The fault of a whole journal has no line.
+        """
         return fault in self.faults and (line is None or self.first <= line <= self.last)
 
 
@@ -147,7 +151,7 @@ def calls_swapped(lines):
 
 
 def digit_places(line):
-    """The places of digits in a line, including the letters of hexadecimal digits."""
+    """Returns the places of digits in a line, including the letters of hexadecimal digits."""
     words, places, start = line.split(" "), [], 0
     for number, word in enumerate(words):
         # (hexadecimal is the last word, or the only one; names and calls are no such)
@@ -177,12 +181,13 @@ def with_a_digit(lines, chance, count=1):
 
 @functools.lru_cache(maxsize=16)
 def entries_of(text):
-    """The calls in a journal. A text that is given repeatedly is read once."""
+    """Returns the calls in a journal. A text that is given repeatedly is read once."""
     return tuple(journal_file.entries_of(text))
 
 
 def strays_behind(entries, place):
-    """The place of the call that is not required after this interrupted one, or None: only a start may follow."""
+    """Returns the place of the call that is not required after this interrupted one, or None: only a start may follow.
+    """
     place += 1
     while place < len(entries) and entries[place].kind == "now":
         place += 1
@@ -192,7 +197,7 @@ def strays_behind(entries, place):
 
 
 def form(text) -> Due:
-    """The due result for a text whose lines come from a journal, by their form."""
+    """Returns the expected result for a text whose lines come from a journal, by their form."""
     try:
         entries = entries_of(text)
     except journal_file.BadLine as why:
@@ -203,7 +208,7 @@ def form(text) -> Due:
 
 
 def named(entries, line):
-    """The kind of a line: the call, or the call whose answer it is."""
+    """Returns the kind of a line: the call, or the call whose answer it is."""
     entry = max((entry for entry in entries if entry.line <= line), key=lambda entry: entry.line)
     return entry.kind if entry.line == line else f"answer of {entry.kind}"
 
@@ -213,7 +218,7 @@ def is_start(entries, place):
 
 
 def turns_of(entries) -> List[Turn]:
-    """The starts and turns of a journal that passes, each with the reading in use."""
+    """Returns the starts and turns of a journal that passes, each with the reading in use."""
     turns, last = [], 0
     for place, entry in enumerate(entries):
         if entry.kind == "now" and entry.answer is not None:
@@ -226,13 +231,13 @@ def turns_of(entries) -> List[Turn]:
 
 
 def is_whole(roster, entries, start):
-    """Whether a start opened its socket and read all records; otherwise it is not a session."""
+    """Returns whether a start opened its socket and read all records; otherwise it is not a session."""
     answers = [entries[place].answer for place in start.deeds[: 1 + len(roster.tickets)]]
     return len(answers) == 1 + len(roster.tickets) and None not in answers and "fail" not in answers
 
 
 def lease_in(digits):
-    """The lease of a record in hexadecimal, or None."""
+    """Returns the lease of a record in hexadecimal, or None."""
     content = bytes.fromhex(digits)
     if len(content) == record_file.FIRST_FORM.size:
         return record_file.first_record(record_file.FIRST_FORM.unpack(content)).lease
@@ -240,12 +245,12 @@ def lease_in(digits):
 
 
 def address_in(entries):
-    """The address that the starts of a journal open, or None if none opens one."""
+    """Returns the address that the starts of a journal open, or None if none opens one."""
     return next((entry.call["address"] for entry in entries if entry.kind == "open"), None)
 
 
 def holdings(roster, texts):
-    """The lines that an audit prints for journals that pass."""
+    """Returns the lines that an audit prints for journals that pass."""
     lines = []
     all_of = [entries_of(text) for text in texts]
     for ticket in roster.tickets:
@@ -259,10 +264,39 @@ def holdings(roster, texts):
 
 
 def held_by(entry, ticket, address, reading):
-    """The line of a keep with a lease, or of a record with one that a start read."""
+    """Returns the line of a keep with a lease, or of a record with one that a start read."""
     digits = {"keep": entry.call.get("hex"), "kept": entry.came.get("hex")}.get(entry.kind)
     lease = lease_in(digits) if digits and entry.call["ticket"] == ticket else None
     return [f"ticket {ticket}, site {address}, from {reading} until {lease.until}\n"] if lease else []
+
+
+def silent_starts(roster, paths, texts):
+    """The lines that an audit prints after the leases, for journals that pass and whose files have these paths."""
+    lines = []
+    for path, text in zip(paths, texts):
+        entries, may = entries_of(text), {}
+        for turn in turns_of(entries):
+            if is_start(entries, turn.at) and not is_whole(roster, entries, turn):
+                continue
+            for place in turn.deeds:
+                lines += [f"{path}: {line}\n" for line in silent_read(entries[place], may)]
+    return "".join(lines)
+
+
+def silent_read(entry, may):
+    """What is printed for a record that a start read and that is none of those which may have been written for each
+    ticket. Those are changed as this call changes them.
+    """
+    if entry.kind not in ("kept", "keep"):
+        return []
+    ticket, before = entry.call["ticket"], may.get(entry.call["ticket"], [NO_RECORD])
+    if entry.kind == "keep":
+        may[ticket] = [entry.call["hex"]] + ([] if entry.answer == "ok" else before)
+        return []
+    found = entry.came.get("hex", NO_RECORD)
+    may[ticket] = [found]
+    # (in both forms the term follows the version)
+    return [] if found in before else [f"line {entry.line + 1}: silent: {ticket}, term {int(found[8:16], 16)}"]
 
 
 # ---- messages
@@ -270,19 +304,21 @@ def held_by(entry, ticket, address, reading):
 
 @functools.lru_cache(maxsize=1 << 14)
 def met(station, digits, used):
-    """The message in a datagram in hexadecimal digits, or the number of the fault for which the datagram is dropped."""
+    """Returns the message in a datagram in hexadecimal digits, or the number of the fault for which the datagram is
+    dropped.
+    """
     return gate.verdict(station, journal_file.bytes_of(digits), used // 1000)
 
 
 def sends_of(roster, entries):
-    """The messages that a journal sends, each without its signature."""
+    """Returns the messages that a journal sends, each without its signature."""
     size = frames.AUTH_BYTES if roster.key else 0
     sent = (journal_file.bytes_of(entry.call["hex"]) for entry in entries if entry.kind == "send")
     return {frame[: len(frame) - size] for frame in sent}
 
 
 def first_unsent(roster, texts):
-    """The place of the first journal that heard a message that no journal sends, and the line; or None."""
+    """Returns the place of the first journal that heard a message that no journal sends, and the line; or None."""
     all_of = [entries_of(text) for text in texts]
     sent = {address_in(entries): sends_of(roster, entries) for entries in all_of}
     size = frames.AUTH_BYTES if roster.key else 0
@@ -303,14 +339,14 @@ def first_unsent(roster, texts):
 
 
 def judged_call(good, change) -> Due:
-    """The due result if a call is left out, doubled or swapped with the next, each with its answer."""
+    """Returns the expected result if a call is left out, doubled or swapped with the next, each with its answer."""
     due = form(change.text)
     if due != VALID:
         return due
     entries = entries_of(good)
     place = next(place for place, entry in enumerate(entries) if entry.line == change.line)
     is_last = place + 1 == len(entries) or is_start(entries, place + 1)
-    # (a reading that no turn demands begins a start, which the call behind it does not continue)
+    # (a clock reading that no turn demands counts as a start, and the next call does not continue a start)
     return Due(("differs",), change.line, change.line + 4, may_pass=is_last or is_start(entries, place))
 
 
@@ -318,7 +354,7 @@ def judged_call(good, change) -> Due:
 
 
 def judged_digit(roster, good, changed, line) -> Due:
-    """The due result if a digit of this line is changed."""
+    """Returns the expected result if a digit of this line is changed."""
     due = form(changed)
     if due != VALID:
         return due
@@ -335,7 +371,7 @@ def judged_digit(roster, good, changed, line) -> Due:
 
 
 def judged_reading(before, after, line):
-    """The same if a reading of the clock is changed."""
+    """Returns the same if a reading of the clock is changed."""
     pairs = [(old, new) for old, new in zip(turns_of(before), turns_of(after)) if old.used != new.used]
     if not pairs:
         return VALID
@@ -344,18 +380,18 @@ def judged_reading(before, after, line):
 
 
 def judged_datagram(roster, before, after, place):
-    """The same if the arrived datagram, or the address that it came from, is changed."""
+    """Returns the same if the arrived datagram, or the address that it came from, is changed."""
     old, new, line = before[place].came, after[place].came, before[place].line + 1
     either = Due(("differs", "unsent"), line, may_pass=True)
     if "hex" not in old:
         return either
     turn = next((turn for turn in turns_of(before) if turn.at == place), None)
     if turn is None:
-        # (its turn has no reading: it is the last of its session)
+        # (this turn has no reading: it is the last of its session)
         return VALID
     station = roster.station(address_in(before))
     was, now = met(station, old["hex"], turn.used), met(station, new["hex"], turn.used)
-    # (what is dropped is counted by its fault)
+    # (a dropped datagram is counted by its fault)
     if isinstance(was, int) or was.letters in frames.MEMBERS_SAY:
         return VALID if now == was else either
     whom = {(before[deed].call.get("address"), before[deed].call.get("port")) for deed in turn.deeds}

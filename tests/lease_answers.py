@@ -1,8 +1,8 @@
-"""Actions and views of the lease rules, in the form of the stories and in the form of the proved driver.
+"""Actions and views of the lease rules: their form in the stories, and their form in the answers of the proved driver.
 
-It is imported by the modules that play rows, and not run by itself. A deed is `nothing`, or its parts with `, `
-between them: `keep` and a record, `say` with to whom and a message, `want`, and `told`. A view is told by some of its
-fields.
+It is imported by the modules that play rows, and not run by itself. An action (deed) is `nothing`, or several parts
+with `, ` between them: `keep` and a record; `say`, the receivers and a message; `want`; and `told`. A view is given by
+some of its fields.
 """
 
 from typing import Dict, List, NamedTuple, Optional, Tuple
@@ -31,7 +31,7 @@ class Deed(NamedTuple):
 
 
 def one_of(word: str, words: Tuple[str, ...]) -> str:
-    """Returns a word, which must be one of these."""
+    """Returns the text if it is one of `allowed`."""
     if word not in words:
         raise Trouble(f"{word} is none of {words}")
     return word
@@ -103,7 +103,7 @@ def truth(word: str) -> int:
 
 
 def several(text: str, count: int) -> Tuple[Optional[int], ...]:
-    """Returns this many numbers, or this many times None for the word `none`."""
+    """Returns the `count` numbers of a text, or `count` times None if the text is `none`."""
     if text == "none":
         return (None,) * count
     words = text.split(" ")

@@ -1,26 +1,27 @@
 """Plays the audits below tests/rows/audit/: journals of members, and the result of `boothd audit`.
 
-It is imported by tests/rows.py, which plays its files. `stories_in.py` has how texts stand in a file. A text is one
-of these, as its name begins:
+It is imported by tests/rows.py, which plays its files. `stories_in.py` describes the form of texts in a file. The first
+word of a text's name is its kind:
 
-`audits`: a row has the configuration, the parts of each journal, and the result. ` with ` and a key stand behind a
-configuration whose members have that key. ` and ` stands between journals, and a comma between their parts; `nothing`
-has none. Behind ` with ` stand digits that take the place of those behind ` for `.
+`audits`: each row is one audit. It has the configuration, the parts of each journal, and the result. If the members
+have a key, ` with ` and the key follow the configuration. ` and ` separates journals, and a comma separates the parts
+of a journal; `nothing` is a journal without parts. ` with ` OTHERS ` for ` DIGITS after a part replaces digits in it.
 
-`edits`: the configuration and the journals stand in its second line. Each line of each journal is left out, doubled,
-swapped with the next one, or has its last digit changed: one more if it is even, and else one less. A row has how
-many lines that is done to and how many of the results are good, or else the edit, the journal, the line and the
-result. If no row says another result, that line is none of a journal, or the one behind it if it was doubled.
+`edits`: the second line has the configuration and the journals. Each line of each journal is changed in four ways: it
+is left out, doubled, swapped with the next one, or gets another last digit (one more if it is even, otherwise one
+less). A row has the number of changed lines and the number of good results; or it has a change, the journal, the line
+and the result. Without such a row the changed line must be the fault's line, or the line after it if it was doubled.
 
-`cuts`: the configuration and the journals stand in its second line. Each journal is cut before each of its lines, and
-before each line end. A row has the journal, how many whole lines it must have for the rows behind, and the result if
-it has fewer; behind `else` stands the result if no row says another one.
+`cuts`: the second line has the configuration and the journals. Each journal is cut before each of its lines, and before
+each line end. A row has a journal, the number of whole lines that it must keep for the rows after it, and the result if
+it keeps fewer. The result after `else` holds if no row has another one.
 
-A result is `good` and each holding (the ticket, the member, from when and until when), or the fault, its journal and
-its line. `boothd audit` prints and says it in words, which are compared whole, as are all its calls.
+A result is `good` and what is printed, or the fault with its journal and its line. A holding is `held` with the ticket,
+the member, from when and until when; a silent start is `silent` with the journal, the line, the ticket and the term.
+The output of `boothd audit` has this in words, and the whole output is compared, as are all its calls.
 
-Journals `S1`, `S2` and `AR` are those of the three members of `run.txt`. The run is played as a story of row_node.py,
-and its calls are written as docs/JOURNAL.md has them, up to the one that stops the daemon.
+The journals `S1`, `S2` and `AR` are those of the three members of `run.txt`. The run is played as a story of
+row_node.py, and its calls are written in the form of docs/JOURNAL.md, up to the one that stops the daemon.
 """
 
 import re
@@ -58,22 +59,25 @@ class Audit(NamedTuple):
     def answer(self, result: str) -> List[str]:
         """Returns the lines that the driver must answer if this is the result of its run."""
         read = [f"read {hexed(path.encode())} ok" for path, _ in self.files()]
-        kind, *held = result.split(", ")
+        kind, *reported = result.split(", ")
         if kind == "good":
-            printed = "".join(self.holding(one) for one in held)
+            printed = "".join(self.printed(one) for one in reported)
             return read + [f"out {hexed(printed.encode())} ok", "ends 0 Done"]
         told, outcome = fault_of(kind)
         return read + [f"err {hexed(told.encode())} ok", f"ends 1 AuditBad({outcome})"]
 
-    def holding(self, text: str) -> str:
-        """Returns the line that is printed for a holding."""
-        word, *numbers = text.split(" ")
-        ticket, member, since, until = (int(number) for number in numbers)
-        if word != "held":
-            raise Trouble(f"{text!r} is no holding")
-        name = re.findall(r'^ticket="(.*)"$', self.configuration, re.MULTILINE)[ticket]
-        site = re.findall(r'^(?:site|arbitrator)="(.*)"$', self.configuration, re.MULTILINE)[member]
-        return f"ticket {name}, site {site}, from {since} until {until}\n"
+    def printed(self, text: str) -> str:
+        """Returns the line that is printed for a holding or a silent start."""
+        word, *rest = text.split(" ")
+        names = re.findall(r'^ticket="(.*)"$', self.configuration, re.MULTILINE)
+        if word == "held":
+            ticket, member, since, until = (int(number) for number in rest)
+            site = re.findall(r'^(?:site|arbitrator)="(.*)"$', self.configuration, re.MULTILINE)[member]
+            return f"ticket {names[ticket]}, site {site}, from {since} until {until}\n"
+        if word == "silent":
+            journal, line, ticket, term = (int(number) for number in rest)
+            return f"{path_of(journal)}: line {line}: silent: {names[ticket]}, term {term}\n"
+        raise Trouble(f"{text!r} is neither a holding nor a silent start")
 
 
 class Shared(NamedTuple):

@@ -1,12 +1,17 @@
 """Plays the stories of single members under the lease rules: tests/rows/rules/lease/.
 
-A story is its sentence, the start of a core, and its lines. A core starts as `S1 at 5`, or from a record as `S1 at 5
-with 1`. `alone` is a site alone, and `15 of 16` the site of that place among so many. A call is `at`, the moment, and
-its name with what it is given: `hello`, `ask` and a reason, `hear` and a message, `kept` or `failed` for the keep
-that waits, `tick`, `renew`, `release` and a reason; its deed follows behind `: `. If no term is left `ask` is
-answered `spent`, and the whole view stays. Behind `note` and what is noted, fields of the view follow, as they do
-behind `view`. `as` and the names of parts play the lines of parts.txt. If blocks follow behind blank lines, each is
-an ending of its own: it is played behind the story's lines with a core of its own.
+A story has a sentence, the start of a core, and its lines. `S1 at 5` starts a core at 5, and `S1 at 5 with 1` starts it
+from a record. `alone` means that the site is the only member, and `15 of 16` that it is the site at place 15 of 16
+members.
+
+A line with a call is `at`, the time, the call with its arguments, and after `: ` the action that the core must return.
+The calls are `hello`; `ask` and a reason; `hear` and a message; `kept` or `failed`, the result of the write that waits;
+`tick`; `renew`; and `release` and a reason. If no term is left, the answer to `ask` is `spent`, and the whole view is
+unchanged. `note` and the noted value, or `view`, is followed by fields that the view must have. `as` and names plays
+the lines of these parts of parts.txt.
+
+If blocks follow after blank lines, each is a separate ending: it is played after the lines of the story, with its own
+core.
 """
 
 import re

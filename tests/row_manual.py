@@ -1,9 +1,10 @@
 """Plays the stories of manual tickets at one member: tests/rows/rules/manual/.
 
-A story is its sentence, the record of its start, or `new`, and its lines. A call is `grant`, `again` or `revoke` with
-the record that is to be kept, or `none` if no term is left, `kept` or `failed` for that keep, `hear` and a
-message, or `hello`, with what is said. `knows` tells of the first site between two calls: its record, whether it is
-sure of it, and who else is shown.
+A story has a sentence, the record of its start or `new`, and its lines. A line is a call with the messages that the
+member must send. The calls are `grant`, `again` and `revoke`, with the record that the member must write, or `none` if
+no term is left; `kept` or `failed`, the result of that write; `hear` and a message; and `hello`. A line `knows` has the
+knowledge of the first site between two calls: its record, whether it is sure of the record, and which other holder it
+shows.
 """
 
 from typing import List, NamedTuple, Optional, Tuple

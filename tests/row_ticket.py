@@ -1,19 +1,19 @@
 """Plays the stories of whole tickets: tests/rows/rules/ticket/.
 
-A story is its sentence, the lines that explain it, if it has some, the ticket of its opening, and its turns, which
-stand between blank lines. A ticket is a member, `of` and how many there are, `by hand` for a manual one, and `from`
-and the record that was kept. It starts at 0.
+A story has a sentence, lines that explain it if needed, its ticket, and its turns, which are separated by blank lines.
+A ticket is a member, `of` and the number of members, `by hand` if it is manual, and `from` and its stored record. It
+starts at 0.
 
-A call is `at`, the moment, and `grant` or `revoke` with its options (of the client 77, or of another one behind ` of
-`), `from` and a member's message, `over`, a job and its status, or `due`; the lines below it are its acts. `keep` has
-the record. `start` has the job and the lease's end in seconds. `send` has to whom, and the message. A keep and a
-start that end in `failed` fail: if the first act is such a keep, all keeps of the call fail, and else those behind
-the first one.
+The first line of a call is `at`, the time, and one of these: `grant` or `revoke` with its options (from client 77, or
+from another one after ` of `); `from` and a member's message; `over`, a job and its status; or `due`. The lines below
+are the actions that the ticket must take: `keep` and the record; `start`, the job and the lease's end in seconds;
+`send`, the receiver and the message. A `keep` or a `start` that ends with `failed` fails. If the first action is such a
+`keep`, each write of the call fails, otherwise each write after the first one.
 
-Other turns are one line: `ready yes` or `no`, `job` and the next one's number, `second` and another ticket, which is
-the one from then on, `due` and `owner`, which look at the deadline and at who is shown, and `as` and the names of
-parts of parts.txt, which are played. `each`, words and `: ` before a turn play it with each of the words for `$`, and
-before the ticket they play the whole story so. `10..72` stands for the numbers from 10 to 72.
+Every other turn is one line: `ready yes` or `ready no`; `job` and the number of the next job; `second` and another
+ticket, which is used from then on; `due` or `owner`, which check the deadline or the shown holder; `as` and names,
+which play these parts of parts.txt. `each`, words and `: ` before a turn play it once for each word, which replaces
+`$`. Before the ticket they play the whole story in this way. `10..72` stands for the numbers from 10 to 72.
 """
 
 import re
@@ -25,7 +25,7 @@ from rule_words import (
     Message, Record, Step, Story, dashed, member_name, message, moment, number, optional, printed_message,
     printed_record, record)
 
-# where the clients of all stories ask from: each has a port of its own
+# the address of all clients of the stories; each client has its own port
 CLIENT = bytes([192, 168, 201, 9])
 
 

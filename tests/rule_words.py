@@ -1,9 +1,10 @@
-"""The words of the stories about the rules of tickets, and the words of the proved driver for them.
+"""The form of the stories about the rules of tickets, and the form of the proved driver for them.
 
-It is imported by the modules that play rows, and not run by itself. A message is its nine numbers in the order of
-their frame: sender, command, request, options, reason, result, leader, term and seconds. A record is its term, and of
-a lease then the term and the end. What the record pledges stands behind `bound`, `promise` (to whom, the term and the
-end) and `abstain`, in this order. A record behind `first` is of version 1.
+It is imported by the modules that play rows, and not run by itself. A message has nine numbers in the order of their
+frame: sender, command, request, options, reason, result, leader, term and seconds. A record is its term, and then the
+term and the end of its lease if it has one. Its pledges follow, in this order: `bound` and the member that it voted
+for; `promise`, the member, the term and the end; `abstain` and the time until when it abstains. `first` precedes a
+record of version 1.
 """
 
 import os

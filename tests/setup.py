@@ -1,9 +1,9 @@
 #!/usr/bin/env python3
 """Checks that booth-setup sets up members as in OPERATING.md, refuses what it must not touch, and undoes a failure.
 
-Run it as `python3 tests/setup.py`, in some seconds. systemctl is a stand-in that notes its calls. Most runs write below
-a directory of their own (--root). Those that start units write into a mount namespace, and are left out if this machine
-gives none. It prints a line for each story, and has the status 1 if one failed.
+Run it as `python3 tests/setup.py`, in some seconds. A stand-in for systemctl records its calls. Most runs write below a
+directory of their own (--root). The runs that start units write into a mount namespace; they are left out if this
+machine allows none. It prints a line for each story, and has the status 1 if one failed.
 """
 
 import contextlib
@@ -41,7 +41,7 @@ ticket = "db8"
   timeout       = 3
   retries       = 3
 """
-# notes each call; fails for what a file says; and answers about units by files of their names
+# a stand-in for systemctl: it records each call, fails for what a file says, and answers about units by files
 SYSTEMCTL = """#!/bin/sh
 room={room}
 echo "$*" >>"$room/calls"
@@ -65,7 +65,7 @@ case $* in *--primary*)
 esac
 [ ! -e {room}/server-fails ] || exit 1
 """
-# what a run in a namespace finds below /etc, and keeps there for the next one
+# runs a command in a namespace, with another folder as /etc, and with this address
 INSIDE = """\
 set -e
 mount --bind "$1/etc" /etc
@@ -219,7 +219,7 @@ def dry_runs_change_nothing(room: Room) -> None:
 def runs_again_change_nothing(room: Room) -> None:
     """a run with the same arguments changes nothing, and an environment file of another form stays unchanged"""
     begun(room)
-    # (with more variables, and one that an earlier version wrote)
+    # (the file has more variables, or only the one that an earlier version wrote)
     for first in (f"ADDRESS={ONE}\nBOOTH_ADDRESS={ONE}\n", f"ADDRESS={ONE}\n"):
         with open(f"{room.root('one')}/etc/booth/booth.env", "w", encoding="ascii") as file:
             file.write(f"{first}CLOCK_SECONDS=20\n")
@@ -430,6 +430,28 @@ def servers_are_set_up(room: Room) -> Optional[str]:
     return None
 
 
+def options_of_the_guide_fit_its_times(_: Room) -> None:
+    """the margin and the kill time that OPERATING.md names fit its cluster, by the rules of booth-follow(8)"""
+    text = read(f"{TOP}/docs/OPERATING.md")
+    expire = int(re.findall(r"booth-setup init .* --expire (\d+)", text)[0])
+    margin, kill = map(int, re.findall(r"`OPTIONS=-m (\d+) -k (\d+)`", text)[0])
+    watchdog = int(re.findall(r"`RuntimeWatchdogSec=(\d+)`", text)[0])
+    need(expire / 2 + 2 + margin <= expire, f"a margin of {margin} does not fit expire = {expire}")
+    need(max(1, watchdog) < kill < margin, f"a watchdog of {watchdog}, a kill time of {kill}, a margin of {margin}")
+
+
+def firewall_rules_of_the_drill_are_accepted(_: Room) -> Optional[str]:
+    """nft accepts the rules that OPERATING.md has for the drill"""
+    if not has_namespaces() or not shutil.which("nft"):
+        return "this machine has no nft, or gives no namespaces"
+    text = read(f"{TOP}/docs/OPERATING.md")
+    (rules,), (end,) = re.findall(r"^ +(nft '.*?')$", text, re.S | re.M), re.findall(r"`(nft delete [^`]+)`", text)
+    words = ["unshare", "--net", "sh", "-ec", f"{rules}\n{end}"]
+    done = subprocess.run(words, capture_output=True, text=True, check=False, timeout=20)
+    need(done.returncode == 0, done.stderr)
+    return None
+
+
 STORIES: List[Story] = [
     init_writes_what_an_operator_would,
     join_does_the_same,
@@ -443,6 +465,8 @@ STORIES: List[Story] = [
     documents_name_commands_that_are_taken,
     units_are_started,
     servers_are_set_up,
+    options_of_the_guide_fit_its_times,
+    firewall_rules_of_the_drill_are_accepted,
 ]
 
 

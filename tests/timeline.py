@@ -2,7 +2,7 @@
 """Checks the drawings of tools/timeline.py: with random leases, with each kind of line, and without a line.
 
 Run it as `python3 tests/timeline.py`. It takes some seconds, prints a line for each check, and has the status 1 if a
-check failed. When two sites hold is found here moment by moment, and never by the tool's own way.
+check failed. The test itself computes, moment by moment, when two sites hold a ticket; the tool has another method.
 """
 
 import os
@@ -19,7 +19,7 @@ import timeline
 
 PROGRAM = f"{TOP}/tools/timeline.py"
 SEED, DRAWN, MOMENTS = 9929, 300, 40
-# a cluster of a month: so many renewals of so many tickets
+# (a cluster of a month: this many renewals of this many tickets)
 TICKETS, RENEWALS, SECONDS = 64, 500, 20
 SVG = "{http://www.w3.org/2000/svg}"
 
@@ -34,7 +34,7 @@ def require(holds, why):
 
 
 def run(text, *words):
-    """The status, the picture and the standard error of a run over these lines."""
+    """Returns the status, the picture and the standard error of a run over these lines."""
     done = subprocess.run([sys.executable, PROGRAM, *words], input=text.encode(), capture_output=True, timeout=SECONDS)
     return done.returncode, done.stdout.decode(), done.stderr.decode()
 
@@ -44,7 +44,7 @@ def line(ticket, site, start, until):
 
 
 def shapes(text):
-    """The bars of a picture, as (kind, left edge, width, title), and its texts."""
+    """Returns the bars of a picture, as (kind, left edge, width, title), and its texts."""
     root = trees.fromstring(text)
     bars = [each for each in root.iter(f"{SVG}rect") if each.get("class") in ("held", "both")]
     told = [(each.get("class"), float(each.get("x")), float(each.get("width")), each[0].text) for each in bars]
@@ -128,6 +128,17 @@ def nothing_is_a_picture_too():
     return None
 
 
+def silent_starts_are_left_out():
+    """lines of silent starts change no picture, and a line that is nearly one is refused"""
+    lease = line("db8", "::1", 1000, 2000)
+    for place in ("c.journal: line 32: silent: db8, term 0", "/a: b: line 6: silent: a,b, term 4000000000"):
+        require(run(f"{lease}{place}\n") == run(lease), f"{place!r} changes the picture")
+    for other in ("a: line 0x: silent: db8, term 0", "a: line 32: record", "line 2: silent: db8, term 0"):
+        status, drawn, said = run(f"{lease}{other}\n")
+        require((status, drawn) == (1, "") and "line 2: " in said, f"{other!r}: status {status}, {said}")
+    return None
+
+
 def all_that_a_line_may_have_is_drawn():
     """names of any letters, leases without an end, the greatest numbers, and times of one millisecond are drawn"""
     name = "<&\"'],site>"
@@ -187,6 +198,7 @@ CHECKS = (
     the_incident_is_the_picture_of_the_page,
     what_is_no_line_is_refused,
     nothing_is_a_picture_too,
+    silent_starts_are_left_out,
     all_that_a_line_may_have_is_drawn,
     axes_are_readable,
     a_month_is_drawn_soon,

@@ -4,10 +4,11 @@
     python3 timeline.py [FILE] >PICTURE
 
 FILE has the lines that `boothd audit` prints, `ticket NAME, site ADDRESS, from FROM until UNTIL`, in milliseconds
-since 1970; without FILE they are read from standard input. Any other line is refused by its number, with status 1.
-Lines of one site are joined if they touch. There is an overlap if two sites have a line of one ticket at the same
-clock reading, each by its own clock. If their clocks differ, there may be an overlap as long as this difference,
-although the sites never held the ticket at the same time.
+since 1970; without FILE they are read from standard input. Lines of silent starts, `PATH: line N: silent: NAME, term
+TERM`, are left out. Any other line is refused by its number, with status 1. Lines of one site are joined if they touch.
+There is an overlap if two sites have a line of one ticket at the same clock reading, each by its own clock. If their
+clocks differ, there may be an overlap as long as this difference, although the sites never held the ticket at the same
+time.
 """
 
 import os
@@ -20,6 +21,7 @@ from typing import List, NamedTuple, Optional
 
 NUMBER = r"(0|[1-9][0-9]{0,19})"
 LINE = re.compile(rf"ticket ([\x21-\x7E]{{1,63}}), site ([0-9a-f.:]{{2,45}}), from {NUMBER} until {NUMBER}")
+SILENT = re.compile(rf".{{0,255}}: line {NUMBER}: silent: [\x21-\x7E]{{1,63}}, term {NUMBER}")
 NUMBERS = 2**64
 # a manual ticket's lease has no end; a time from the year 10000 on is not shown as a date
 NO_END = 253_402_300_800_000
@@ -103,6 +105,8 @@ def holdings_in(text) -> List[Holding]:
         lines.pop()
     holdings = []
     for number, line in enumerate(lines, 1):
+        if SILENT.fullmatch(line):
+            continue
         holding = holding_in(line)
         if holding is None:
             shown = line if len(line) <= 60 else f"{line[:60]}..."

@@ -12,11 +12,13 @@ use Rattle.booth_journal.specs.declared.audit_fault.AuditFault.TheVariants as fa
 use Rattle.booth_audit.specs.declared.holding.Holding.{Holding}
 use Rattle.booth_audit.specs.declared.journal_fault.JournalFault.{JournalFault}
 use Rattle.booth_audit.specs.declared.journal_fault.JournalFault.TheVariants as wrongs
-use Rattle.booth_audit.specs.Audit.{AreTrue, HasFault, HasUnsent, HasWrong, IsAudited, IsMembers, IsNoMembers, IsTrue, IsWrong, deeds_by, member_places}
+use Rattle.booth_audit.specs.declared.silent.SilentStart.{SilentStart}
+use Rattle.booth_audit.specs.Audit.{AreTrue, AuditSays, HasFault, HasUnsent, HasWrong, IsAudited, IsMembers, IsNoMembers, IsTrue, IsWrong, deeds_by, member_places}
 use Rattle.booth_audit.specs.Faults.{AllHearSent, FirstNotKept, FirstUnsent, Heard}
 use Rattle.booth_audit.specs.Holdings.{holdings_from}
 use Rattle.booth_audit.specs.Judging.{fault_at}
 use Rattle.booth_audit.specs.Replay.{Event, Replayed, deeds_of}
+use Rattle.booth_audit.specs.Silent.{silent_starts}
 use Rattle.booth_audit.specs.Sole.{AuditsHaveOneAnswer}
 use Rattle.booth_audit.proofs.FormLemmas.{says_no_fault}
 use Rattle.booth_audit.proofs.SoleLemmas.{kept_never, kept_once, one_replay, sent_never, trues_once, unsent_once}
@@ -271,23 +273,39 @@ module _ (config : ConfigSays) (ring : Option Ring) (texts : List (List ℕ)) wh
           (unsent_once first.heard first.one.events m n first.wrong
           (subst (λ (h : Heard). FirstUnsent first.heard h.events n) same second_wrong))
 
+-- what is reported follows from who did what
+abbrev says_of : ConfigSays → List Heard → AuditSays
+says_of config heard = record {
+  holdings = holdings_from (map deeds_by heard) 0 config.tickets;
+  silent = silent_starts 0 heard;
+}
+
+says_so : (config : ConfigSays) (ring : Option Ring) (texts : List (List ℕ)) (says : AuditSays)
+    (audited : IsAudited config ring texts says) → says ≡ says_of config audited.heard
+says_so config ring texts says audited =
+    ap (λ (h : List Holding). record { holdings = h; silent = says.silent }) audited.held
+    ∙ ap (λ (s : List SilentStart). record {
+      holdings = holdings_from (map deeds_by audited.heard) 0 config.tickets;
+      silent = s;
+    }) audited.silent
+
 pub audits_have_one_answer : AuditsHaveOneAnswer
 audits_have_one_answer config ring texts = record {
-  none = λ holdings fault audited has. none holdings fault audited (kind config ring texts fault has);
-  holdings = λ one other audited then_audited.
-      audited.held
-      ∙ ap (λ (l : List Heard). holdings_from (map deeds_by l) 0 config.tickets)
+  none = λ says fault audited has. none says fault audited (kind config ring texts fault has);
+  says = λ one other audited then_audited.
+      says_so config ring texts one audited
+      ∙ ap (says_of config)
       (sym (heard_once config ring texts audited.heard then_audited.heard audited.each then_audited.each))
-      ∙ sym then_audited.held;
+      ∙ sym (says_so config ring texts other then_audited);
   fault = λ one other has then_has. both one other (kind config ring texts one has) (kind config ring texts other then_has);
 }
   where
-    none : (holdings : List Holding) (fault : AuditFault) → IsAudited config ring texts holdings → IsKind config ring texts fault
+    none : (says : AuditSays) (fault : AuditFault) → IsAudited config ring texts says → IsKind config ring texts fault
         → fault ≡ faults.OutOfMemory
-    none holdings fault audited (inl is) = is
-    none holdings fault audited (inr (inl wrong)) =
+    none says fault audited (inl is) = is
+    none says fault audited (inr (inl wrong)) =
         absurd (wrong.4 (wrong_never config ring texts audited.heard wrong.0 wrong.1 audited.each wrong.3))
-    none holdings fault audited (inr (inr unsent)) =
+    none says fault audited (inr (inr unsent)) =
         let u = unsent.3 in
         let same = heard_once config ring texts u.heard audited.heard u.each audited.each in
         absurd

@@ -27,6 +27,8 @@ pub mod JudgingLemmas
 pub mod TallyLemmas
 pub mod TogetherLemmas
 pub mod HeldLemmas
+pub mod SilentLemmas
+pub mod UnwrittenLemmas
 pub mod HeardLemmas
 pub mod AuditLemmas
 pub mod WatchedLemmas

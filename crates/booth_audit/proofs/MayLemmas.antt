@@ -1,9 +1,9 @@
--- Records that may be kept, and the first of a start's records that is none of them.
+-- Records that may be kept, and the first of a start's records that it may not read.
 use Rattle.std.specs.Prelude.{slice_set, Bool, true, false, Option, None, Some, length, nat_lt, not, position, reverse, slice_get, ◌==◌, ◌&&◌, ◌||◌, if◌then◌else◌}
 use Rattle.std.specs.List.{list_any, position_or_len, zip}
 use Rattle.std.specs.Option.{option_eq}
 use Rattle.std.proofs.Common.{◌≡◌, ◌<◌, ◌≤◌, inl, inr, ℕ, zero, suc, List, [], ◌∷◌, ◌++◌, refl, sym, ◌∙◌, ap, arith, get_or, subst}
-use Rattle.std.proofs.lemmas.Bool.{and_parts, eqb-true, eq-eqb}
+use Rattle.std.proofs.lemmas.Bool.{and_parts, eqb-true, eq-eqb, le-leb, leb-true}
 use Rattle.std.proofs.lemmas.Bool.Decides.{nat_tests}
 use Rattle.std.proofs.lemmas.List.{reverse-append}
 use Rattle.std.proofs.lemmas.List.Folds.{list_any-append}
@@ -18,10 +18,11 @@ use Rattle.booth_rec.specs.contracts.record.RecordPartialEq.TheImpl as equality
 use Rattle.booth_rec.specs.declared.record.Lease.{Lease}
 use Rattle.booth_rec.specs.declared.record.Promise.{Promise}
 use Rattle.booth_rec.specs.declared.record.Record.{Record}
-use Rattle.booth_rec.specs.Record.{record_or_none}
+use Rattle.booth_rec.specs.Record.{first_plain, record_or_none}
 use Rattle.booth_audit.specs.Kept.{change_at}
-use Rattle.booth_node.specs.Records.{Has, record_at}
-use Rattle.booth_audit.specs.Watched.{first_wrong, is_among, is_wrong}
+use Rattle.booth_node.specs.Records.{Has, IsSilent, MayRead, record_at}
+use Rattle.booth_audit.specs.Silent.{is_among}
+use Rattle.booth_audit.specs.Watched.{first_wrong, is_silent, is_up_to, is_wrong, may_read}
 
 -- ---- the list of the code
 
@@ -45,6 +46,15 @@ module _ (one : Record) where
       ∙ ap (λ (b : Bool). list_any is_one (reverse tried) || b) (or_false (is_one kept))
       ∙ ap (λ (b : Bool). b || is_one kept)
       (sym (list_any-IsPermutation is_one tried (reverse tried) (IsPermutation-reverse tried)))
+
+-- one of them has this term or an earlier one
+pub reached_both : (term : ℕ) (tried : List Record) (kept : Record)
+    → list_any (is_up_to term) (reverse tried ++ kept ∷ []) ≡ (list_any (is_up_to term) tried || is_up_to term kept)
+reached_both term tried kept =
+    list_any-append (is_up_to term) (reverse tried) (kept ∷ [])
+    ∙ ap (λ (b : Bool). list_any (is_up_to term) (reverse tried) || b) (or_false (is_up_to term kept))
+    ∙ ap (λ (b : Bool). b || is_up_to term kept)
+    (sym (list_any-IsPermutation (is_up_to term) tried (reverse tried) (IsPermutation-reverse tried)))
 
 -- the ticket at a place is changed alone
 pub changed_there : (all : List (List Record)) (place : ℕ) (change : List Record → List Record)
@@ -178,21 +188,81 @@ among_has (other ∷ may) kept (inl same) =
 among_has (other ∷ may) kept (inr has) =
     or_right (equality.eq-value.it other kept) (is_among may kept) (among_has may kept has)
 
--- ---- the first that is none of them
+-- ---- records that are silent
+
+up_to_one : (may : List Record) (term : ℕ) → list_any (is_up_to term) may ≡ true
+    → (k : Record) × Has may k × (k.term ≤ term)
+up_to_one [] term any = absurd cc
+up_to_one (one ∷ may) term any = by_test (is_up_to term one) refl any (up_to_one may term)
+  where
+    by_test : (b : Bool) → is_up_to term one ≡ b → (b || list_any (is_up_to term) may) ≡ true
+        → (list_any (is_up_to term) may ≡ true → (k : Record) × Has may k × (k.term ≤ term))
+        → (k : Record) × Has (one ∷ may) k × (k.term ≤ term)
+    by_test true is any later = (one, inl refl, leb-true one.term term is)
+    by_test false is any later = let there = later any in (there.0, inr there.1, there.2)
+
+one_up_to : (may : List Record) (term : ℕ) (k : Record) → Has may k → k.term ≤ term
+    → list_any (is_up_to term) may ≡ true
+one_up_to [] term k has within = absurd has
+one_up_to (one ∷ may) term k (inl same) within =
+    or_left (is_up_to term one) (list_any (is_up_to term) may)
+    (subst (λ (r : Record). is_up_to term r ≡ true) (sym same) (le-leb k.term term within))
+one_up_to (one ∷ may) term k (inr has) within =
+    or_right (is_up_to term one) (list_any (is_up_to term) may) (one_up_to may term k has within)
+
+reaching : (site : Bool) (may : List Record) (term : ℕ) → (not site || list_any (is_up_to term) may) ≡ true
+    → site ≡ true → (k : Record) × Has may k × (k.term ≤ term)
+reaching true may term any is = up_to_one may term any
+reaching false may term any is = absurd cc
+
+reached : (site : Bool) (may : List Record) (term : ℕ) → (site ≡ true → (k : Record) × Has may k × (k.term ≤ term))
+    → (not site || list_any (is_up_to term) may) ≡ true
+reached true may term reaches = let k = reaches refl in one_up_to may term k.0 k.1 k.2
+reached false may term reaches = refl
+
+silent_is : (site : Bool) (may : List Record) (kept : Record) → is_silent site may kept ≡ true → IsSilent site may kept
+silent_is site may kept is =
+    let parts = and_parts (equality.eq-value.it kept (first_plain kept.term None))
+    (not site || list_any (is_up_to kept.term) may) is in
+    record {
+      bare = same_records kept (first_plain kept.term None) parts.0;
+      reaches = reaching site may kept.term parts.1;
+    }
+
+is_so_silent : (site : Bool) (may : List Record) (kept : Record) → IsSilent site may kept → is_silent site may kept ≡ true
+is_so_silent site may kept silent =
+    both (subst (λ (r : Record). equality.eq-value.it kept r ≡ true) silent.bare (record_itself kept))
+    (reached site may kept.term silent.reaches)
+
+-- ---- records that may be read
+
+read_is : (site : Bool) (may : List Record) (kept : Record) → may_read site may kept ≡ true → MayRead site may kept
+read_is site may kept is = by_test (is_among may kept) refl is
+  where
+    by_test : (b : Bool) → is_among may kept ≡ b → (b || is_silent site may kept) ≡ true → MayRead site may kept
+    by_test true among is = inl (has_among may kept among)
+    by_test false among is = inr (silent_is site may kept is)
+
+is_read : (site : Bool) (may : List Record) (kept : Record) → MayRead site may kept → may_read site may kept ≡ true
+is_read site may kept (inl has) = or_left (is_among may kept) (is_silent site may kept) (among_has may kept has)
+is_read site may kept (inr silent) =
+    or_right (is_among may kept) (is_silent site may kept) (is_so_silent site may kept silent)
+
+-- ---- the first that may not be read
 
 none_there : {X : Type 0} (place : ℕ) (x : X) → slice_get [] place ≡ Some x → ⊥
 none_there place x is = let none : None ≡ Some x = is in absurd cc
 
 -- what is read of the ticket at a place is tested by what may be kept of it
-wrong_at : (all : List (List Record)) (records : List (Option Record)) (place : ℕ) (may : List Record)
+wrong_at : (site : Bool) (all : List (List Record)) (records : List (Option Record)) (place : ℕ) (may : List Record)
     → slice_get all place ≡ Some may → place < length records
-    → is_wrong (get_or (zip all records) place ([], None)) ≡ not (is_among may (record_at records place))
-wrong_at [] records place may is below = absurd (none_there place may is)
-wrong_at (first ∷ all) [] place may is below = absurd (omega (arith, below))
-wrong_at (first ∷ all) (found ∷ records) zero may is below =
-    let same : first ≡ may = cc in ap (λ (m : List Record). not (is_among m (record_or_none found))) same
-wrong_at (first ∷ all) (found ∷ records) (suc place) may is below =
-    wrong_at all records place may is (omega (arith, below))
+    → is_wrong site (get_or (zip all records) place ([], None)) ≡ not (may_read site may (record_at records place))
+wrong_at site [] records place may is below = absurd (none_there place may is)
+wrong_at site (first ∷ all) [] place may is below = absurd (omega (arith, below))
+wrong_at site (first ∷ all) (found ∷ records) zero may is below =
+    let same : first ≡ may = cc in ap (λ (m : List Record). not (may_read site m (record_or_none found))) same
+wrong_at site (first ∷ all) (found ∷ records) (suc place) may is below =
+    wrong_at site all records place may is (omega (arith, below))
 
 within_both : (all : List (List Record)) (records : List (Option Record)) (place : ℕ) (may : List Record)
     → slice_get all place ≡ Some may → place < length records → place < length (zip all records)
@@ -218,42 +288,44 @@ none_before p xs none = by_test (nat_lt (position_or_len p xs) (length xs)) refl
     by_test true is same = absurd cc
     by_test false is same = grind (arith, nat_tests)
 
-not_wrong : (may : List Record) (kept : Record) → not (is_among may kept) ≡ false → Has may kept
-not_wrong may kept right = by_test (is_among may kept) refl right
+not_wrong : (site : Bool) (may : List Record) (kept : Record) → not (may_read site may kept) ≡ false
+    → MayRead site may kept
+not_wrong site may kept right = by_test (may_read site may kept) refl right
   where
-    by_test : (b : Bool) → is_among may kept ≡ b → not b ≡ false → Has may kept
-    by_test true is same = has_among may kept is
+    by_test : (b : Bool) → may_read site may kept ≡ b → not b ≡ false → MayRead site may kept
+    by_test true is same = read_is site may kept is
     by_test false is same = absurd cc
 
-not_right : (may : List Record) (kept : Record) → not (is_among may kept) ≡ true → Has may kept → ⊥
-not_right may kept wrong has =
-    let false_true : not true ≡ true = ap not (sym (among_has may kept has)) ∙ wrong in absurd cc
+not_right : (site : Bool) (may : List Record) (kept : Record) → not (may_read site may kept) ≡ true
+    → MayRead site may kept → ⊥
+not_right site may kept wrong may_be =
+    let false_true : not true ≡ true = ap not (sym (is_read site may kept may_be)) ∙ wrong in absurd cc
 
-module _ (all : List (List Record)) (records : List (Option Record)) where
-  -- where there is no such place, each record may have been kept
-  pub none_is_wrong : first_wrong all records ≡ None → (place : ℕ) (may : List Record) → slice_get all place ≡ Some may
-      → place < length records → Has may (record_at records place)
+module _ (site : Bool) (all : List (List Record)) (records : List (Option Record)) where
+  -- where there is no such place, each record may be read
+  pub none_is_wrong : first_wrong site all records ≡ None → (place : ℕ) (may : List Record) → slice_get all place ≡ Some may
+      → place < length records → MayRead site may (record_at records place)
   none_is_wrong none place may is below =
-      let past = none_before is_wrong (zip all records) none in
+      let past = none_before (is_wrong site) (zip all records) none in
       let within = within_both all records place may is below in
-      not_wrong may (record_at records place)
-      (sym (wrong_at all records place may is below)
-      ∙ fails_before_first is_wrong (zip all records) place ([], None) (omega (arith, past, within)))
+      not_wrong site may (record_at records place)
+      (sym (wrong_at site all records place may is below)
+      ∙ fails_before_first (is_wrong site) (zip all records) place ([], None) (omega (arith, past, within)))
 
-  module _ (first : ℕ) (found : first_wrong all records ≡ Some first) where
+  module _ (first : ℕ) (found : first_wrong site all records ≡ Some first) where
     pub first_within : first < length records
     first_within =
-        within_records all records first (position-Some is_wrong (zip all records) first ([], None) found).0
+        within_records all records first (position-Some (is_wrong site) (zip all records) first ([], None) found).0
 
-    pub first_is_wrong : (may : List Record) → slice_get all first ≡ Some may → Has may (record_at records first) → ⊥
+    pub first_is_wrong : (may : List Record) → slice_get all first ≡ Some may → MayRead site may (record_at records first) → ⊥
     first_is_wrong may is =
-        not_right may (record_at records first) (sym (wrong_at all records first may is first_within)
-        ∙ (position-Some is_wrong (zip all records) first ([], None) found).1)
+        not_right site may (record_at records first) (sym (wrong_at site all records first may is first_within)
+        ∙ (position-Some (is_wrong site) (zip all records) first ([], None) found).1)
 
     pub others_are_right : (place : ℕ) (may : List Record) → place < first → slice_get all place ≡ Some may
-        → Has may (record_at records place)
+        → MayRead site may (record_at records place)
     others_are_right place may earlier is =
         let within = first_within in
-        not_wrong may (record_at records place)
-        (sym (wrong_at all records place may is (omega (arith, earlier, within)))
-        ∙ (position-Some is_wrong (zip all records) first ([], None) found).2 place earlier)
+        not_wrong site may (record_at records place)
+        (sym (wrong_at site all records place may is (omega (arith, earlier, within)))
+        ∙ (position-Some (is_wrong site) (zip all records) first ([], None) found).2 place earlier)

@@ -1,5 +1,5 @@
 -- True journals are said by one list of members and deeds; so what is wrong with journals is one thing.
-use Rattle.std.specs.Prelude.{length, Option, None, Some}
+use Rattle.std.specs.Prelude.{length, Bool, Option, None, Some}
 use Rattle.std.proofs.Common.{◌≡◌, ◌<◌, ◌+◌, inl, inr, ◌⊎◌, ℕ, List, [], ◌∷◌, ◌++◌, append_assoc, append-nil, refl, sym, ◌∙◌, ap, subst, arith}
 use Rattle.booth_base.specs.declared.address.Address.{Address}
 use Rattle.booth_base.specs.declared.address.MemberId.{MemberId}
@@ -9,6 +9,7 @@ use Rattle.booth_conf.specs.declared.tickets.TicketConf.{TicketConf}
 use Rattle.booth_journal.specs.Says.{Said}
 use Rattle.booth_journal.proofs.OnceLemmas.{one_list_said}
 use Rattle.booth_keys.specs.declared.ring.Ring.{Ring}
+use Rattle.booth_node.specs.AttributeRequests.{is_at_site}
 use Rattle.booth_node.specs.Session.{Down, IsCut, Makes, SessionEntry, Starts, after_entries}
 use Rattle.booth_audit.specs.Audit.{AreTrue, IsMembers, IsTrue, id_of, member_places, node_of}
 use Rattle.booth_rec.specs.declared.record.Record.{Record}
@@ -124,15 +125,18 @@ kept_never events line kept first =
     (subst (AllReadKept []) (ap deeds_of first.whole ∙ deeds_there first.before first.event first.after) kept)) first.wrong
 
 -- the records of one start
-places_same : (before : List SessionEntry) (tickets : List TicketConf) (records : List (Option Record)) (one other : ℕ)
-    → MayNotRead before tickets records one → MayNotRead before tickets records other → (one < other → ⊥)
-places_same before tickets records one other is then_is less = is.wrong (then_is.others one is.conf less is.is)
+places_same : (site : Bool) (before : List SessionEntry) (tickets : List TicketConf) (records : List (Option Record))
+    (one other : ℕ) → MayNotRead site before tickets records one → MayNotRead site before tickets records other
+    → (one < other → ⊥)
+places_same site before tickets records one other is then_is less = is.wrong (then_is.others one is.conf less is.is)
 
 lines_same : (before : List SessionEntry) (what : SessionEntry) (last one other : ℕ) → ReadsWrong before what last one
     → ReadsWrong before what last other → one ≡ other
 lines_same before (Starts node reading records) last one other wrong then_wrong =
-    let less = places_same before node.config.tickets records wrong.0 then_wrong.0 wrong.1 then_wrong.1 in
-    let more = places_same before node.config.tickets records then_wrong.0 wrong.0 then_wrong.1 wrong.1 in
+    let less =
+    places_same (is_at_site node) before node.config.tickets records wrong.0 then_wrong.0 wrong.1 then_wrong.1 in
+    let more =
+    places_same (is_at_site node) before node.config.tickets records then_wrong.0 wrong.0 then_wrong.1 wrong.1 in
     let same : wrong.0 ≡ then_wrong.0 = alike wrong.0 then_wrong.0 less more in
     wrong.2 ∙ ap (λ (k : ℕ). answer_line (length node.config.tickets) k last) same ∙ sym then_wrong.2
   where

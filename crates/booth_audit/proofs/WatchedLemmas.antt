@@ -1,21 +1,24 @@
 -- What the watch over the starts of a member tells.
 use Rattle.std.specs.Prelude.{Option, None, Some, length, option_map, slice_get}
-use Rattle.std.specs.Option.{option_or}
-use Rattle.std.proofs.Common.{◌≡◌, ◌<◌, ℕ, zero, suc, List, [], ◌∷◌, ◌++◌, append_assoc, refl, sym, ◌∙◌, ap, subst, arith}
+use Rattle.std.specs.Option.{option_map_or, option_or}
+use Rattle.std.proofs.Common.{◌≡◌, ◌<◌, ◌+◌, ℕ, zero, suc, List, [], ◌∷◌, ◌++◌, append_assoc, refl, sym, ◌∙◌, ap, subst, arith}
 use Rattle.std.proofs.lemmas.List.{append-nil}
-use Rattle.std.proofs.lemmas.Option.{slice_get_within}
+use Rattle.std.proofs.lemmas.Option.{slice_get-map, slice_get_within}
 use Rattle.booth_conf.specs.declared.tickets.TicketConf.{TicketConf}
 use Rattle.booth_node.specs.declared.node_config.NodeConfig.{NodeConfig}
+use Rattle.booth_node.specs.AttributeRequests.{is_at_site}
 use Rattle.booth_node.specs.Records.{may_after_all}
 use Rattle.booth_node.specs.Session.{AreSessions, Down, IsCut, Makes, MayDo, SessionEntry, Stand, Starts, after_entries, after_entry}
 use Rattle.booth_rec.specs.declared.record.Record.{Record}
-use Rattle.booth_rec.specs.Record.{no_record}
+use Rattle.booth_rec.specs.Record.{no_record, record_or_none}
 use Rattle.booth_audit.specs.Faults.{AllReadKept, ReadsKept, ReadsWrong, answer_line}
 use Rattle.booth_audit.specs.Kept.{all_may_noted, first_may, may_noted}
 use Rattle.booth_audit.specs.Noted.{MemberSays}
 use Rattle.booth_audit.specs.Own.{AllOwn, IsOwn}
 use Rattle.booth_audit.specs.Replay.{Event, deeds_of}
-use Rattle.booth_audit.specs.Watched.{AreFound, TellsFirst, WatchTellsFirst, Watched, first_watched, first_wrong, watched, watched_all, wrong_after, wrong_line}
+use Rattle.booth_audit.specs.Silent.{may_before, unwritten_at, unwritten_by, unwritten_from, unwritten_in, unwritten_read}
+use Rattle.booth_audit.specs.Watched.{AreFound, TellsFirst, WatchTellsFirst, WatchTellsUnwritten, Watched, first_watched, first_wrong, unwritten_after, watched, watched_all, wrong_after, wrong_line}
+use Rattle.booth_audit.specs.declared.silent.Unwritten.{Unwritten}
 use Rattle.booth_audit.proofs.KeptLemmas.{may_is_noted}
 use Rattle.booth_audit.proofs.MayLemmas.{first_is_wrong, first_within, none_is_wrong, others_are_right}
 
@@ -54,7 +57,7 @@ abbrev OneTells : List SessionEntry → SessionEntry → ℕ → Option ℕ → 
 OneTells before what last None = ReadsKept before what
 OneTells before what last (Some line) = ReadsWrong before what last line
 
--- the watch behind entries that are sessions of the member, each start of which read what may have been kept
+-- the watch behind entries that are sessions of the member, each start of which read what it may read
 record Watches (member : MemberSays) (before : List SessionEntry) (now : Watched) : Type 0 where
   sessions : AreSessions Down before
   own : AllOwn member.node before
@@ -76,34 +79,36 @@ module _ (member : MemberSays) (finds : AreFound member.node.config.tickets) whe
       may_here place conf at =
           may_there place conf (ap (λ (n : NodeConfig). slice_get n.config.tickets place) (sym own) ∙ at)
 
-      reads_kept : first_wrong now.may records ≡ None → ReadsKept before (Starts node reading records)
+      reads_kept : first_wrong (is_at_site node) now.may records ≡ None → ReadsKept before (Starts node reading records)
       reads_kept none = λ place conf at.
           let within = slice_get_within node.config.tickets place conf at in
-          none_is_wrong now.may records none place (may_after_all conf.name (no_record ∷ []) before)
+          none_is_wrong (is_at_site node) now.may records none place (may_after_all conf.name (no_record ∷ []) before)
           (may_here place conf at) (omega (arith, within, count))
 
-      reads_wrong : (place last : ℕ) → first_wrong now.may records ≡ Some place
+      reads_wrong : (place last : ℕ) → first_wrong (is_at_site node) now.may records ≡ Some place
           → ReadsWrong before (Starts node reading records) last (answer_line (length records) place last)
       reads_wrong place last found =
-          let within = first_within now.may records place found in
+          let within = first_within (is_at_site node) now.may records place found in
           let ticket = ticket_at node.config.tickets place (omega (arith, within, count)) in (
             place,
             record {
               conf = ticket.0;
               is = ticket.1;
-              wrong = first_is_wrong now.may records place found (may_after_all ticket.0.name (no_record ∷ []) before)
+              wrong = first_is_wrong (is_at_site node) now.may records place found
+                  (may_after_all ticket.0.name (no_record ∷ []) before)
                   (may_here place ticket.0 ticket.1);
               others = λ earlier other less at.
-                  others_are_right now.may records place found earlier
+                  others_are_right (is_at_site node) now.may records place found earlier
                   (may_after_all other.name (no_record ∷ []) before) less (may_here earlier other at);
             },
             ap (λ (n : ℕ). answer_line n place last) count,
           )
 
-      start_tells : (last : ℕ) → OneTells before (Starts node reading records) last (wrong_line now.may records last)
-      start_tells last = by_place (first_wrong now.may records) refl
+      start_tells : (last : ℕ)
+          → OneTells before (Starts node reading records) last (wrong_line (is_at_site node) now.may records last)
+      start_tells last = by_place (first_wrong (is_at_site node) now.may records) refl
         where
-          by_place : (place : Option ℕ) → first_wrong now.may records ≡ place
+          by_place : (place : Option ℕ) → first_wrong (is_at_site node) now.may records ≡ place
               → OneTells before (Starts node reading records) last
               (option_map (λ (p : ℕ). answer_line (length records) p last) place)
           by_place None found = reads_kept found
@@ -113,7 +118,7 @@ module _ (member : MemberSays) (finds : AreFound member.node.config.tickets) whe
         → OneTells before what last (wrong_after now what last)
     one_tells (Starts node reading records) last can own =
         subst (OneTells before (Starts node reading records) last)
-        (sym (ap (λ (o : Option ℕ). option_or o (wrong_line now.may records last)) watches.none))
+        (sym (ap (λ (o : Option ℕ). option_or o (wrong_line (is_at_site node) now.may records last)) watches.none))
         (start_tells node reading records own can last)
     one_tells (Makes call) last can own = subst (OneTells before (Makes call) last) (sym watches.none) tt
     one_tells (IsCut call) last can own = subst (OneTells before (IsCut call) last) (sym watches.none) tt
@@ -173,7 +178,7 @@ module _ (member : MemberSays) where
   stays_one : (now : Watched) (what : SessionEntry) (last line : ℕ) → now.wrong ≡ Some line
       → wrong_after now what last ≡ Some line
   stays_one now (Starts node reading records) last line is =
-      ap (λ (o : Option ℕ). option_or o (wrong_line now.may records last)) is
+      ap (λ (o : Option ℕ). option_or o (wrong_line (is_at_site node) now.may records last)) is
   stays_one now (Makes call) last line is = is
   stays_one now (IsCut call) last line is = is
 
@@ -252,3 +257,73 @@ watch_tells_first member finds events are own =
     tells_first events (watched_all member (first_watched member.node.config.tickets) events).wrong
     (tells member finds [] (first_watched member.node.config.tickets)
     (record { sessions = tt; own = tt; may = refl; none = refl }) events are own)
+
+-- ---- the reads of records that may not have been written
+
+from_same : (all other : List (List Record)) (count last ticket : ℕ) (records : List (Option Record))
+    → ((place : ℕ) → place < ticket + length records → slice_get all place ≡ slice_get other place)
+    → unwritten_from all count last ticket records ≡ unwritten_from other count last ticket records
+from_same all other count last ticket [] same = refl
+from_same all other count last ticket (found ∷ records) same =
+    ap (λ (o : Option (List Record)).
+    option_map_or (λ (may : List Record). unwritten_read ticket (answer_line count ticket last) may (record_or_none found)) o []
+    ++ unwritten_from all count last (ticket + 1) records) (same ticket (omega arith))
+    ∙ ap (λ (l : List Unwritten). unwritten_at other ticket (answer_line count ticket last) found ++ l)
+    (from_same all other count last (ticket + 1) records (λ place below. same place (omega (arith, below))))
+
+-- the watch behind entries that are sessions of the member
+record Follows (member : MemberSays) (before : List SessionEntry) (now : Watched) : Type 0 where
+  sessions : AreSessions Down before
+  own : AllOwn member.node before
+  may : now.may ≡ all_may_noted member.node.config.tickets (first_may member.node.config.tickets) before
+
+module _ (member : MemberSays) (finds : AreFound member.node.config.tickets) where
+  module _ (before : List SessionEntry) (now : Watched) (follows : Follows member before now) where
+    follows_more : (event : Event) → MayDo (after_entries Down before) event.what → IsOwn member.node event.what
+        → Follows member (before ++ event.what ∷ []) (watched member now event)
+    follows_more event can own = record {
+      sessions = sessions_more Down before event.what follows.sessions can;
+      own = own_more member.node before event.what follows.own own;
+      may = ap (λ (all : List (List Record)). may_noted member.node.config.tickets all event.what) follows.may
+          ∙ sym (noted_more member.node.config.tickets (first_may member.node.config.tickets) before event.what);
+    }
+
+    -- what may have been kept of a ticket, by the watch and by the entries
+    may_same : (node : NodeConfig) → node ≡ member.node → (place : ℕ) → place < length node.config.tickets
+        → slice_get now.may place ≡ slice_get (may_before node.config.tickets before) place
+    may_same node own place below =
+        let ticket = ticket_at node.config.tickets place below in
+        let there : slice_get member.node.config.tickets place ≡ Some ticket.0 =
+        ap (λ (n : NodeConfig). slice_get n.config.tickets place) (sym own) ∙ ticket.1 in
+        ap (λ (all : List (List Record)). slice_get all place) follows.may
+        ∙ may_is_noted member.node place ticket.0 there (finds place ticket.0 there) before follows.sessions follows.own
+        ∙ sym
+        (slice_get-map (λ (conf : TicketConf). may_after_all conf.name (no_record ∷ []) before) node.config.tickets place
+        ∙ ap (option_map (λ (conf : TicketConf). may_after_all conf.name (no_record ∷ []) before)) ticket.1)
+
+    one_unwritten : (what : SessionEntry) (last : ℕ) → MayDo (after_entries Down before) what → IsOwn member.node what
+        → unwritten_after now what last ≡ now.unwritten ++ unwritten_by before what last
+    one_unwritten (Starts node reading records) last can own =
+        let count : length records ≡ length node.config.tickets = can in
+        ap (λ (l : List Unwritten). now.unwritten ++ l)
+        (from_same now.may (may_before node.config.tickets before) (length records) last 0 records
+        (λ place below. may_same node own place (omega (arith, below, count))))
+    one_unwritten (Makes call) last can own = sym (append-nil now.unwritten)
+    one_unwritten (IsCut call) last can own = sym (append-nil now.unwritten)
+
+  all_unwritten : (before : List SessionEntry) (now : Watched) → Follows member before now → (events : List Event)
+      → AreSessions (after_entries Down before) (deeds_of events) → AllOwn member.node (deeds_of events)
+      → (watched_all member now events).unwritten ≡ now.unwritten ++ unwritten_in before events
+  all_unwritten before now follows [] are own = sym (append-nil now.unwritten)
+  all_unwritten before now follows (event ∷ events) are own =
+      all_unwritten (before ++ event.what ∷ []) (watched member now event) (follows_more before now follows event are.0 own.0)
+      events (subst (λ (s : Stand). AreSessions s (deeds_of events)) (sym (stands_more Down before event.what)) are.1) own.1
+      ∙ ap (λ (l : List Unwritten). l ++ unwritten_in (before ++ event.what ∷ []) events)
+      (one_unwritten before now follows event.what event.line are.0 own.0)
+      ∙ append_assoc now.unwritten (unwritten_by before event.what event.line)
+      (unwritten_in (before ++ event.what ∷ []) events)
+
+pub watch_tells_unwritten : WatchTellsUnwritten
+watch_tells_unwritten member finds events are own =
+    all_unwritten member finds [] (first_watched member.node.config.tickets)
+    (record { sessions = tt; own = tt; may = refl }) events are own

@@ -15,14 +15,16 @@ use Rattle.booth_node.specs.Session.{AreSessions, Down}
 use Rattle.booth_journal.specs.declared.audit_fault.AuditFault.{AuditFault}
 use Rattle.booth_journal.specs.declared.audit_fault.AuditFault.TheVariants as faults
 use Rattle.booth_audit.specs.declared.holding.Holding.{Holding}
+use Rattle.booth_audit.specs.declared.silent.SilentStart.{SilentStart}
 use Rattle.booth_audit.specs.declared.journal_fault.JournalFault.{JournalFault}
 use Rattle.booth_audit.specs.declared.journal_fault.JournalFault.TheVariants as wrongs
 use Rattle.booth_audit.specs.Faults.{AllHearSent, AllReadKept, FirstNotKept, FirstUnsent, Heard, IsOf}
 use Rattle.booth_audit.specs.Holdings.{Covers, Deeds, holdings_from}
 use Rattle.booth_audit.specs.Replay.{Event, deeds_of, replay}
+use Rattle.booth_audit.specs.Silent.{silent_starts}
 use Rattle.booth_journal.specs.Says.{Said, Says}
 
--- The id of the member at a place. Without a place it is the id of no one.
+-- The id of the member with this index. Without an index it is the id that stands for no member.
 abbrev pub id_of : List Member → Option ℕ → MemberId
 id_of members None = NO_ONE
 id_of members (Some place) = option_map_or (λ (member : Member). member.id) (slice_get members place) NO_ONE
@@ -40,8 +42,8 @@ pub record IsMembers (config : ConfigSays) (earlier : List (Option ℕ)) (text :
   pub whose : IsOf config.members all at
   pub other : (place : ℕ) → at ≡ Some place → Has earlier at → ⊥
 
--- A text is the journal of the member at a place. The rules demanded each call, and each start read records that its
--- member may have written. `heard` has the member's place, its id and its events.
+-- A text is the journal of the member with this index. The rules demanded each call, and each start read records that
+-- it may read. `heard` has the member's place, its id and its events.
 pub record IsTrue (config : ConfigSays) (ring : Option Ring) (earlier : List (Option ℕ)) (text : List ℕ)
     (heard : Heard) : Type 0 where
   pub said : List Said
@@ -66,14 +68,20 @@ AreTrue config ring earlier texts more = ⊥
 abbrev pub deeds_by : Heard → Deeds
 deeds_by heard = record { member = heard.member; entries = deeds_of heard.events }
 
+-- The holdings and the silent starts that an audit reports.
+pub record AuditSays : Type 0 where
+  pub holdings : List Holding
+  pub silent : List SilentStart
+
 -- The answer of an audit that finds no fault.
-pub record IsAudited (config : ConfigSays) (ring : Option Ring) (texts : List (List ℕ)) (holdings : List Holding)
+pub record IsAudited (config : ConfigSays) (ring : Option Ring) (texts : List (List ℕ)) (says : AuditSays)
     : Type 0 where
   pub heard : List Heard
   pub each : AreTrue config ring [] texts heard
   pub sent : All (λ (one : Heard). AllHearSent heard [] (deeds_of one.events)) heard
-  pub held : holdings ≡ holdings_from (map deeds_by heard) 0 config.tickets
-  pub covers : Covers config.tickets (map deeds_by heard) holdings
+  pub held : says.holdings ≡ holdings_from (map deeds_by heard) 0 config.tickets
+  pub covers : Covers config.tickets (map deeds_by heard) says.holdings
+  pub silent : says.silent ≡ silent_starts 0 heard
 
 -- ---- a journal that belongs to no member, or that does not fit what its member did
 
@@ -91,14 +99,14 @@ pub record IsNoMembers (config : ConfigSays) (earlier : List (Option ℕ)) (text
   pub says : Says text said
   pub wrong : (member : Option ℕ) → IsMembers config earlier text member said → ⊥
 
--- The call at this line was not demanded, and each start before it read records that its member may have written.
+-- The call at this line was not demanded, and each start before it read records that it may read.
 pub record DiffersAt (config : ConfigSays) (ring : Option Ring) (earlier : List (Option ℕ)) (text : List ℕ)
     (line : ℕ) : Type 0 where
   pub events : List Event
   pub replays : Replays config ring earlier text events (Some line)
   pub kept : AllReadKept [] (deeds_of events)
 
--- This line is the first with a record that its member may not have written.
+-- This line is the first one with a record that its start may not read.
 pub record IsNotKeptAt (config : ConfigSays) (ring : Option Ring) (earlier : List (Option ℕ)) (text : List ℕ)
     (line : ℕ) : Type 0 where
   pub events : List Event

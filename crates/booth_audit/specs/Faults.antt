@@ -1,5 +1,5 @@
 -- The faults of journals, each defined by itself.
-use Rattle.std.specs.Prelude.{◌≡◌, ◌<◌, ◌+◌, ◌-◌, ◌*◌, ◌++◌, ℕ, List, [], ◌∷◌, length, position}
+use Rattle.std.specs.Prelude.{◌≡◌, ◌<◌, ◌+◌, ◌-◌, ◌*◌, ◌++◌, ℕ, Bool, List, [], ◌∷◌, length, position}
 use Rattle.std.specs.Prelude.{slice_get, Option, None, Some, Ok}
 use Rattle.std.specs.List.{All, flat_map}
 use Rattle.booth_base.specs.declared.address.Address.{Address}
@@ -11,8 +11,9 @@ use Rattle.booth_host.specs.declared.host.Arrival.TheVariants as arrivals
 use Rattle.booth_host.specs.declared.entry.Entry.TheVariants as entries
 use Rattle.booth_journal.specs.declared.said.Call.{Call}
 use Rattle.booth_journal.specs.declared.said.Call.TheVariants as calls
+use Rattle.booth_node.specs.AttributeRequests.{is_at_site}
 use Rattle.booth_node.specs.Reaction.{used}
-use Rattle.booth_node.specs.Records.{Has, may_after_all, record_at}
+use Rattle.booth_node.specs.Records.{Has, MayRead, may_after_all, record_at}
 use Rattle.booth_node.specs.Session.{Down, Hearing, Makes, SessionEntry, Stand, Starts, after_entries}
 use Rattle.booth_node.specs.World.{IsSend}
 use Rattle.booth_auth.specs.Verdict.{verdict}
@@ -40,7 +41,7 @@ abbrev pub place_of : List Member → Option Address → Option ℕ
 place_of members None = None
 place_of members (Some address) = position (is_at address) members
 
--- The starts that listen at these addresses belong to the member at a place. Without an address they belong to no
+-- The starts that listen at these addresses belong to the member with this index. Without an address they belong to no
 -- one.
 abbrev pub AreOf : List Member → List (Option Address) → Option ℕ → Type 0
 AreOf members locals None = locals ≡ []
@@ -53,27 +54,27 @@ IsOf members all owner = AreOf members (opened_in all) owner
 
 -- ---- records
 
--- For each ticket, a start reads a record that its member may have written.
+-- For each ticket, a start reads a record that its member may have written, or a silent record.
 abbrev pub ReadsKept : List SessionEntry → SessionEntry → Type 0
 ReadsKept before (Starts node reading records) =
     (place : ℕ) (conf : TicketConf) → slice_get node.config.tickets place ≡ Some conf
-    → Has (may_after_all conf.name (no_record ∷ []) before) (record_at records place)
+    → MayRead (is_at_site node) (may_after_all conf.name (no_record ∷ []) before) (record_at records place)
 ReadsKept before what = Unit {0}
 
--- Each start after these entries reads only records that its member may have written.
+-- Each start after these entries reads only records that it may read.
 abbrev pub AllReadKept : List SessionEntry → List SessionEntry → Type 0
 AllReadKept before [] = Unit {0}
 AllReadKept before (what ∷ more) = ReadsKept before what × AllReadKept (before ++ what ∷ []) more
 
--- The member may not have written the record of the ticket at this place, but may have written the records of the
--- tickets before it.
-pub record MayNotRead (before : List SessionEntry) (tickets : List TicketConf) (records : List (Option Record))
-    (place : ℕ) : Type 0 where
+-- A start of a site or of an arbitrator may not read the record of the ticket at this place, but may read the records
+-- of the tickets before it.
+pub record MayNotRead (site : Bool) (before : List SessionEntry) (tickets : List TicketConf)
+    (records : List (Option Record)) (place : ℕ) : Type 0 where
   pub conf : TicketConf
   pub is : slice_get tickets place ≡ Some conf
-  pub wrong : Has (may_after_all conf.name (no_record ∷ []) before) (record_at records place) → ⊥
+  pub wrong : MayRead site (may_after_all conf.name (no_record ∷ []) before) (record_at records place) → ⊥
   pub others : (earlier : ℕ) (other : TicketConf) → earlier < place → slice_get tickets earlier ≡ Some other
-      → Has (may_after_all other.name (no_record ∷ []) before) (record_at records earlier)
+      → MayRead site (may_after_all other.name (no_record ∷ []) before) (record_at records earlier)
 
 -- The line of the answer to the read at a place. Each read of a start has two lines, and the last read begins at the
 -- line of the start.
@@ -82,11 +83,11 @@ answer_line count place last = last + 1 - 2 * (count - 1 - place)
 
 abbrev pub ReadsWrong : List SessionEntry → SessionEntry → ℕ → ℕ → Type 0
 ReadsWrong before (Starts node reading records) last line =
-    (place : ℕ) × MayNotRead before node.config.tickets records place
+    (place : ℕ) × MayNotRead (is_at_site node) before node.config.tickets records place
     × (line ≡ answer_line (length node.config.tickets) place last)
 ReadsWrong before what last line = ⊥
 
--- The line of the first record that the member may not have written.
+-- The line of the first record that a start may not read.
 pub record FirstNotKept (events : List Event) (line : ℕ) : Type 0 where
   pub before : List Event
   pub event : Event

@@ -99,7 +99,7 @@ heard_in member events = (hearings_all member 0 nothing_heard events).all
 
 -- ---- noted messages, compared with sent messages
 
--- The member whose id the message carries sent it.
+-- The message was sent by the member whose id it has.
 abbrev pub IsSent : List Heard → Hears → Type 0
 IsSent all hears = IfOk (decoded hears.bytes) (WasSent all)
 

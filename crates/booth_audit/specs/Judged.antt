@@ -30,7 +30,7 @@ judged_by text call answer more =
     if begins_start text call more then Err Over else
     if bytes_eq text call then by_answer answer else Err Differs
 
--- The answer of the first call, if the call has this text. Otherwise the way in which the lines end.
+-- The answer of the first call, if the call has this text. Otherwise the result is how the lines end.
 abbrev pub judged : List ℕ → List Said → Result Answer End
 judged text [] = Err Over
 judged text (said ∷ more) = judged_by text (call_text said.call) said.answer more

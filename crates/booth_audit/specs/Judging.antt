@@ -1,5 +1,5 @@
 -- The results of journals, which are judged first one by one and then all together.
-use Rattle.std.specs.Prelude.{◌≡◌, ◌==◌, ℕ, Bool, false, List, [], ◌∷◌, map}
+use Rattle.std.specs.Prelude.{◌≡◌, ◌==◌, ◌+◌, ◌++◌, ℕ, Bool, false, List, [], ◌∷◌, map}
 use Rattle.std.specs.Prelude.{Option, None, Some, Result, Ok, Err}
 use Rattle.std.specs.List.{flat_map}
 use Rattle.std.specs.Option.{option_map_or}
@@ -12,13 +12,15 @@ use Rattle.booth_audit.specs.declared.exchanges.Exchange.{Exchange}
 use Rattle.booth_audit.specs.declared.holding.Holding.{Holding}
 use Rattle.booth_audit.specs.declared.journal_fault.JournalFault.{JournalFault}
 use Rattle.booth_audit.specs.declared.journal_fault.JournalFault.TheVariants as wrongs
+use Rattle.booth_audit.specs.declared.silent.SilentStart.{SilentStart}
 use Rattle.booth_audit.specs.Audit.{AreTrue, IsTrue, IsWrong, id_of, node_of}
 use Rattle.booth_audit.specs.Exchanges.{IsToldSo, senders_in}
 use Rattle.booth_audit.specs.Faults.{Heard}
 use Rattle.booth_audit.specs.Noted.{MemberSays}
+use Rattle.booth_audit.specs.Silent.{silent_start}
 use Rattle.booth_audit.specs.Tally.{Tally, nothing_tallied, tallied_all}
 
--- The fault of the journal at a place.
+-- The fault of the journal with this index.
 abbrev pub fault_at : JournalFault → ℕ → AuditFault
 fault_at (wrongs.Line line) journal = faults.Line journal line
 fault_at wrongs.Member journal = faults.Member journal
@@ -31,7 +33,7 @@ pub record JudgedSays : Type 0 where
   pub owner : Option ℕ
   pub tally : Tally
 
--- The member at a place. Without a place it is no one.
+-- The member with this index, or no member without an index.
 abbrev pub member_at : ConfigSays → Option Ring → Option ℕ → MemberSays
 member_at config ring at = record {
   node = node_of config ring at;
@@ -104,6 +106,12 @@ IsToldOf members all (Err faults.OutOfMemory) = Unit {0}
 IsToldOf members all result =
     (exchanges : List Exchange) × AreExchanges members all exchanges
     × IsToldSo (senders_in exchanges) exchanges result
+
+-- The silent starts of all journals, one after the other. The first journal has this place.
+abbrev pub silent_by : ℕ → List JudgedSays → List SilentStart
+silent_by journal [] = []
+silent_by journal (judged ∷ all) =
+    map (silent_start journal) judged.tally.watched.unwritten ++ silent_by (journal + 1) all
 
 -- The holdings of all journals, one after the other.
 abbrev pub held_by : List JudgedSays → List Holding

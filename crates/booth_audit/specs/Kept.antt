@@ -24,7 +24,7 @@ change_at place change [] = []
 change_at zero change (may ∷ others) = change may ∷ others
 change_at (suc place) change (may ∷ others) = may ∷ change_at place change others
 
--- The records with a change for the ticket at a place, if there is such a ticket.
+-- The records with a change for the ticket with this index, if there is such a ticket.
 abbrev pub change_if : Option ℕ → (List Record → List Record) → List (List Record) → List (List Record)
 change_if None change all = all
 change_if (Some place) change all = change_at place change all

@@ -16,6 +16,7 @@ pub mod Faults
 pub mod Order
 pub mod Owners
 pub mod ReadLines
+pub mod Silent
 pub mod Watched
 pub mod Hearings
 pub mod Sends

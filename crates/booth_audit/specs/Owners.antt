@@ -31,7 +31,7 @@ abbrev pub IsNobodys : List Said → Option ℕ → Type 0
 IsNobodys all strays =
     (node : NodeConfig) → opened_in all ≡ [] → replay node all ≡ record { events = []; strays = strays }
 
--- The owner of starts, the last of which belongs to the member at this place.
+-- The owner after one more start, which belongs to the member at this place.
 abbrev pub IsOneOwner : Option ℕ → ℕ → Result (Option ℕ) OwnerFault → Type 0
 IsOneOwner owner place (Ok after) = (after ≡ Some place) × ((owner ≡ None) ⊎ (owner ≡ Some place))
 IsOneOwner owner place (Err NotOne) = (earlier : ℕ) × (owner ≡ Some earlier) × (earlier ≡ place → ⊥)

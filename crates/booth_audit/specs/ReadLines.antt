@@ -30,12 +30,12 @@ AreRead tickets records left more = ⊥
 abbrev pub line_at : ℕ → List Said → ℕ → Option (List ℕ)
 line_at first left line = slice_get (flat_map lines_saying left) (line - first)
 
--- The line of the last of this many reads.
+-- The line of the last read, if `count` reads begin at the line `first`.
 abbrev pub last_read : ℕ → ℕ → ℕ
 last_read count first = first + 2 * count - 2
 
 -- A start whose reads begin at this line has the line of its last read. `answer_line` is the line of the answer with
--- the record of the ticket at a place.
+-- the record of the ticket with this index.
 abbrev pub StartsHaveLines : Type 0
 StartsHaveLines =
     (node : NodeConfig) (reading first : ℕ) (records : List (Option Record)) (left more : List Said)

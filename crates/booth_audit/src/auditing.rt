@@ -3,13 +3,14 @@ ghost use Rattle.std.specs.Prelude.{◌≡◌, ◌<◌, ◌^◌, ℕ, IfErr, IfO
 ghost use Rattle.std.specs.List.{All};
 ghost use Rattle.std.specs.Option.{option_copied};
 ghost use Rattle.booth_audit.specs.Audit.{HasFault, IsAudited, id_of};
-ghost use Rattle.booth_audit.specs.Judging.{AreExchanges, AreTrueSo, IsToldOf, held_by};
+ghost use Rattle.booth_audit.specs.Judging.{AreExchanges, AreTrueSo, IsToldOf, held_by, silent_by};
 ghost use Rattle.booth_audit.specs.Order.{by_tickets};
 
 use crate::exchanges::{Exchange, check_exchanges};
 use crate::judging::{Judged, judge};
 use crate::order::sort_by_ticket;
-use crate::{Audit, Holding};
+use crate::silent::push_silent;
+use crate::{Audit, Holding, SilentStart};
 use booth_base::{ByteText, MemberId, NO_ONE};
 use booth_conf::Config;
 use booth_journal::AuditFault;
@@ -44,7 +45,7 @@ fn judge_all(
     Ok(all)
 }
 
-// Returns the id of the member at a place, or the id of no one.
+// Returns the id of the member with this index, or the id that stands for no member.
 fn id_of(config: &Config, owner: Option<u32>) -> MemberId
     ensures { result ≡ id_of config.now.members owner }
 {
@@ -100,6 +101,30 @@ fn holdings_of(alloc: Global, all: &[Judged]) -> Result<Vec<Holding>, AllocError
     Ok(held)
 }
 
+// Returns the silent starts of all journals, in the order of journals.
+fn silent_of(alloc: Global, all: &[Judged]) -> Result<Vec<SilentStart>, AllocError>
+    requires few { length all.now < 2 ^ 32 }
+    ensures { IfOk result (λ silent. silent.items ≡ silent_by 0 all.now) }
+{
+    let mut silent = Vec::new(alloc);
+    for (journal, judged) in all.iter().enumerate() {
+        push_silent(&mut silent, journal as u32, judged.tally.unwritten())?;
+    }
+    Ok(silent)
+}
+
+// Returns the answer for true journals in which all messages were sent.
+fn reported(alloc: Global, all: &[Judged]) -> Result<Audit, AllocError>
+    requires few { length all.now < 2 ^ 32 }
+    ensures held { IfOk result (λ audit. (count : ℕ) → All (λ holding. holding.ticket < count) (held_by all.now)
+        → audit.holdings ≡ by_tickets (held_by all.now) 0 count) }
+    ensures silent { IfOk result (λ audit. audit.silent ≡ silent_by 0 all.now) }
+{
+    let holdings = holdings_of(alloc, all)?;
+    let silent = silent_of(alloc, all)?;
+    Ok(Audit::new(holdings, silent))
+}
+
 /// Audits the journals of a cluster, whose members have this configuration and share this ring.
 ///
 /// # Errors
@@ -127,8 +152,8 @@ pub fn audit(
         Ok(()) => {}
         Err(fault) => return Err(fault),
     }
-    match holdings_of(alloc, &all) {
-        Ok(holdings) => Ok(Audit::new(holdings)),
+    match reported(alloc, &all) {
+        Ok(audit) => Ok(audit),
         Err(_) => Err(AuditFault::OutOfMemory),
     }
 }

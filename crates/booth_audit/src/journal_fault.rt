@@ -13,7 +13,7 @@ pub(crate) enum JournalFault {
     Member,
     /// This line has another call than the rules demanded.
     Differs(u64),
-    /// According to this line a start read a record that the member may not have written.
+    /// According to this line a start read a record that it may not read.
     Kept(u64),
     /// The memory has run out.
     OutOfMemory,

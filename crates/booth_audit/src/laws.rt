@@ -10,7 +10,7 @@ ghost use Rattle.booth_audit.specs.Sends.{SendersTell, UnsentIsFound};
 ghost use Rattle.booth_audit.specs.Sole.{AuditsHaveOneAnswer};
 ghost use Rattle.booth_audit.specs.Starts.{StartsAreReplayed};
 ghost use Rattle.booth_audit.specs.Turns.{TurnsAreReplayed};
-ghost use Rattle.booth_audit.specs.Watched.{TicketsAreFound, WatchTellsFirst};
+ghost use Rattle.booth_audit.specs.Watched.{TicketsAreFound, WatchTellsFirst, WatchTellsUnwritten};
 
 /// Each lease that a member may have written has a holding, which began no later than at the reading in use.
 pub fn members_are_covered()
@@ -57,10 +57,14 @@ pub fn tickets_are_found()
     ensures { TicketsAreFound }
 {}
 
-/// The watch over a member's events reports the line of the first record that a start read and that its member may
-/// not have written.
+/// The watch over a member's events reports the line of the first record that a start read and may not read.
 pub fn watch_tells_first()
     ensures { WatchTellsFirst }
+{}
+
+/// The watch over a member's events reports the reads of records that the member may not have written.
+pub fn watch_tells_unwritten()
+    ensures { WatchTellsUnwritten }
 {}
 
 /// The noted messages of a member show which messages that its turns received were sent.
@@ -88,8 +92,8 @@ pub fn exchanges_tell()
     ensures { ExchangesTell }
 {}
 
-/// An audit has one answer for given journals: no fault and these holdings, or this fault. Only out of memory may
-/// come in place of it.
+/// An audit has one answer for given journals: no fault, with these holdings and silent starts, or this fault. Only out
+/// of memory may come in place of it.
 pub fn audits_have_one_answer()
     ensures { AuditsHaveOneAnswer }
 {}

@@ -1,5 +1,6 @@
 //! The audit of the journals of a cluster. It replays each journal by the rules, watches its starts, and looks for
-//! each received message among the sent ones. It reports which member held which ticket when.
+//! each received message among the sent ones. It reports which member held which ticket when, and which starts were
+//! silent.
 #![tactic(auto)]
 
 mod audited;
@@ -21,6 +22,7 @@ mod replay_host;
 mod replaying;
 mod sends;
 mod sessions;
+mod silent;
 mod starting;
 mod tally;
 mod watched;
@@ -30,5 +32,6 @@ pub use audited::Audit;
 pub use auditing::audit;
 pub use holding::Holding;
 pub use journals::{Journal, replay_journal};
+pub use silent::SilentStart;
 pub use tally::Tally;
 pub use whose::Whose;

@@ -67,9 +67,9 @@ fn lease_of(found: &Option<Record>) -> Option<Lease>
     }
 }
 
-// Returns a place in a list of the configuration. If the list were too long, which cannot be, this returns an
-// allocation failure.
-fn place_of(place: usize) -> Result<u32, AllocError>
+/// Returns a place in a list of the configuration. If the list were too long, which cannot be, this returns an
+/// allocation failure.
+pub(crate) fn place_of(place: usize) -> Result<u32, AllocError>
     ensures { IfOk result (λ same. same ≡ place) }
 {
     match u32::try_from(place) {

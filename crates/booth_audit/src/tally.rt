@@ -6,6 +6,7 @@ ghost use Rattle.booth_audit.specs.Turns.{cut_of, events_from};
 
 use crate::hearings::{HearingNotes, Hears};
 use crate::notes::Notes;
+use crate::silent::Unwritten;
 use crate::watched::Watch;
 use crate::{Holding, Whose};
 use booth_base::ByteText;
@@ -50,12 +51,18 @@ impl Tally {
         self.notes.last()
     }
 
-    /// Returns the line of the first record that a start read and that the member may not have written, if there is
-    /// one.
+    /// Returns the line of the first record that a start read and may not read, if there is one.
     pub(crate) fn wrong(&self) -> Option<u64>
         ensures { result ≡ self.now.watched.wrong }
     {
         self.watch.wrong()
+    }
+
+    /// Returns the reads of records that the member may not have written, in the order of the lines.
+    pub(crate) fn unwritten(&self) -> &[Unwritten]
+        ensures { result.now ≡ self.now.watched.unwritten }
+    {
+        self.watch.unwritten()
     }
 
     /// Returns the holdings, in the order of the lines.
@@ -92,7 +99,7 @@ impl Tally {
             (record { what = Starts whose.now.node reading records.now; line = line })) }
     {
         self.notes.start(whose, reading, records)?;
-        self.watch.start(records, line)?;
+        self.watch.start(whose, records, line)?;
         self.hearings.pass();
         Ok(())
     }

@@ -1,15 +1,14 @@
-//! The watch over the starts of a member: it checks that the member may have written each record that they read.
+//! The watch over the starts of a member: it checks that they may read each record that they read.
 ghost use Rattle.std.specs.Prelude.{◌≡◌, ◌≤◌, ◌^◌, IfOk, OnOk, ℕ};
 ghost use Rattle.std.specs.Option.{option_or};
 ghost use Rattle.booth_host.specs.declared.entry.Entry.TheVariants.{Keep};
-ghost use Rattle.booth_node.specs.declared.node_config.NodeConfig.{NodeConfig};
 ghost use Rattle.booth_node.specs.Session.{IsCut, Makes, Starts};
-ghost use Rattle.booth_audit.specs.Noted.{MemberSays};
 ghost use Rattle.booth_audit.specs.Turns.{cut_of};
 ghost use Rattle.booth_audit.specs.Watched.{first_watched, watched, wrong_line};
 
 use crate::Whose;
 use crate::may_keep::{MayKeep, first_may, keep_at, read_may, wrong_line};
+use crate::silent::{Unwritten, push_unwritten};
 use booth_base::{ByteText, Name};
 use booth_conf::TicketConf;
 use booth_host::{Entry, Failed};
@@ -17,13 +16,14 @@ use booth_rec::Record;
 use std::alloc::{AllocError, Global};
 use std::marker::Model;
 
-/// The records that the member may have written for each ticket, and the line of the first record that a start read
-/// and that is not one of them.
+/// The records that the member may have written for each ticket, the line of the first record that a start may not
+/// read, and the reads of records that the member may not have written.
 #[derive(Drop)]
 pub(crate) struct Watch {
     alloc: Global,
     may: Vec<MayKeep>,
     wrong: Option<u64>,
+    unwritten: Vec<Unwritten>,
 }
 
 impl Model for Watch {
@@ -31,7 +31,7 @@ impl Model for Watch {
 
     ghost Value = { Watched };
 
-    ghost view = { λ w. record { may = w.may.items; wrong = w.wrong } };
+    ghost view = { λ w. record { may = w.may.items; wrong = w.wrong; unwritten = w.unwritten.items } };
 }
 
 impl Watch {
@@ -43,33 +43,47 @@ impl Watch {
             alloc,
             may: first_may(alloc, tickets)?,
             wrong: None,
+            unwritten: Vec::new(alloc),
         })
     }
 
-    /// Returns the line of the first record that the member may not have written, if a start read one.
+    /// Returns the line of the first record that a start may not read, if a start read one.
     pub(crate) fn wrong(&self) -> Option<u64>
         ensures { result ≡ self.now.wrong }
     {
         self.wrong
     }
 
-    fn wrong_after(&self, records: &[Option<Record>], line: u64) -> Option<u64>
+    /// Returns the reads of records that the member may not have written, in the order of the lines.
+    pub(crate) fn unwritten(&self) -> &[Unwritten]
+        ensures { result.now ≡ self.now.unwritten }
+    {
+        &self.unwritten
+    }
+
+    fn wrong_after(&self, site: bool, records: &[Option<Record>], line: u64) -> Option<u64>
         requires { line ≤ 2 ^ 63 }
-        ensures { result ≡ option_or self.now.wrong (wrong_line self.now.may records.now line) }
+        ensures { result ≡ option_or self.now.wrong (wrong_line site self.now.may records.now line) }
     {
         match self.wrong {
             Some(wrong) => Some(wrong),
-            None => wrong_line(&self.may, records, line),
+            None => wrong_line(site, &self.may, records, line),
         }
     }
 
-    /// Watches a start, which has this line and read these records.
-    pub(crate) fn start(&mut self, records: &[Option<Record>], line: u64) -> Result<(), AllocError>
+    /// Watches a start of the member, which has this line and read these records.
+    pub(crate) fn start(
+        &mut self,
+        whose: &Whose<'_>,
+        records: &[Option<Record>],
+        line: u64,
+    ) -> Result<(), AllocError>
         requires { line ≤ 2 ^ 63 }
-        ensures { (member : MemberSays) (node : NodeConfig) (reading : ℕ) → OnOk result (self.new
-            ≡ watched member self.old (record { what = Starts node reading records.now; line = line })) }
+        ensures { (reading : ℕ) → OnOk result (self.new ≡ watched whose.now self.old
+            (record { what = Starts whose.now.node reading records.now; line = line })) }
     {
-        self.wrong = self.wrong_after(records, line);
+        self.wrong = self.wrong_after(whose.is_site(), records, line);
+        push_unwritten(&mut self.unwritten, &self.may, records, line)?;
         self.may = read_may(self.alloc, records)?;
         Ok(())
     }

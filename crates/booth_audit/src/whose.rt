@@ -1,6 +1,7 @@
 //! The member whose journal is replayed.
-ghost use Rattle.std.specs.Prelude.{◌≡◌, IfOk, IfSome, length};
-ghost use Rattle.std.specs.Option.{option_copied};
+ghost use Rattle.std.specs.Prelude.{◌≡◌, IfOk, IfSome, false, length};
+ghost use Rattle.std.specs.Option.{option_copied, option_map_or};
+ghost use Rattle.booth_node.specs.AttributeRequests.{is_at_site};
 ghost use Rattle.booth_node.specs.Jobs.{address_in, own_address};
 ghost use Rattle.booth_node.specs.Opening.{opened};
 ghost use Rattle.booth_node.specs.View.{node_config, state_of};
@@ -91,6 +92,14 @@ impl<'a> Whose<'a> {
         address_in(self.config.members().get(place))
     }
 
+    /// Returns whether it is a site and not an arbitrator.
+    pub(crate) fn is_site(&self) -> bool
+        ensures { result ≡ is_at_site self.now.node }
+    {
+        let place = self.config.member(self.me).unwrap_or(0);
+        is_site_in(self.config.members().get(place))
+    }
+
     // Returns a copy of its ring, if it has one.
     fn copied_ring(&self) -> Option<Ring>
         ensures { result ≡ self.now.node.ring }
@@ -98,7 +107,7 @@ impl<'a> Whose<'a> {
         self.ring.map(Ring::copy)
     }
 
-    /// Returns its node, which starts at this reading of its clock, with the record of each ticket.
+    /// Returns the member's node after a start at this reading of its clock, with these records.
     pub(crate) fn open(
         &self,
         alloc: Global,
@@ -113,6 +122,15 @@ impl<'a> Whose<'a> {
         let ring = self.copied_ring();
         let node = Node::open(alloc, config, ring, self.me, records, reading)?;
         Ok(node)
+    }
+}
+
+fn is_site_in(member: Option<&Member>) -> bool
+    ensures { result ≡ option_map_or (λ member. member.site) (option_copied member.entry) false }
+{
+    match member {
+        Some(member) => member.site,
+        None => false,
     }
 }
 

@@ -1,4 +1,4 @@
-//! Why an argument is refused: which one it is, what it was, and what is allowed.
+//! Why an argument is refused: its name, its value, and the allowed values.
 
 use crate::cause::Cause;
 use crate::words::{option, plain};
@@ -6,23 +6,23 @@ use booth_base::{Address, AttrValue, Name, PathText};
 use booth_cli::{MOST_EVENTS, MOST_TURNS, Program, Word};
 use booth_following::PROGRAM_BYTES;
 
-/// What names are allowed.
+/// The allowed names.
 const NAMES: &str = "a name has 1 to 63 printing characters of ASCII, without blanks";
 
-/// What values of attributes are allowed.
-const VALUES: &str = "a value has up to 127 printing characters of ASCII, blanks too";
+/// The allowed values of attributes.
+const VALUES: &str = "a value has up to 127 printing characters of ASCII; blanks are allowed";
 
-/// What addresses are allowed.
+/// The allowed addresses.
 const ADDRESSES: &str =
     "an IPv4 or IPv6 address is needed, as 192.0.2.10 or 2001:db8::10; names are not resolved";
 
-/// What paths are allowed.
+/// The allowed paths.
 const PATHS: &str = "a path has 1 to 255 bytes";
 
-/// What programs are allowed.
-const PROGRAMS: &str = "a program with its arguments has up to 228 bytes, and not blanks alone";
+/// The allowed programs.
+const PROGRAMS: &str = "a program with its arguments has 1 to 228 bytes, not only blanks";
 
-/// What configurations are allowed.
+/// The allowed configurations.
 const CONFIGURATIONS: &str =
     "a path with a slash, or a name in /etc/booth, of at most 255 bytes with its folder and .conf";
 
@@ -165,7 +165,7 @@ pub fn two_tickets(option: &str, other: &str) -> Cause {
     cause
 }
 
-// Returns the cause for the site that a ticket is moved to, or else for the site that is asked.
+// Returns the cause for the site to which a ticket is moved, or otherwise for the asked site.
 fn bad_site(program: Program, words: &[String]) -> Option<Cause> {
     let is_booth = matches!(program, Program::Booth);
     if is_booth {
@@ -229,7 +229,7 @@ fn bad_path(words: &[String]) -> Option<Cause> {
     None
 }
 
-// Returns the cause for an argument that is refused whatever it is.
+// Returns the cause for an argument that is refused with any value.
 fn refused(argument: Option<Argument<'_>>, allowed: &str) -> Option<Cause> {
     let argument = argument?;
     Some(refuse(&argument, allowed))

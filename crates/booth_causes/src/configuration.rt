@@ -7,12 +7,12 @@ use crate::values::allowed;
 use booth_conf::{ConfFault, ConfKey, KeyNo, TEXT_BYTES};
 use std::str;
 
-/// The number after that of the last key.
+/// The number after the last key's number.
 const KEYS_END: u8 = 24;
 
-const LINES: &str = "a line is KEY = VALUE, KEY = \"VALUE\" or a comment behind #";
+const LINES: &str = "a line is KEY = VALUE, KEY = \"VALUE\" or a comment after #";
 
-const ONCE: &str = "an address, a ticket, and a key of one section stand once";
+const ONCE: &str = "each address, each ticket, and each key of a section may be given once";
 
 const MOST: &str =
     "at most 16 members, 4096 tickets, and 8 lines attr-prereq for a ticket are allowed";
@@ -130,8 +130,8 @@ fn ids_clash(text: &[u8], first: usize, second: usize) -> Cause {
     cause
 }
 
-/// Returns what was found and what is allowed, for a fault of this text. Returns nothing for a fault whose text says
-/// all.
+/// Returns what was found and what is allowed, for a fault of this text. Returns nothing for a fault whose text needs
+/// no cause.
 pub fn bad_configuration(text: &[u8], fault: ConfFault) -> Option<Cause> {
     match fault {
         ConfFault::TooLarge => Some(too_large(text)),

@@ -68,8 +68,8 @@ fn bad_kill(asked: &FollowWords, ticket: &TicketConf) -> Cause {
     cause
 }
 
-/// Returns why a ticket of this configuration is not followed with these arguments, for this fault. Returns nothing
-/// for a manual ticket, whose text says all.
+/// Returns why a ticket of this configuration is not followed with these arguments, for this fault. Returns nothing for
+/// a manual ticket, whose text needs no cause.
 pub fn not_followed(asked: &FollowWords, config: &Config, fault: FollowFault) -> Option<Cause> {
     let path = asked.conf.as_str();
     let ticket = ticket_in(config, &asked.ticket);

@@ -1,4 +1,4 @@
-//! The lines of a configuration's text: their keys and values, as far as no reader is needed.
+//! The lines of a configuration's text, with those keys and values that can be found without the reader.
 
 /// Returns the line with this number, counted from 1, without blanks around it.
 pub(crate) fn line_at(text: &[u8], number: u32) -> Option<&[u8]> {

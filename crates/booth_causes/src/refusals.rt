@@ -305,7 +305,7 @@ pub fn older_daemon(member: &Address) -> Cause {
 }
 
 /// Returns why a request was refused with this result, as far as it is known. Returns nothing for a result whose text
-/// says all.
+/// needs no cause.
 pub fn refusal(refused: &Refused<'_>, code: u32) -> Option<Cause> {
     match code {
         results::FAIL => Some(failed(refused)),

@@ -1,4 +1,4 @@
-//! What values are allowed for each key of a configuration, as in booth.conf(5).
+//! The allowed values for each key of a configuration, as in booth.conf(5).
 
 use booth_conf::ConfKey;
 
@@ -11,7 +11,7 @@ const PATH: &str = "a path of 1 to 255 bytes";
 
 const TEXT: &str = "a text of at most 255 bytes";
 
-/// Returns what values are allowed for this key.
+/// Returns the allowed values for this key.
 pub(crate) fn allowed(key: ConfKey) -> &'static str {
     match key {
         ConfKey::Port => "a whole number from 1 to 65535",
@@ -24,8 +24,7 @@ pub(crate) fn allowed(key: ConfKey) -> &'static str {
         ConfKey::Maxtimeskew | ConfKey::Expire | ConfKey::Timeout | ConfKey::RenewalFreq => SECONDS,
         ConfKey::AcquireAfter => "a whole number of seconds from 0 to 10000000",
         ConfKey::Retries => "a whole number from 3 to 100",
-        ConfKey::Weights =>
-            "up to 16 whole numbers from 0 to 1000000000, with a comma between each two",
+        ConfKey::Weights => "up to 16 whole numbers from 0 to 1000000000, separated by commas",
         ConfKey::BeforeAcquireHandler => "a program with its arguments, of 1 to 255 bytes",
         ConfKey::AttrPrereq =>
             "KIND NAME eq VALUE, or KIND NAME ne VALUE, where KIND is auto or manual",

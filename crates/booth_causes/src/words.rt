@@ -12,7 +12,7 @@ fn is_option(word: &str) -> bool {
     word.starts_with('-') && word != "-"
 }
 
-// Returns whether this is the letter of an option alone, whose value is the next argument.
+// Returns whether this argument is only an option's letter, so that its value is the next argument.
 fn awaits_value(word: &str) -> bool {
     match word.as_bytes() {
         [b'-', letter] => has_value(*letter),

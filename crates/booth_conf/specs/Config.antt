@@ -33,7 +33,7 @@ pub record ConfigSays : Type 0 where
 
 -- DEFAULTS
 
--- the ticket's own value, else that of `__default__`, else that of the table
+-- the ticket's own value, or else the value of `__default__`, or else the table's default
 abbrev pub chosen : {X : Type 0} → Option X → Option X → X → X
 chosen own default table = unwrap_or (option_or own default) table
 

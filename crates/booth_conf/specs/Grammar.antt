@@ -22,7 +22,7 @@ is_value_byte b = (nat_le 0x20 b && nat_le b 0x7E) || b == 0x09
 abbrev pub is_other : ℕ → ℕ → Bool
 is_other byte b = not (b == byte)
 
--- what follows the bytes in front that pass the test
+-- the rest after the leading bytes that pass the test
 abbrev pub beyond : (ℕ → Bool) → List ℕ → List ℕ
 beyond p [] = []
 beyond p (b ∷ bs) = if p b then beyond p bs else b ∷ bs

@@ -91,7 +91,7 @@ setting_value (Ticket name) = name
 setting_value Defaults = default_name
 setting_value (Of e) = entry_value e
 
--- in `"` if the value has none, else in `'` if it has none, else bare
+-- in `"` if the value has no `"`; else in `'` if it has no `'`; else without quotes
 abbrev pub written : List ℕ → List ℕ
 written value =
     if list_all (is_other 0x22) value then 0x22 ∷ (value ++ 0x22 ∷ [])

@@ -100,7 +100,7 @@ has_name name ticket = bytes_eq name ticket.name
 abbrev pub name_of : NamedSection → List ℕ
 name_of ticket = ticket.name
 
--- the section of a ticket's key: that of the last ticket, or else that of `__default__`
+-- the section to which a ticket's key belongs: the last ticket's, or else the section of `__default__`
 abbrev pub open_section : Option (List Entry) → List NamedSection → Option (List Entry)
 open_section defaults [] = defaults
 open_section defaults (t ∷ []) = Some t.section

@@ -1,4 +1,5 @@
--- A section: the entries, key by key and in their order, of the whole file or below one `ticket` line.
+-- A section: the entries of the whole file, or those below one `ticket` line. They are grouped by key, and in their
+-- order for each key.
 use Rattle.std.specs.Prelude.{ℕ, Bool, nat_lt, nat_le, ◌&&◌, List, [], ◌∷◌, count_by, filter, Option, Some, None, option_map, option_and_then, if◌then◌else◌}
 use Rattle.std.specs.List.{find}
 use Rattle.arrayvec.specs.ArrayVec.{ArrayVec}

@@ -54,7 +54,7 @@ is_gap b = b == 0x20 || b == 0x09
 abbrev pub is_word_byte : ℕ → Bool
 is_word_byte b = not (is_gap b)
 
--- one byte or more, none of them a gap
+-- one or more bytes, none of which is a gap
 abbrev pub is_word : List ℕ → Bool
 is_word [] = false
 is_word (b ∷ bs) = list_all is_word_byte (b ∷ bs)

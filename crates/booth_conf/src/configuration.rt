@@ -209,8 +209,8 @@ impl Config {
         self.skew
     }
 
-    /// Returns the path of the other key file, if one is set: that of the old key while the key is changed. It has no
-    /// effect if no key file is set.
+    /// Returns the path of the other key file, if one is set: the file of the old key, while the key is changed. It has
+    /// no effect if no key file is set.
     pub fn authfile_old(&self) -> Option<&PathText>
         ensures { option_copied result ≡ self.now.authfile_old }
     {
@@ -264,8 +264,8 @@ impl Config {
         self.names.get_index_of(name)
     }
 
-    /// Returns how many sites come before this one for this ticket: those of greater weight, and those of equal
-    /// weight that come earlier in the file. The ticket and the member are given by their places.
+    /// Returns how many sites come before this one for this ticket: the sites with a greater weight, and the sites with
+    /// an equal weight that are earlier in the file. The ticket and the member are given by their places.
     pub fn rank(&self, ticket: usize, member: usize) -> u32
         requires ticket { ticket < length self.now.tickets }
         requires site { IsSomeAnd (slice_get self.now.members member) (λ m. IsTrue m.site) }

@@ -15,11 +15,11 @@ pub enum ConfFault {
     TooLarge,
     Syntax { line: u32 },
     UnknownKey { line: u32 },
-    /// A key of a ticket comes before the first `ticket` line.
+    /// A key of a ticket is above the first `ticket` line.
     Misplaced { line: u32 },
     BadValue { line: u32, key: KeyNo },
     Repeated { line: u32 },
-    /// `__default__` comes after another ticket.
+    /// `__default__` is not the first ticket of the file.
     DefaultLate { line: u32 },
     TooMany { line: u32 },
     NoSite,

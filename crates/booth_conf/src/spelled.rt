@@ -7,7 +7,7 @@ use crate::tickets::{GrantKind, Prereq};
 use booth_base::{AttrValue, Name, PathText};
 use std::marker::Model;
 
-// The most bytes of a text.
+// The greatest length of a text, in bytes.
 const MOST_BYTES: usize = 255;
 
 /// A text of at most `PATH_BYTES` bytes. Contracts see its bytes.

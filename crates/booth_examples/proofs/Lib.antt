@@ -11,3 +11,4 @@ pub mod TellingRuns
 pub mod PremiseRuns
 pub mod UntimedRuns
 pub mod NeededPremises
+pub mod LostRuns

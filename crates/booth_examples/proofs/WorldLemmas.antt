@@ -1,6 +1,6 @@
 -- What the tests of a world pass of it is so.
 use Rattle.std.proofs.Common.{◌≡◌, ℕ, zero, suc, ◌<◌, ◌≤◌, ◌+◌, Bool, true, false, not, ◌||◌, List, [], ◌∷◌, ◌++◌, refl, sym, ap, subst, ◌∙◌, inl, inr, arith, if◌then◌else◌, ⊎_elim}
-use Rattle.std.specs.Prelude.{◌==◌, slice_get, Some, Result, Ok}
+use Rattle.std.specs.Prelude.{◌==◌, nat_le, slice_get, Some, None, Result, Ok}
 use Rattle.std.specs.List.{list_all, list_any, range_with_len}
 use Rattle.std.proofs.lemmas.Bool.{and_parts, or_cases, or_left, or_right, eqb-true, eq-eqb, cases_eq, ltb-true, leb-true}
 use Rattle.std.proofs.lemmas.List.{append-nil, append_assoc}
@@ -12,17 +12,19 @@ use Rattle.booth_conf.specs.declared.tickets.TicketConf.{TicketConf}
 use Rattle.booth_host.specs.declared.entry.Entry.TheVariants as calls
 use Rattle.booth_host.specs.declared.host.Arrival.TheVariants as arrivals
 use Rattle.booth_rec.specs.declared.record.Record.{Record}
+use Rattle.booth_rec.specs.Record.{first_plain}
+use Rattle.booth_node.specs.Opening.{is_site_at}
 use Rattle.booth_wire.specs.PlainMessage.{PlainMessage}
 use Rattle.booth_wire.specs.Reading.{decoded}
 use Rattle.booth_wire.specs.declared.command.Direction.{Direction}
 use Rattle.booth_node.specs.Reaction.{used}
-use Rattle.booth_node.specs.Records.{Has, record_at, may_be_kept}
+use Rattle.booth_node.specs.Records.{Has, record_at, may_be_kept, IsSilent, MayRead}
 use Rattle.booth_node.specs.Session.{SessionEntry, Starts, Makes, IsCut, CutSend, Stand, Down, Hearing, after_entries, AreSessions}
 use Rattle.booth_node.specs.World.{World, WorldEntry, AtEach, HasForm, IsNodeOf, HasConfiguration, ReadsClock, ReadsKept, WasSecond, StaysSecond, IsSend, WasSent, HearsSent, members_of, id_at, entries_of, begins_with, stand_after}
 use Rattle.booth_node.specs.declared.node_config.NodeConfig.{NodeConfig}
 use Rattle.booth_examples.specs.Same.{same_id, same_list, same_member, same_record}
 use Rattle.booth_examples.specs.Fitting.{is_sound}
-use Rattle.booth_examples.specs.Checks.{along, each_ticket, config_of, least_ticket, fits_in, has_form, is_node_of, has_configuration, has_record, reads_kept, was_second, stays_second, reads_clock, sent_bytes, is_sent_by, was_said, was_sent, hears_sent, stand_next, hears_if, hears_along, each_member, same_members, reads_clocks, records_return, versions_rise, members_speak, one_daemon}
+use Rattle.booth_examples.specs.Checks.{along, each_ticket, config_of, least_ticket, fits_in, has_form, is_node_of, has_configuration, has_record, is_silent, may_read, reads_kept, was_second, stays_second, reads_clock, sent_bytes, is_sent_by, was_said, was_sent, hears_sent, stand_next, hears_if, hears_along, each_member, same_members, reads_clocks, records_return, versions_rise, members_speak, one_daemon}
 use Rattle.booth_examples.proofs.SameLemmas.{no_test, bytes_are, id_is, list_is, member_is, option_is, record_is}
 use Rattle.booth_examples.proofs.FittingLemmas.{config_is}
 use Rattle.booth_examples.specs.Sessions.{are_sessions}
@@ -122,12 +124,38 @@ record_has kept (one ∷ may) e =
     ⊎_elim (λ (here : same_record one kept ≡ true). inl (record_is one kept here))
     (λ (there : has_record kept may ≡ true). inr (record_has kept may there)) (or_cases (same_record one kept) _ e)
 
+implied : (a b : Bool) → not a || b ≡ true → a ≡ true → b ≡ true
+implied true b e h = e
+implied false b e h = no_test h
+
+reaches_one : (may : List Record) (term : ℕ) → list_any (λ one. nat_le one.term term) may ≡ true → (k : Record) × Has may k × (k.term ≤ term)
+reaches_one [] term e = no_test e
+reaches_one (one ∷ may) term e = ⊎_elim
+    (λ (here : nat_le one.term term ≡ true). (one, inl refl, leb-true one.term term here))
+    (λ (there : list_any (λ one. nat_le one.term term) may ≡ true). let q = reaches_one may term there in (q.0, inr q.1, q.2))
+    (or_cases (nat_le one.term term) _ e)
+
+silent_is : (site : Bool) (may : List Record) (kept : Record) → is_silent site may kept ≡ true → IsSilent site may kept
+silent_is site may kept e =
+    let parts = and_parts (same_record kept (first_plain kept.term None)) _ e in
+    record {
+      bare = record_is kept (first_plain kept.term None) parts.0;
+      reaches = λ is. reaches_one may kept.term (implied site (list_any (λ one. nat_le one.term kept.term) may) parts.1 is);
+    }
+
+read_is : (site : Bool) (may : List Record) (kept : Record) → may_read site may kept ≡ true → MayRead site may kept
+read_is site may kept e = ⊎_elim
+    (λ (here : has_record kept may ≡ true). inl (record_has kept may here))
+    (λ (there : is_silent site may kept ≡ true). inr (silent_is site may kept there))
+    (or_cases (has_record kept may) _ e)
+
 kept_is : (w : World) (before : List WorldEntry) (entry : WorldEntry) (what : SessionEntry) → reads_kept w before entry what ≡ true
     → ReadsKept w before entry what
 kept_is w before entry (Starts node reading records) e = λ place ticket at.
-    record_has (record_at records place) _ (each_ticket_at (λ n t. has_record (record_at records n)
+    read_is (is_site_at w.members entry.member) _ (record_at records place) (each_ticket_at (λ n t. may_read (is_site_at w.members entry.member)
     (may_be_kept t.name (begins_with w entry.member t.name) (entries_of entry.member before)
-    (Starts node reading records ∷ []))) node.config.tickets e place ticket at)
+    (Starts node reading records ∷ []))
+    (record_at records n)) node.config.tickets e place ticket at)
 kept_is w before entry (Makes call) e = tt
 kept_is w before entry (IsCut call) e = tt
 
@@ -142,10 +170,6 @@ second_is (Starts node reading records ∷ entries) (inl here) = or_left node.se
 second_is (Starts node reading records ∷ entries) (inr later) = or_right node.second (was_second entries) (second_is entries later)
 second_is (Makes call ∷ entries) h = second_is entries h
 second_is (IsCut call ∷ entries) h = second_is entries h
-
-implied : (a b : Bool) → not a || b ≡ true → a ≡ true → b ≡ true
-implied true b e h = e
-implied false b e h = no_test h
 
 second_stays : (w : World) (before : List WorldEntry) (entry : WorldEntry) (what : SessionEntry) → stays_second w before entry what ≡ true
     → StaysSecond w before entry what

@@ -20,6 +20,7 @@ use Rattle.booth_wire.specs.Command.{direction_of}
 use Rattle.booth_wire.specs.PlainMessage.{PlainMessage}
 use Rattle.booth_wire.specs.declared.command.Direction.{Direction}
 use Rattle.booth_wire.specs.declared.command.Direction.TheVariants.{BetweenMembers}
+use Rattle.booth_node.specs.Opening.{is_site_at}
 use Rattle.booth_node.specs.Reaction.{used}
 use Rattle.booth_node.specs.Records.{record_at, may_be_kept}
 use Rattle.booth_node.specs.Session.{SessionEntry, Starts, Makes, IsCut, CutSend, Stand, Down, Hearing, after_entry}
@@ -86,11 +87,20 @@ has_configuration w entry what = true
 abbrev pub has_record : Record → List Record → Bool
 has_record kept may = list_any (λ one. same_record one kept) may
 
+-- of version 1 and without a lease; at a site of no earlier term than one that may be kept
+abbrev pub is_silent : Bool → List Record → Record → Bool
+is_silent site may kept =
+    same_record kept (first_plain kept.term None) && (not site || list_any (λ one. nat_le one.term kept.term) may)
+
+abbrev pub may_read : Bool → List Record → Record → Bool
+may_read site may kept = has_record kept may || is_silent site may kept
+
 abbrev pub reads_kept : World → List WorldEntry → WorldEntry → SessionEntry → Bool
 reads_kept w before entry (Starts node reading records) =
-    each_ticket (λ place ticket. has_record (record_at records place)
+    each_ticket (λ place ticket. may_read (is_site_at w.members entry.member)
     (may_be_kept ticket.name (begins_with w entry.member ticket.name) (entries_of entry.member before)
-    (Starts node reading records ∷ []))) 0 node.config.tickets
+    (Starts node reading records ∷ []))
+    (record_at records place)) 0 node.config.tickets
 reads_kept w before entry what = true
 
 abbrev pub was_second : List SessionEntry → Bool

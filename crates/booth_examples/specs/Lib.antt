@@ -10,4 +10,5 @@ pub mod WorldExamples
 pub mod TakeOverExample
 pub mod PremiseExamples
 pub mod VersionExamples
+pub mod LostExamples
 pub mod ManyKindsExample

@@ -97,7 +97,7 @@ with_forged_votes = world_with two_sites (
 abbrev pub other_alone : List Member
 other_alone = site_two ∷ []
 
--- By its own configuration each of two sites is alone, so it needs no other vote.
+-- According to its own configuration each of two sites is the only member, so it needs no other vote.
 abbrev pub with_two_configurations : World
 with_two_configurations = world_with two_sites (
     at 0 0 (starts alone site_one 0 None)

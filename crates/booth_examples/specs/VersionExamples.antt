@@ -50,7 +50,7 @@ granted_before =
     ∷ []
 
 -- Site one and the arbitrator start in version 2. Site one starts from the record of its lease. The arbitrator starts
--- without a record, so it answers no round for a whole promise.
+-- without a record, so it answers no round for the time of a whole promise.
 abbrev pub begins_to_keep : List WorldEntry
 begins_to_keep =
     at 8000 0 (starts_again site_one 8000 (Some (lease 1 13000)))

@@ -85,7 +85,7 @@ world_with = world_by (λ m. exact_clock)
 
 -- ---- entries
 
--- The member at a place does this at a true time.
+-- The member with this index does this at a true time.
 abbrev pub at : ℕ → ℕ → SessionEntry → WorldEntry
 at time place what = record { member = place; time = time; what = what }
 

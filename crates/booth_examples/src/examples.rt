@@ -1,6 +1,6 @@
 //! Small worlds that show that the laws are not empty, and that they need each premise. Each is the contract of a
 //! function that does nothing.
-ghost use Rattle.std.specs.Prelude.{ℕ, ◌<◌};
+ghost use Rattle.std.specs.Prelude.{ℕ, ◌<◌, false};
 ghost use Rattle.booth_world.specs.Shadows.{HasShadow};
 ghost use Rattle.booth_node.specs.Held.{Moment};
 ghost use Rattle.booth_node.specs.Session.{AreSessions, Down};
@@ -11,6 +11,7 @@ ghost use Rattle.booth_examples.specs.TakeOverExample.{taken_over};
 ghost use Rattle.booth_examples.specs.Telling.{TellsAt};
 ghost use Rattle.booth_examples.specs.PremiseExamples.{with_foreign_records, with_leases_at_first, with_a_lost_record, with_forged_votes, with_two_configurations, with_a_fast_clock, with_two_daemons, AreTrueBut, HasTwoDaemons, daemon_starts, votes_for_one, votes_for_two};
 ghost use Rattle.booth_examples.specs.VersionExamples.{promises_kept, one_after_another, fast_in_second, with_a_falling_version};
+ghost use Rattle.booth_examples.specs.LostExamples.{with_a_late_vote, with_a_late_return, with_new_disks};
 ghost use Rattle.booth_examples.specs.WorldExamples.{one_goes_on, one_holds, site_one, site_two, tells_lease, web};
 ghost use Rattle.booth_world.specs.Tellers.{EndsIn, HasLeft};
 
@@ -52,10 +53,11 @@ pub fn ticket_is_taken_over()
     ensures second { HoldsAt taken_over web 1 25999 }
     ensures first_tells { TellsAt taken_over web 0 7021 (HasLeft (tells_lease site_one 1 7020 6).head 6) }
     ensures second_tells { TellsAt taken_over web 1 20021 (HasLeft (tells_lease site_two 2 20020 6).head 6) }
-    ensures shadows { (moment : Moment taken_over) → HasShadow taken_over web moment }
+    ensures shadows { (moment : Moment taken_over) → HasShadow taken_over false web moment }
 {}
 
-/// Without the premise that all members have one configuration: by its own configuration each of two sites is alone.
+/// Without the premise that all members have one configuration: according to its own configuration each of two sites is
+/// the only member.
 pub fn two_configurations_give_leases()
     ensures others { IsWorldBut SameMembers with_two_configurations }
     ensures two_hold { TwoHold with_two_configurations }
@@ -128,6 +130,27 @@ pub fn falling_version_gives_leases()
 pub fn lost_record_gives_a_lease()
     ensures others { IsWorldBut RecordsReturn with_a_lost_record }
     ensures two_hold { TwoHold with_a_lost_record }
+{}
+
+/// The same in version 2: the site starts without a record, and abstains for the time of a whole promise.
+pub fn late_vote_gives_a_lease()
+    ensures others { IsWorldBut RecordsReturn with_a_late_vote }
+    ensures second { IsSecondWorld with_a_late_vote }
+    ensures two_hold { TwoHold with_a_late_vote }
+{}
+
+/// Two members hold although no vote is late. The late message is the one by which the site gave its term back.
+pub fn late_return_frees_a_promise()
+    ensures others { IsWorldBut RecordsReturn with_a_late_return }
+    ensures second { IsSecondWorld with_a_late_return }
+    ensures two_hold { TwoHold with_a_late_return }
+{}
+
+/// An arbitrator that voted starts without a record, and a site that held starts from a silent record of a later term.
+pub fn disks_are_replaced()
+    ensures world { IsWorld with_new_disks }
+    ensures second { IsSecondWorld with_new_disks }
+    ensures holds { HoldsAt with_new_disks web 0 20999 }
 {}
 
 /// In each of these worlds the missing premise is not met.

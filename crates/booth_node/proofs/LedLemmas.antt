@@ -124,8 +124,8 @@ module _ {H : Type 0} {past : H → Option (List Entry)} {faults : H → ℕ} {X
   led_by {t = t} {left = left} {a = a} {b = b} stays done =
       led_lifted t left a b done.acts stays done.chain done.leads
 
--- Hands that borrow their host, what is counted and a frame keep these; they stay at their node, in their moment and under
--- their name; and what they did of a ticket's tree is what the host was led to.
+-- Hands that borrow their host, what is counted and a frame keep these; they stay at their node, in their moment and
+-- under their name; and what they did of a ticket's tree is what the host was led to.
 pub led_hands : {H X A B C : Type 0} {past : H → Option (List Entry)} {faults : H → ℕ} {did : X → Act → X → Type 0}
     (host_name : X → A) (common_name : X → B) (frame_name : X → C) (node : X → NodeConfig) (now : X → ℕ) (name : X → List ℕ)
     (host : X → H) (common : X → Common)

@@ -1,5 +1,5 @@
--- Whom the acts of a manual ticket reach: members and the clients that wait for it, but for the reply to who asked, which
--- comes last.
+-- Whom the acts of a manual ticket reach: members and the clients that wait for it, but for the reply to who asked,
+-- which comes last.
 use Rattle.std.proofs.Common.{◌≡◌, inl, ℕ, Bool, true, false, List, ◌++◌, refl, sym, ap, subst, if◌then◌else◌}
 use Rattle.std.specs.Prelude.{None}
 use Rattle.booth_base.specs.Tree.{Deeds, Ends, Leads}

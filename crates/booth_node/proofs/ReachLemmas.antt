@@ -1,5 +1,5 @@
--- Whom the acts of a ticket reach, whatever its kind: members and the clients that wait for it, but for the reply to who
--- asked, which comes last.
+-- Whom the acts of a ticket reach, whatever its kind: members and the clients that wait for it, but for the reply to
+-- who asked, which comes last.
 use Rattle.std.proofs.Common.{◌≡◌, ◌⊎◌, inl, inr, ℕ, Bool, true, false, List, [], ◌∷◌, ◌++◌, refl, sym, ap, ◌∙◌, subst, append_assoc, append-nil, if◌then◌else◌}
 use Rattle.std.specs.Prelude.{Option, Some, None}
 use Rattle.std.specs.List.{filter}

@@ -1,5 +1,5 @@
--- Whom the acts of a ticket reach: members and the clients that wait for it, but for the reply to who asked, which comes
--- last.
+-- Whom the acts of a ticket reach: members and the clients that wait for it, but for the reply to who asked, which
+-- comes last.
 use Rattle.std.proofs.Common.{◌≡◌, ◌⊎◌, inl, inr, ℕ, Bool, List, ◌++◌, refl, sym, ap, ◌∙◌, subst, append_assoc}
 use Rattle.std.specs.Prelude.{Option}
 use Rattle.booth_base.specs.Tree.{Deeds, Ends, Leads, ◌>>=◌}

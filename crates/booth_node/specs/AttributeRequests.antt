@@ -29,11 +29,11 @@ use Rattle.booth_node.specs.Replies.{Reply, reply_message}
 
 -- ---- prerequisites
 
--- The prerequisites of the ticket at a place.
+-- The prerequisites of the ticket with this index.
 abbrev pub prereqs_at : List TicketConf → ℕ → List Prereq
 prereqs_at tickets place = option_map_or (λ ticket. ticket.prereqs) (slice_get tickets place) []
 
--- Whether the prerequisites for a grant of this kind hold, for the ticket at a place.
+-- Whether the prerequisites for a grant of this kind hold, for the ticket with this index.
 abbrev pub is_ready : NodeConfig → Attributes → ℕ → GrantKind → Bool
 is_ready node attributes place kind =
     list_all (holds_for kind (pairs_of attributes place)) (prereqs_at node.config.tickets place)
@@ -74,7 +74,7 @@ attended_place node name =
 
 -- ---- the attributes afterwards
 
--- The attributes after a request about the ticket at a place.
+-- The attributes after a request about the ticket with this index.
 abbrev pub after_wish : Attributes → ℕ → AttrWish → Attributes
 after_wish all place (wishes.Set pair) = after_set all place pair.name pair.value
 after_wish all place (wishes.Get pair) = all
@@ -126,7 +126,7 @@ attr_answer (wishes.Get pair) = RAtr
 attr_answer (wishes.Delete pair) = RAtr
 attr_answer wishes.List = RALs
 
--- The reply to a request about the attributes of the ticket at a place, as it is sent at this moment.
+-- The reply to a request about the attributes of the ticket with this index, as it is sent at this moment.
 abbrev pub attr_message : NodeConfig → ℕ → Attributes → ℕ → AttrRequest → PlainMessage
 attr_message node now all place request =
     stamped node.ring now

@@ -15,7 +15,7 @@ Befalling = Event
 abbrev pub comes_due : Befalling
 comes_due = Due
 
--- The member at a place sent a message about the ticket.
+-- The member with this index sent a message about the ticket.
 abbrev pub is_told : ℕ → Head → TicketPart → Befalling
 is_told from head part = Heard from head part
 

@@ -94,7 +94,7 @@ pub record IsOutcome (me : MemberId) (waiter : Waiter) (head : Head) : Type 0 wh
   pub result : EndsGrant waiter head.result
   pub from : head.from ≡ me
 
--- The message is about the ticket at a place of the configuration.
+-- The message is about the ticket with this index of the configuration.
 pub record NamesTicket (node : NodeConfig) (place : ℕ) (content : Content) : Type 0 where
   pub part : TicketPart
   pub ticket : TicketConf
@@ -144,8 +144,8 @@ pub record LetsIn (node : NodeConfig) (old : State) (now : ℕ) (from : Peer) (m
   pub deeds : Leads (IsDone node.ring) (react node old now (Ok (arrivals.Datagram from)) bytes) entries
       (Ends new)
 
--- The calls for the arrival do these actions of the ticket at a place. They leave the ticket with a view and waiting
--- clients that have the property. The calls for the deadlines follow.
+-- The calls for the arrival do these actions of the ticket with this index. They leave the ticket with a view and
+-- waiting clients that have the property. The calls for the deadlines follow.
 pub record ArrivalDoes (node : NodeConfig) (now place : ℕ) (setup : Setup) (acts : List Act)
     (Holds : Left → Type 0) (entries : List Entry) (new : State) : Type 0 where
   pub arrival : List Entry

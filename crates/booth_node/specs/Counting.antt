@@ -37,7 +37,7 @@ dropped state fault = record state { common = count_drop state.common fault }
 abbrev pub no_counts : Counters
 no_counts = record { accepted = 0; sent = 0; errors = 0; last = 0 }
 
--- The counters of the member at a place.
+-- The counters of the member with this index.
 abbrev pub counters_at : Common → ℕ → Counters
 counters_at common place = slice_index_or common.members place no_counts
 
@@ -58,7 +58,7 @@ abbrev pub tried : Counters → Bool → Counters
 tried counters true = record counters { sent = more counters.sent }
 tried counters false = record counters { errors = more counters.errors }
 
--- The counters after a rule's send, which counts for its receiver. A reply to a client counts for no member.
+-- The counters after a rule's send, which counts for its receiver. A reply to a client changes no counter.
 abbrev pub count_send : Common → To → Bool → Common
 count_send common (Member place) ok = with_counters common place (tried (counters_at common place) ok)
 count_send common (Client peer) ok = common

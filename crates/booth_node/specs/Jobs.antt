@@ -29,11 +29,11 @@ abbrev pub handler_in : Option TicketConf → Option (List ℕ)
 handler_in None = None
 handler_in (Some ticket) = ticket.handler
 
--- The handler of the ticket at a place, if it has one.
+-- The handler of the ticket with this index, if it has one.
 abbrev pub handler_at : NodeConfig → ℕ → Option (List ℕ)
 handler_at node place = handler_in (slice_get node.config.tickets place)
 
--- The number of the job that the ticket at a place may start, if it has a handler.
+-- The number of the job that the ticket with this index may start, if it has a handler.
 abbrev pub job_at : NodeConfig → ℕ → Common → Option ℕ
 job_at node place common = option_map (λ handler. common.next_job) (handler_at node place)
 

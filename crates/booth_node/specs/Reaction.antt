@@ -141,7 +141,7 @@ acts_as node now state place event (Some ticket) =
     (is_ready node state.attributes place) (job_at node place state.common) event now)
     >>= (λ done. Ends (with_ticket state place done.common done.left))
 
--- The actions of the ticket at a place.
+-- The actions of the ticket with this index.
 abbrev pub acts : NodeConfig → ℕ → State → ℕ → Event → Deeds Ask State
 acts node now state place event = acts_as node now state place event (slice_get state.tickets place)
 
@@ -151,11 +151,11 @@ acts node now state place event = acts_as node now state place event (slice_get 
 pub data Action : Type 0 where
   -- The datagram is dropped for this fault.
   Drops : DropFault → Action
-  -- The member at a place sends a message about the ticket at a place.
+  -- The member with this index sends a message about the ticket with that index.
   Hears : (from ticket : ℕ) → Head → TicketPart → Action
-  -- A client sends a request about the ticket at a place.
+  -- A client sends a request about the ticket with this index.
   Asks : (ticket : ℕ) → Request → Action
-  -- A client sends a request about the attributes of the ticket at a place.
+  -- A client sends a request about the attributes of the ticket with this index.
   Attends : (ticket : ℕ) → AttrRequest → Action
   -- A client's request is answered with these messages, in this order.
   Answers : List PlainMessage → Action
@@ -220,7 +220,7 @@ abbrev pub action : NodeConfig → ℕ → List TicketState → Common → Peer 
 action node now tickets common from bytes =
     demanded node now tickets common from (verdict node.config node.ring node.me now bytes)
 
--- The state after a client's request about the attributes of the ticket at a place.
+-- The state after a client's request about the attributes of the ticket with this index.
 abbrev pub after_attending : State → ℕ → AttrRequest → State
 after_attending state ticket request =
     record state { attributes = after_wish state.attributes ticket request.wish }

@@ -1,10 +1,10 @@
 -- The records that a member may have written for a ticket, according to its entries.
-use Rattle.std.specs.Prelude.{◌≡◌, ◌⊎◌, ℕ, Bool, true, false, List, [], ◌∷◌, slice_get, position, unwrap_or, Option, None, bytes_eq, if◌then◌else◌, is_ok}
+use Rattle.std.specs.Prelude.{◌≡◌, ◌⊎◌, ℕ, ◌<◌, ◌≤◌, Bool, true, false, List, [], ◌∷◌, slice_get, position, unwrap_or, Option, None, bytes_eq, if◌then◌else◌, is_ok}
 use Rattle.std.specs.Option.{option_map_or}
 use Rattle.booth_conf.specs.Lookups.{is_called}
 use Rattle.booth_conf.specs.declared.tickets.TicketConf.{TicketConf}
 use Rattle.booth_rec.specs.declared.record.Record.{Record}
-use Rattle.booth_rec.specs.Record.{record_or_none}
+use Rattle.booth_rec.specs.Record.{first_plain, record_or_none}
 use Rattle.booth_host.specs.declared.entry.Entry.TheVariants as calls
 use Rattle.booth_node.specs.Session.{SessionEntry, Starts, Makes, IsCut, CutKeep}
 
@@ -13,7 +13,7 @@ abbrev pub Has : {A : Type 0} → List A → A → Type 0
 Has [] x = ⊥
 Has (y ∷ ys) x = (y ≡ x) ⊎ Has ys x
 
--- The record that a start read for the ticket at a place.
+-- The record that a start read for the ticket with this index.
 abbrev pub record_at : List (Option Record) → ℕ → Record
 record_at records place = record_or_none (unwrap_or (slice_get records place) None)
 
@@ -56,3 +56,21 @@ with_next name may entries = may
 -- record for it.
 abbrev pub may_be_kept : List ℕ → Record → List SessionEntry → List SessionEntry → List Record
 may_be_kept name first before after = with_next name (may_after_all name (first ∷ []) before) after
+
+-- ---- what a start may read
+
+-- A silent record is a record of version 1 without a lease, so it states no promise. An arbitrator's silent record may
+-- have any term, so a missing record is one too. A site's has at least the term of a record that the site may have
+-- written. In a smaller term the site may have requested votes or released a lease before, and late messages of that
+-- would count again.
+pub record IsSilent (site : Bool) (may : List Record) (kept : Record) : Type 0 where
+  pub bare : kept ≡ first_plain kept.term None
+  pub reaches : site ≡ true → (k : Record) × Has may k × (k.term ≤ kept.term)
+
+-- A start may read a record that its member may have written, or a silent record.
+abbrev pub MayRead : Bool → List Record → Record → Type 0
+MayRead site may kept = Has may kept ⊎ IsSilent site may kept
+
+-- The member may have written the record, or has a record that it may have written with a smaller term.
+abbrev pub GoesOn : List Record → Record → Type 0
+GoesOn may kept = Has may kept ⊎ ((k : Record) × Has may k × (k.term < kept.term))

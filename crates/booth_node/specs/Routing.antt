@@ -24,7 +24,7 @@ named answer (made.Attend ticket request) = AttendsTo ticket request
 named answer made.Answer = answer
 named answer made.Rest = Rests
 
--- The code names this action, for any immediate answer.
+-- The code names this action, whatever the immediate answer is.
 abbrev pub Names : Made → Action → Type 0
 Names made_action action = (answer : Action) → named answer made_action ≡ action
 

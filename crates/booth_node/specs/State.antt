@@ -14,7 +14,7 @@ pub record State : Type 0 where
   pub common : Common
   pub last_reading : ℕ
 
--- The state after a call of the ticket at a place, with that ticket replaced and the counters changed.
+-- The state after a call of the ticket with this index, with that ticket replaced and the counters changed.
 abbrev pub with_ticket : State → ℕ → Common → TicketLeft → State
 with_ticket state place common left = record state {
   tickets = slice_set state.tickets place left.ticket;

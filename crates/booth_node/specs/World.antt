@@ -18,9 +18,10 @@ use Rattle.booth_host.specs.declared.host.Arrival.TheVariants as arrivals
 use Rattle.booth_host.specs.declared.entry.Entry.TheVariants as calls
 use Rattle.booth_node.specs.declared.node_config.NodeConfig.{NodeConfig}
 use Rattle.booth_node.specs.Clock.{IsRising, IsClock}
+use Rattle.booth_node.specs.Opening.{is_site_at}
 use Rattle.booth_node.specs.Reaction.{used}
 use Rattle.booth_node.specs.Session.{SessionEntry, Starts, Makes, IsCut, CutSend, Stand, Down, Hearing, AreSessions, after_entries}
-use Rattle.booth_node.specs.Records.{Has, record_at, may_be_kept}
+use Rattle.booth_node.specs.Records.{Has, record_at, may_be_kept, MayRead, GoesOn}
 
 -- ---- a world
 
@@ -61,7 +62,7 @@ entries_of m [] = []
 entries_of m (entry ∷ entries) =
     if entry.member == m then entry.what ∷ entries_of m entries else entries_of m entries
 
--- The record with which a member begins, for the ticket with a name.
+-- The record of the ticket with this name at the beginning of this member.
 abbrev pub begins_with : World → ℕ → List ℕ → Record
 begins_with w m name = (w.begins m).records name
 
@@ -152,16 +153,28 @@ BeginsFree w =
     (m : ℕ) (name : List ℕ) → AtEach w (λ before entry. HasNoManual name entry.what)
     → HoldsNothing w m (clock_at w m 0) (begins_with w m name)
 
+-- The records that a member may have written for a ticket before this entry of it.
+abbrev pub kept_before : World → List ℕ → List WorldEntry → WorldEntry → SessionEntry → List Record
+kept_before w name before entry what =
+    may_be_kept name (begins_with w entry.member name) (entries_of entry.member before) (what ∷ [])
+
 -- For each of its tickets, a start reads a record that its member, site or arbitrator, may have written. So a member
--- that never started in this world before reads the record with which it begins.
+-- that never started in this world before reads the record with which it begins. Or the start reads a silent record:
+-- the member's records are lost, or somebody wrote a silent record for it.
 abbrev pub ReadsKept : World → List WorldEntry → WorldEntry → SessionEntry → Type 0
 ReadsKept w before entry (Starts node reading records) =
     (place : ℕ) (ticket : TicketConf) → slice_get node.config.tickets place ≡ Some ticket
-    → Has
-    (may_be_kept ticket.name (begins_with w entry.member ticket.name) (entries_of entry.member before)
-    (Starts node reading records ∷ []))
+    → MayRead (is_site_at w.members entry.member)
+    (kept_before w ticket.name before entry (Starts node reading records))
     (record_at records place)
 ReadsKept w before entry what = Unit {0}
+
+-- A start goes on from a record that its member may have written, or in a later term than the term of such a record.
+abbrev pub StartsOn : World → List WorldEntry → WorldEntry → SessionEntry → Type 0
+StartsOn w before entry (Starts node reading records) =
+    (place : ℕ) (ticket : TicketConf) → slice_get node.config.tickets place ≡ Some ticket
+    → GoesOn (kept_before w ticket.name before entry (Starts node reading records)) (record_at records place)
+StartsOn w before entry what = Unit {0}
 
 -- One of these entries of a member is a start of version 2.
 abbrev pub WasSecond : List SessionEntry → Type 0
@@ -238,6 +251,10 @@ IsSecondStart what = Unit {0}
 -- All sessions of the world are of version 2.
 abbrev pub IsSecondWorld : World → Type 0
 IsSecondWorld w = AtEach w (λ before entry. IsSecondStart entry.what)
+
+-- Each start of the world goes on.
+abbrev pub RecordsGoOn : World → Type 0
+RecordsGoOn w = AtEach w (λ before entry. StartsOn w before entry entry.what)
 
 -- ---- one ticket of a world
 

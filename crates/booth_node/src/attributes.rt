@@ -35,7 +35,7 @@ pub(crate) struct AttrRequest {
     pub wish: AttrWish,
 }
 
-/// Returns whether the prerequisites for a grant of this kind hold, for the ticket at a place.
+/// Returns whether the prerequisites for a grant of this kind hold, for the ticket with this index.
 pub(crate) fn is_ready(node: &NodeConfig, attrs: &Attrs, place: u32, kind: GrantKind) -> bool
     requires { place < length attrs.now.lists }
     ensures { result ≡ is_ready node.now attrs.now place kind }
@@ -169,7 +169,7 @@ fn get_reply<'a>(ticket: &Name, pair: &Pair, found: Option<&AttrValue>) -> Reply
     }
 }
 
-/// Performs a client's request about the attributes of the ticket at a place, for which this text was made.
+/// Performs a client's request about the attributes of the ticket with this index, for which this text was made.
 pub(crate) fn attend<'a>(
     attrs: &mut Attrs,
     place: u32,

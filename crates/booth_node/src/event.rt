@@ -7,7 +7,7 @@ use booth_wire::{Head, TicketPart};
 pub(crate) enum Event {
     /// The ticket's deadline has passed.
     Due,
-    /// The member at a place sent a message about the ticket.
+    /// The member with this index sent a message about the ticket.
     Heard {
         from: u32,
         head: Head,

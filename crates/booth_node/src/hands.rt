@@ -218,7 +218,7 @@ fn befall<H: Host>(
     }
 }
 
-/// Handles an event of the ticket at a place among these, with hands that have the ticket's name.
+/// Handles an event of the ticket with this index. Its actions (`Hands`) carry the ticket's name.
 pub(crate) fn act_at<H: Host>(
     tickets: &mut Vec<Ticket>,
     place: u32,

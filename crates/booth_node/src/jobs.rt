@@ -17,14 +17,14 @@ use booth_conf::Member;
 use booth_host::{Host, Job};
 use booth_ticket::Service;
 
-// Returns the handler of the ticket at a place, if it has one.
+// Returns the handler of the ticket with this index, if it has one.
 fn handler_at(node: &NodeConfig, place: usize) -> Option<&PathText>
     ensures { option_map (λ handler. handler.now) result ≡ handler_at node.now place }
 {
     node.config.tickets().get(place)?.handler.as_ref()
 }
 
-/// Returns the number of the job that the ticket at a place may start, if it has a handler.
+/// Returns the number of the job that the ticket with this index may start, if it has a handler.
 pub(crate) fn job_at(node: &NodeConfig, place: usize, common: &Common) -> Option<u64>
     ensures { result ≡ job_at node.now place common.now }
 {

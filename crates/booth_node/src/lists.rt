@@ -26,7 +26,7 @@ fn put_owner_at(member: Option<&Member>, until_secs: u64, text: &mut TextBuf)
     }
 }
 
-// Appends the owner at a place, or a text for no owner.
+// Appends the address of the member with this index, or `none`.
 fn put_owner_in(members: &[Member], place: Option<usize>, until_secs: u64, text: &mut TextBuf)
     requires { length text.old + 60 ≤ TEXT_BYTES }
     ensures bytes { text.new ≡ text.old ++ owner_in members.now place until_secs }

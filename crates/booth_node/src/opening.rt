@@ -35,7 +35,8 @@ fn is_site_at(members: &[Member], place: usize) -> bool
     members.get(place).is_some_and(|member| member.site)
 }
 
-// Returns the number of sites that come before this member, for the ticket at a place. An arbitrator has no rank.
+// Returns the rank of this member for the ticket with this index: the number of sites before it in the order of
+// weights. An arbitrator has no rank.
 fn rank_at(node: &NodeConfig, ticket: usize) -> u32
     requires { ticket < length node.now.config.tickets }
     ensures rank { result ≡ rank_at node.now ticket }
@@ -56,7 +57,7 @@ pub(crate) fn is_at_site(node: &NodeConfig) -> bool
     is_site_at(node.config.members(), own_place(node))
 }
 
-// Returns the setup of the ticket at a place.
+// Returns the setup of the ticket with this index.
 fn setup_of(node: &NodeConfig, index: usize, ticket: &TicketConf) -> Setup
     requires there { index < length node.now.config.tickets }
     requires times { HasTimes ticket.now }

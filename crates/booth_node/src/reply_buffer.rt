@@ -77,7 +77,7 @@ impl ReplyBuffer {
         count
     }
 
-    /// Performs a client's request about the attributes of the ticket at a place, and writes the answer into the
+    /// Performs a client's request about the attributes of the ticket with this index, and writes the answer into the
     /// frame.
     pub fn attend(
         &mut self,

@@ -13,19 +13,19 @@ use booth_wire::{Body, Direction, Head, Message, TicketPart};
 /// The action of the node for an accepted message.
 #[derive(Drop)]
 pub(crate) enum Action {
-    /// The member at the place `from` sends a message about the ticket at a place.
+    /// The member at the place `from` sends a message about the ticket with this index.
     Hear {
         from: u32,
         ticket: usize,
         head: Head,
         part: TicketPart,
     },
-    /// A client sends a request about the ticket at a place.
+    /// A client sends a request about the ticket with this index.
     Ask {
         ticket: usize,
         request: Request,
     },
-    /// A client sends a request about the attributes of the ticket at a place.
+    /// A client sends a request about the attributes of the ticket with this index.
     Attend {
         ticket: usize,
         request: AttrRequest,

@@ -92,7 +92,7 @@ impl Common {
         }
     }
 
-    /// Uses up the number of the next job. After the greatest number comes 1 again.
+    /// Raises the number of the next job by one. After the greatest number it is 1.
     pub(crate) fn count_start(&mut self)
         ensures { self.new ≡ count_start self.old }
     {
@@ -111,14 +111,14 @@ impl Common {
         self.drops[place] = self.drops[place].saturating_add(1);
     }
 
-    /// Returns the counters of the member at a place.
+    /// Returns the counters of the member with this index.
     pub(crate) fn counters_at(&self, place: usize) -> Counters
         ensures { result ≡ counters_at self.now place }
     {
         self.members.get(place).copied().unwrap_or(Counters::NONE)
     }
 
-    /// Counts one more datagram of the member at a place that was accepted, at this reading in ms.
+    /// Counts one more accepted datagram of the member with this index, received at this reading in ms.
     pub(crate) fn count_accepted(&mut self, place: usize, now: u64)
         ensures { self.new ≡ with_counters self.old place (counted (counters_at self.old place) now) }
     {
@@ -127,7 +127,7 @@ impl Common {
         }
     }
 
-    /// Counts one more send, with this success. A reply to a client counts for no member.
+    /// Counts one more send, with this success. A reply to a client changes no counter.
     pub(crate) fn count_send(&mut self, to: To, ok: bool)
         ensures { self.new ≡ count_send self.old to ok }
     {

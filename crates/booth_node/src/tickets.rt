@@ -87,7 +87,7 @@ impl TicketTable {
         })
     }
 
-    // Handles an event of the ticket at a place.
+    // Handles an event of the ticket with this index.
     fn act<H: Host>(&mut self, place: usize, event: &Event, now: u64, host: &mut H)
         requires early { now < 2 ^ 62 }
         requires may { IsSomeAnd (slice_get self.old.tickets.items place)
@@ -127,7 +127,7 @@ impl TicketTable {
         self.common.count_drop(fault);
     }
 
-    // Counts a datagram of the member at a place that was accepted.
+    // Counts an accepted datagram of the member with this index.
     fn accept(&mut self, member: usize, now: u64)
         ensures common { self.new.common ≡ with_counters self.old.common member
             (counted (counters_at self.old.common member) now) }
@@ -139,7 +139,7 @@ impl TicketTable {
         self.common.count_accepted(member, now);
     }
 
-    // Handles a message of the member at a place about the ticket at a place.
+    // Handles a message of the member with index `from` about the ticket with index `place`.
     fn hear<H: Host>(
         &mut self,
         from: u32,
@@ -164,7 +164,7 @@ impl TicketTable {
         self.act(ticket, &event, now, host);
     }
 
-    // Handles a client's request about the ticket at a place.
+    // Handles a client's request about the ticket with this index.
     fn ask<H: Host>(&mut self, ticket: usize, request: Request, now: u64, host: &mut H)
         requires early { now < 2 ^ 62 }
         requires there { ticket < length self.old.tickets.items }
@@ -176,7 +176,7 @@ impl TicketTable {
         self.act(ticket, &Event::Asked(request), now, host);
     }
 
-    // Performs a client's request about the attributes of the ticket at a place, and answers it.
+    // Performs a client's request about the attributes of the ticket with this index, and answers it.
     fn attend<H: Host>(
         &mut self,
         from: Peer,
@@ -333,7 +333,7 @@ impl TicketTable {
         }
     }
 
-    /// Handles the deadline of the ticket at a place.
+    /// Handles the deadline of the ticket with this index.
     pub fn expire<H: Host>(&mut self, place: usize, now: u64, host: &mut H)
         requires early { now < 2 ^ 62 }
         requires due { IsSomeAnd (slice_get self.old.tickets.items place) (λ ticket. IsDue ticket.known now) }
@@ -345,7 +345,7 @@ impl TicketTable {
         self.act(place, &Event::Due, now, host);
     }
 
-    /// Informs the ticket at a place that a job has ended.
+    /// Informs the ticket with this index that a job has ended.
     pub fn end_job<H: Host>(
         &mut self,
         place: usize,
@@ -364,7 +364,7 @@ impl TicketTable {
         self.act(place, &Event::Over { job, service }, now, host);
     }
 
-    /// Returns the next deadline of the ticket at a place.
+    /// Returns the next deadline of the ticket with this index.
     pub fn deadline(&self, place: usize) -> Option<u64>
         requires { place < length self.now.tickets.items }
         ensures { IsSomeAnd (slice_get self.now.tickets.items place) (λ ticket. result ≡ deadline_of ticket) }

@@ -30,7 +30,7 @@ fn is_owner(shown: Option<Shown>, member: MemberId) -> bool
     shown.is_some_and(|s| s.owner == member)
 }
 
-// Makes a site that follows acquire the ticket when its turn comes, because the owner's handler failed.
+// Lets a site that follows acquire the ticket after the owner's handler failed: at its turn in the order of weights.
 fn handed_on(setup: &Setup, view: &mut View, now: u64)
     requires sound { IsSound setup.now }
     requires early { now < 2 ^ 62 }
@@ -42,7 +42,7 @@ fn handed_on(setup: &Setup, view: &mut View, now: u64)
     }
 }
 
-// Makes no site acquire the ticket, because it was released by command.
+// Notes that no site acquires the ticket by itself, because a command released it.
 fn left_alone(view: &mut View)
     ensures { view.new ≡ left_alone view.old }
 {
@@ -121,7 +121,7 @@ fn hear_renewal(setup: &Setup, view: &mut View, head: &Head, part: &TicketPart, 
     }
 }
 
-// Handles an answer of the member at a place, if its number fits a round of its kind.
+// Handles an answer of the member with this index, if its number fits a round of its kind.
 fn hear_numbered_answer(
     setup: &Setup,
     view: &mut View,
@@ -147,7 +147,7 @@ fn hear_numbered_answer(
     }
 }
 
-// Handles a message of the member at a place.
+// Handles a message of the member with index `from`.
 pub(crate) fn hear(
     setup: &Setup,
     view: &mut View,

@@ -218,7 +218,7 @@ fn join(setup: &Setup, view: &mut View, round: Round, now: u64) -> Deed
     Deed::quiet()
 }
 
-// Handles an answer of the member at a place.
+// Handles an answer of the member with index `from`.
 pub(crate) fn hear_answer(
     setup: &Setup,
     view: &mut View,

@@ -1,5 +1,5 @@
 -- The entries of a simulation are a world.
-use Rattle.std.proofs.Common.{◌≡◌, ℕ, zero, suc, ◌+◌, ◌*◌, ◌<◌, ◌≤◌, List, [], ◌∷◌, ◌++◌, length, refl, sym, ap, ◌∙◌, subst, arith}
+use Rattle.std.proofs.Common.{◌≡◌, ℕ, zero, suc, ◌+◌, ◌*◌, ◌<◌, ◌≤◌, List, [], ◌∷◌, ◌++◌, length, refl, sym, ap, ◌∙◌, subst, inl, arith}
 use Rattle.std.specs.Prelude.{map, slice_get, Option, Some, None, Bool, true, false, ◌==◌, if◌then◌else◌}
 use Rattle.std.specs.List.{range_with_len}
 use Rattle.std.proofs.lemmas.List.FromFn.{length-map-range_with_len}
@@ -227,10 +227,10 @@ module _ (config : ConfigSays) (sound : IsSound config) (number events : ℕ) (f
       by_what (Starts node reading records) same s = λ place ticket at.
           let there : slice_get config.tickets place ≡ Some ticket =
           subst (λ (c : ConfigSays). slice_get c.tickets place ≡ Some ticket) same at in
-          subst (λ (r : Record). Has (may_after_all ticket.name (no_record ∷ []) (entries_of entry.member before)) r)
+          inl (subst (λ (r : Record). Has (may_after_all ticket.name (no_record ∷ []) (entries_of entry.member before)) r)
           (sym (ap (λ (rs : List (Option Record)). record_at rs place) s ∙ record_of_all config before entry.member place ticket there))
           (may_keep config entry.member place ticket there (found_at config sound place ticket there ticket.name refl) before
-          (along_left (Follows config) [] before (entry ∷ after) (subst (λ (es : List WorldEntry). Along (Follows config) [] es) e along)))
+          (along_left (Follows config) [] before (entry ∷ after) (subst (λ (es : List WorldEntry). Along (Follows config) [] es) e along))))
       by_what (Makes call) same s = tt
       by_what (IsCut call) same s = tt
 

@@ -35,7 +35,7 @@ pub record IsWhatHappens (config : ConfigSays) (frames : List SentFrame) (event 
   pub is : (before : List WorldEntry) → frames ≡ kept_frames config before →
       says said ≡ happening config before event draw
 
--- The event is at a member, and is not the end.
+-- The event is one of a member of the configuration, and does not end the run.
 abbrev pub CanHappen : ConfigSays → Happening → Type 0
 CanHappen config (Turns place arrival bytes) = (place < length config.members) × (turn_end (Ok arrival) ≡ Went)
 CanHappen config (Restarts place) = place < length config.members

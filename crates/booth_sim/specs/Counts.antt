@@ -41,7 +41,7 @@ abbrev pub is_restart : List WorldEntry → ℕ → SessionEntry → Bool
 is_restart before place (Starts node reading records) = is_some_entry (entries_of place before)
 is_restart before place what = false
 
--- A record gives a lease, and the record before had none, or one that ends earlier.
+-- A record gives a lease, and the record before it had no lease, or a lease that ends earlier.
 abbrev pub gains : Option Lease → Option Lease → Bool
 gains old None = false
 gains None (Some new) = true

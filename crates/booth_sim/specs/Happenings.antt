@@ -27,7 +27,7 @@ use Rattle.booth_sim.specs.Frames.{chosen, kept_frames}
 abbrev pub rate_at : ℕ → ℕ
 rate_at place = if place % 3 == 0 then 1000000 else if place % 3 == 1 then 1001000 else 999000
 
--- The reading of the clock of the member at a place, at a true time.
+-- The reading of the clock of the member with this index, at a true time.
 abbrev pub reading_at : ℕ → ℕ → ℕ
 reading_at place time = time * rate_at place / 1000000
 
@@ -64,17 +64,17 @@ pub data Happening : Type 0 where
   Turns : (place : ℕ) (arrival : Arrival) (bytes : List ℕ) → Happening
   Restarts : (place : ℕ) → Happening
 
--- The address at which the member at a place listens.
+-- The address at which the member with this index listens.
 abbrev pub peer_in : ConfigSays → ℕ → Peer
 peer_in config place = unwrap_or (peer_at config (slice_get config.members place)) client
 
--- The arrival of a frame at its receiver, from its sender. Without a frame the member at a place receives nothing.
+-- The arrival of a frame at its receiver, from its sender. Without a frame the member with this index receives nothing.
 abbrev pub arrives : ConfigSays → ℕ → Option SentFrame → Happening
 arrives config place None = Turns place arrivals.Quiet []
 arrives config place (Some frame) =
     Turns frame.to (arrivals.Datagram (peer_in config frame.from)) frame.bytes
 
--- A client sends the member at a place a request about a ticket.
+-- A client sends the member with this index a request about a ticket.
 abbrev pub asks : ConfigSays → ℕ → Draw → Cmd → ℕ → Happening
 asks config place draw cmd event =
     Turns place (arrivals.Datagram client)

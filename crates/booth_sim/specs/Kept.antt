@@ -14,10 +14,10 @@ kept_after name kept (Makes (calls.Keep ticket rec (Ok done)) ∷ entries) =
     kept_after name (if bytes_eq ticket name then Some rec else kept) entries
 kept_after name kept (entry ∷ entries) = kept_after name kept entries
 
--- The record of a ticket at the member at a place. At first there is none.
+-- The record of a ticket at the member with this index. At first there is none.
 abbrev pub kept_by : ℕ → List ℕ → List WorldEntry → Option Record
 kept_by place name before = kept_after name None (entries_of place before)
 
--- The records of all tickets at the member at a place.
+-- The records of all tickets at the member with this index.
 abbrev pub all_kept : List TicketConf → ℕ → List WorldEntry → List (Option Record)
 all_kept tickets place before = map (λ ticket. kept_by place ticket.name before) tickets

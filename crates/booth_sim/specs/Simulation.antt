@@ -19,7 +19,7 @@ use Rattle.booth_sim.specs.Kept.{all_kept}
 
 -- ---- the world of entries
 
--- The readings of the clock of the member at a place, one for each true time of the span.
+-- The readings of the clock of the member with this index, one for each true time of the span.
 abbrev pub clock_of : ℕ → ℕ → List ℕ
 clock_of span place = map (reading_at place) (range_with_len 0 span)
 
@@ -34,7 +34,7 @@ world_of config entries = record {
   entries = entries;
 }
 
--- The node of the member at a place, without keys, by the rules of version 2.
+-- The node of the member with this index, without keys, by the rules of version 2.
 abbrev pub node_in : ConfigSays → ℕ → NodeConfig
 node_in config place = record { config = config; ring = None; me = id_at (world_of config []) place; second = true }
 
@@ -43,7 +43,7 @@ entry_at place time what = record { member = place; time = time; what = what }
 
 -- ---- starts
 
--- The member at a place starts at a true time, with the records that it wrote before.
+-- The member with this index starts at a true time, with the records that it wrote before.
 abbrev pub start_at : ConfigSays → List WorldEntry → ℕ → ℕ → WorldEntry
 start_at config before place time =
     entry_at place time (Starts (node_in config place) (reading_at place time) (all_kept config.tickets place before))
@@ -73,7 +73,7 @@ turn_calls arrival bytes reading deeds = calls.Next 100 (Ok arrival) bytes ∷ c
 abbrev pub made_at : ℕ → ℕ → List Entry → List WorldEntry
 made_at place time calls = map (λ call. entry_at place time (Makes call)) calls
 
--- These are the entries of a turn of the member at a place, from its current state.
+-- These are the entries of a turn of the member with this index, from its current state.
 pub record IsTurnAt (config : ConfigSays) (before : List WorldEntry) (place time : ℕ) (fails : Bool)
     (arrival : Arrival) (bytes : List ℕ) (entries : List WorldEntry) : Type 0 where
   pub old : State

@@ -60,7 +60,7 @@ pub record RisesByOne (old new : Summary) : Type 0 where
   pub delivered : new.delivered ≡ old.delivered
   pub restarts : new.restarts ≡ old.restarts
 
--- The change by an action of the member at a place.
+-- The change by an action of the member with this index.
 pub record IsSeen (config : ConfigSays) (before : List WorldEntry) (place : ℕ) (kept : List (Option Record))
     (frames : List SentFrame) (summary : Summary) : Type 0 where
   pub records : kept ≡ all_kept config.tickets place before
@@ -69,7 +69,7 @@ pub record IsSeen (config : ConfigSays) (before : List WorldEntry) (place : ℕ)
 
 -- ---- between two events
 
--- The daemon of the member at a place has started with these records.
+-- The daemon of the member with this index has started with these records.
 pub record HasStarted (config : ConfigSays) (place : ℕ) (kept : List (Option Record)) (reading : ℕ)
     (daemon : Daemon) : Type 0 where
   pub node : node_config daemon.node ≡ node_in config place

@@ -36,7 +36,7 @@ abbrev pub NoneArrives : ConfigSays → List Entry → Type 0
 NoneArrives config [] = Unit {0}
 NoneArrives config (call ∷ calls) = (is_delivery config (Makes call) ≡ false) × NoneArrives config calls
 
--- These calls of the member at a place change its records, the frames and the counts.
+-- These calls of the member with this index change its records, the frames and the counts.
 pub record Sees (config : ConfigSays) (place : ℕ) (calls : List Entry) (old new : List (Option Record))
     (sent kept : List SentFrame) (counted now : Summary) : Type 0 where
   pub sees : (before : List WorldEntry) (time : ℕ) → NoneArrives config calls
@@ -45,7 +45,7 @@ pub record Sees (config : ConfigSays) (place : ℕ) (calls : List Entry) (old ne
   pub all : length new ≡ length old
   pub grows : Grows 0 0 (length calls) counted now
 
--- The daemon of the member at a place made a turn.
+-- The daemon of the member with this index made a turn.
 pub record MadeTurn (config : ConfigSays) (place : ℕ) (coming : Coming) (old new : Daemon)
     (sent kept : List SentFrame) (counted now : Summary) : Type 0 where
   pub deeds : List Entry

@@ -21,7 +21,7 @@ fn rate_at(place: usize) -> u64
     }
 }
 
-/// Returns the reading of the clock of the member at a place, at a true time.
+/// Returns the reading of the clock of the member with this index, at a true time.
 pub fn reading_at(place: usize, time: u64) -> u64
     requires { time < TIMES_END }
     ensures { result ≡ reading_at place time }

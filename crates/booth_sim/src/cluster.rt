@@ -81,7 +81,7 @@ impl Cluster {
         )
     }
 
-    // Makes the member at a place take a turn.
+    // Makes the member with this index take a turn.
     fn make_turn(&mut self, place: usize, coming: &Coming<'_>) -> Result<(), AllocError>
         requires ready { IsReady self.old }
         requires place { place < length self.old.config.members }
@@ -102,7 +102,7 @@ impl Cluster {
         Ok(())
     }
 
-    // Stops the member at a place, and starts it again.
+    // Stops the member with this index, and starts it again.
     fn restart(&mut self, place: usize) -> Result<(), AllocError>
         requires ready { IsReady self.old }
         requires place { place < length self.old.config.members }

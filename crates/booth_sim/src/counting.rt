@@ -18,7 +18,7 @@ use booth_host::Entry;
 use booth_rec::{Lease, Record};
 use std::alloc::AllocError;
 
-// Returns whether a record gives a lease, and the record before had none, or one that ends earlier.
+// Returns whether a record gives a lease, and the record before it had no lease, or a lease that ends earlier.
 fn gains(old: Option<Lease>, new: Option<Lease>) -> bool
     ensures { result ≡ gains old new }
 {
@@ -105,7 +105,7 @@ fn keep(
     }
 }
 
-/// Applies one action of the member at a place.
+/// Adds one action of the member with index `from` to its records, the sent frames and the counts.
 pub(crate) fn count(
     config: &Config,
     from: usize,

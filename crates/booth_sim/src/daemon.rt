@@ -52,7 +52,7 @@ fn new_host(alloc: Global) -> Result<MemoryHost, AllocError> {
     MemoryHost::new(alloc, script, Vec::new(alloc), Vec::new(alloc), ROOM)
 }
 
-// Returns the id of the member at a place.
+// Returns the id of the member with this index.
 fn id_at(config: &Config, place: usize) -> MemberId
     requires { place < length config.now.members }
     ensures same { result ≡ (node_in config.now place).me }
@@ -160,7 +160,7 @@ fn deeds_in<'a>(calls: &'a [Entry], coming: &Coming<'_>) -> Option<&'a [Entry]>
 }
 
 impl Daemon {
-    /// Starts the member at a place for the first time.
+    /// Starts the member with this index for the first time.
     pub(crate) fn new(alloc: Global, config: &Config, place: usize) -> Result<Daemon, AllocError>
         requires { place < length config.now.members }
         ensures { IfOk result (HasStarted config.now place (all_kept config.now.tickets place []) 0) }

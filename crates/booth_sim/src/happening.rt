@@ -20,13 +20,13 @@ use std::alloc::{AllocError, Global};
 /// An event.
 #[derive(Drop)]
 pub enum Happening {
-    /// The member at a place makes a turn, with this input.
+    /// The member with this index makes a turn, with this input.
     Turn {
         place: usize,
         arrival: Arrival,
         bytes: ByteText,
     },
-    /// The member at a place is stopped, and starts again.
+    /// The member with this index is stopped, and starts again.
     Restart(usize),
 }
 
@@ -41,7 +41,7 @@ fn quiet(alloc: Global, place: usize) -> Result<Happening, AllocError>
     })
 }
 
-// Returns the address at which the member at a place listens.
+// Returns the address at which the member with this index listens.
 fn peer_in(config: &Config, place: usize) -> Peer
     ensures { result ≡ peer_in config.now place }
 {
@@ -54,8 +54,8 @@ fn peer_in(config: &Config, place: usize) -> Peer
     }
 }
 
-// Returns the arrival of a frame at its receiver. Without a frame, returns a turn without an arrival of the member at
-// a place.
+// Returns the arrival of a frame at its receiver. Without a frame, returns a turn without an arrival of the member with
+// this index.
 fn arrives(
     alloc: Global,
     config: &Config,

@@ -21,7 +21,7 @@ fn is_in_force(kept: &Option<Record>, reading: u64) -> bool
     lease_of(kept).is_some_and(|lease| reading < lease.until)
 }
 
-// Returns whether the member at a place is a site that holds the ticket at a place at a true time.
+// Returns whether the member with this index is a site that holds the ticket with that index at a true time.
 fn is_holder(config: &Config, daemon: &Daemon, place: usize, ticket: usize, time: u64) -> bool
     requires member { place < length config.now.members }
     requires records { KeepsAll config.now daemon.now }
@@ -34,7 +34,7 @@ fn is_holder(config: &Config, daemon: &Daemon, place: usize, ticket: usize, time
     config.members()[place].site && is_in_force(&daemon.kept[ticket], reading_at(place, time))
 }
 
-// Returns the number of sites that hold the ticket at a place at a true time.
+// Returns the number of sites that hold the ticket with this index at a true time.
 fn holders(config: &Config, daemons: &[Daemon], ticket: usize, time: u64) -> u64
     requires all { length daemons.now ≡ length config.now.members }
     requires records { All (KeepsAll config.now) daemons.now }

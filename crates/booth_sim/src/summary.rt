@@ -14,7 +14,7 @@ pub struct Summary {
     pub delivered: u64,
     /// The number of times that a member was stopped and started again.
     pub restarts: u64,
-    /// The number of writes that gave a lease, while the record before had none, or one that ended earlier.
+    /// The number of writes that gave a lease while the record before had no lease, or a lease that ended earlier.
     pub gains: u64,
     /// The number of writes that removed a lease which the record before had.
     pub releases: u64,

@@ -31,7 +31,7 @@ fn count_arrival(config: &Config, arrival: &Arrival, summary: &mut Summary)
     }
 }
 
-// Applies the actions of the member at a place.
+// Applies the actions of the member with this index.
 fn count_all(
     config: &Config,
     from: usize,
@@ -53,7 +53,7 @@ fn count_all(
     Ok(())
 }
 
-/// Makes the member at a place take a turn, and counts its actions.
+/// Makes the member with this index take a turn, and counts its actions.
 pub(crate) fn turn(
     alloc: Global,
     config: &Config,

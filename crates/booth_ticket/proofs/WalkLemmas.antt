@@ -1,5 +1,5 @@
--- One walk through all that a ticket may do: where such asks are allowed as a ticket makes, each of its asks is allowed, and its
--- setup stays, whatever is answered.
+-- One walk through all that a ticket may do: where such asks are allowed as a ticket makes, each of its asks is
+-- allowed, and its setup stays, whatever is answered.
 use Rattle.std.proofs.Common.{◌≡◌, ℕ, ◌/◌, ◌&&◌, Bool, true, false, List, [], ◌∷◌, refl, sym, ap, subst, if◌then◌else◌}
 use Rattle.std.specs.Prelude.{Option, Some, None, nat_le}
 use Rattle.std.specs.Option.{is_some}
@@ -98,7 +98,8 @@ module _ (setup : Setup) where
 abbrev pub Any : {S : Type 0} → S → Type 0
 Any s = Unit {0}
 
--- What a ticket of this setup asks is allowed: keeps and starts, a member's commands about it, and what those that wait are told.
+-- What a ticket of this setup asks is allowed: keeps and starts, a member's commands about it, and what those that wait
+-- are told.
 pub record Allows (setup : Setup) (waiters : List Waiter) (P : Ask → Type 0) : Type 0 where
   pub keeps : (tried : Record) → P (Keep tried)
   pub starts : (job expires : ℕ) → P (Start job expires)

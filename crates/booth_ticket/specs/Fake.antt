@@ -26,7 +26,7 @@ note_of (Say to head part) ok = noted.Said to head part
 pub record Notes (old : FakeHands) (note : Noted) (new : FakeHands) : Type 0 where
   pub told : IsTrue new.tells → IsTrue old.tells × (new.acts.items ≡ old.acts.items ++ note ∷ [])
 
--- The act has the answer of the hands, and is recorded.
+-- The answer of the act is that of the fake hands, and the act is recorded.
 pub record DoesAct (old : FakeHands) (act : Act) (new : FakeHands) : Type 0 where
   pub answer : act.ok ≡ answer_of old act.ask
   pub fails : new.fails ≡ fails_after old act.ask

@@ -131,7 +131,7 @@ abbrev pub IsAnswer : RoundKind → Head → Type 0
 IsAnswer Election head = (head.cmd ≡ VtFr) × (head.options ≡ 0)
 IsAnswer Renewal head = (head.cmd ≡ Ack) × (head.options ≢ 0)
 
--- The answer of the member at a place completes a majority for this member's round before its lease would end. The
+-- The answer of the member with this index completes a majority for this member's round before its lease would end. The
 -- round is not won yet.
 pub record Completes (setup : Setup) (round : Round) (from : ℕ) (head : Head) (part : TicketPart)
     (now : ℕ) : Type 0 where

@@ -91,7 +91,7 @@ abbrev pub tries_for : Setup → ManualView → Wish → Tries
 tries_for setup view Grant = if view.owner then again setup view else grant setup view
 tries_for setup view Revoke = revoke setup view
 
--- The reply after the write. An owner stays one if the record may not have been written.
+-- The reply after the write. An owner stays the owner if the record may not have been written.
 abbrev pub result_of_keep : Wish → Bool → ℕ
 result_of_keep Grant ok = if ok then SUCCESS else PEND
 result_of_keep Revoke ok = if ok then SUCCESS else FAIL
@@ -118,7 +118,7 @@ keep_for rules wish =
     keep_tried (with_view rules (tries_for rules.setup rules.view wish).view) wish
     (tries_for rules.setup rules.view wish).tried
 
--- The request needs its handler first: it is a grant at a site that does not hold the ticket.
+-- The handler must run before the request: it is a grant at a site that does not hold the ticket.
 abbrev pub wants_handler : ManualView → Wish → Bool
 wants_handler view Grant = not view.owner
 wants_handler view Revoke = false

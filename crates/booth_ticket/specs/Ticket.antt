@@ -62,7 +62,7 @@ left_by_hand left = record {
   waiters = left.waiters;
 }
 
--- The actions for a message of the member at a place.
+-- The actions for a message of the member with this index.
 abbrev pub ticket_heard : Setup → Known → List Waiter → ℕ → Head → TicketPart → ℕ → Deeds Ask TicketLeft
 ticket_heard setup (Automatic view) waiters from head part now = do
   left ← hear (record { setup = setup; view = view }) waiters from head part now

@@ -8,7 +8,8 @@ pub fn answers_where_it_may()
     ensures { AnswersWhereItMay }
 {}
 
-/// A grant that is not refused asks every other member, if the new term was written and the own vote is no majority.
+/// A grant that is not refused asks every other member, if the new term was written and the site's own vote is not a
+/// majority.
 pub fn grant_asks_all()
     ensures { GrantAsksAll }
 {}

@@ -198,7 +198,7 @@ fn keep_for<W: Hands>(rules: &mut Manual, wish: Wish, hands: &mut W) -> u32
     keep_tried(rules, wish, &tried, hands)
 }
 
-// Returns whether the request needs its handler first.
+// Returns whether the handler must run before this request.
 fn wants_handler(view: &ManualView, wish: Wish) -> bool
     ensures { result ≡ wants_handler view.now wish }
 {
@@ -231,7 +231,7 @@ fn start_for<W: Hands>(
     ASYN
 }
 
-// Returns the job of a request that needs its handler first.
+// Returns the job of a request before which the handler must run.
 fn job_for(view: &ManualView, job: Option<u64>, wish: Wish) -> Option<u64>
     ensures { result ≡ (if wants_handler view.now wish then job else None) }
 {

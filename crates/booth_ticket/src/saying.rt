@@ -46,7 +46,7 @@ fn is_set(bits: u16, place: u32) -> bool
     (bits >> place) & 1 == 1
 }
 
-// Returns the places whose bits are set.
+// Returns the indices of the set bits.
 fn places_in(bits: u16) -> Places
     ensures { result.items ≡ places_in bits }
 {

@@ -1,4 +1,5 @@
--- Numbers, names and values in the bytes of a frame: what is read at a place is what stands there, and comes back as it was written.
+-- Numbers, names and values in the bytes of a frame: what is read at a place is what stands there, and comes back as it
+-- was written.
 use Rattle.std.proofs.Common.{◌≡◌, ℕ, zero, suc, ◌+◌, ◌-◌, ◌^◌, ◌<◌, ◌≤◌, Bool, true, false, cond, not, ◌&&◌, ◌==◌, List, [], ◌∷◌, ◌++◌, length, get_or, take, drop, replicate, Some, None, refl, sym, ap, ◌∙◌, append_assoc, arith, inl, inr}
 use Rattle.std.specs.Int.{w32, from_be_bytes}
 use Rattle.std.specs.List.{prefix_len}

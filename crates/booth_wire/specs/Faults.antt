@@ -17,7 +17,7 @@ abbrev pub fault_of : {A F : Type 0} → Result A F → Option F
 fault_of (Ok x) = None
 fault_of (Err fault) = Some fault
 
--- the head, if the code is that of a command and opts are allowed for it
+-- the head, if the code is a command's code and opts are allowed for this command
 abbrev pub head_in : List ℕ → Option Head
 head_in bytes = elim (cmd_of (word_at 28 bytes)) [
   | None ↦ None
@@ -29,7 +29,7 @@ abbrev pub of_head : Option Head → (Head → Bool) → Bool
 of_head None holds = false
 of_head (Some h) holds = holds h
 
--- the bytes before and behind a body, and those of the body
+-- the bytes before and after a body, and the bytes of the body
 abbrev pub around : Head → ℕ
 around h = 48 + auth_len h.auth
 

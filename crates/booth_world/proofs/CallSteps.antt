@@ -29,7 +29,7 @@ use Rattle.booth_world.specs.Messages.{IsFact, AnswerSaid}
 use Rattle.booth_world.specs.Gives.{LeadsTo, mark_of, given_by, may_answered, releases_answered}
 use Rattle.booth_world.proofs.Lists.{none_is}
 use Rattle.booth_world.proofs.Invariant.{MemberGood, FactsGood}
-use Rattle.booth_world.proofs.Views.{on_cond, agrees_same, rests, kept_of, IsPlaced}
+use Rattle.booth_world.proofs.Views.{on_cond, agrees_same, rests, read_of, IsPlaced}
 use Rattle.booth_raft.specs.AskAndRenew.{ask, goes_on, finish, renew}
 use Rattle.booth_raft.specs.Deadlines.{due_now, greeted, hello}
 use Rattle.booth_raft.specs.Facts.{TriesOf}
@@ -239,13 +239,13 @@ call_steps c clocks w a g i none (GivesBack reason) may =
 
 pub calls_are_steps : CallsAreSteps lease_rules
 calls_are_steps = record {
-  start_gives = λ c clocks steps run id_of m second setup ids below seated down stays kept has.
+  start_gives = λ c clocks steps run id_of m second setup ids below seated down stays kept read on.
       let w = world_of c steps in
       let x = w.member m in
-      let z = kept_of id_of x.may kept has in
+      let z = read_of id_of (c.is_site m) c.goes_on x.may kept read on in
       subst (λ (s : Setup). GivesIn second c id_of w m (record { view = started s kept x.reading; say = says.Nothing; may = kept ∷ []; releases = w.facts.releases })) (sym seated)
-      (subst (λ (k : Record). GivesIn second c id_of w m (record { view = started (seat c id_of m second setup) k x.reading; say = says.Nothing; may = k ∷ []; releases = w.facts.releases })) z.2
-      (starts_with c id_of w.now m (record { apart = ids; below = below }) setup w.facts x z.0 second ((good_world c clocks steps run).each m) down z.1 stays));
+      (subst (λ (k : Record). GivesIn second c id_of w m (record { view = started (seat c id_of m second setup) k x.reading; say = says.Nothing; may = k ∷ []; releases = w.facts.releases })) z.3
+      (starts_with c id_of w.now m (record { apart = ids; below = below }) setup w.facts x z.0 second ((good_world c clocks steps run).each m) down z.1 z.2 stays));
   call_gives = λ c clocks steps run a i none call may.
       call_steps c clocks (world_of c steps) a (good_world c clocks steps run) i none call may;
   answer_gives = λ c clocks steps run a i ok.

@@ -24,10 +24,11 @@ use Rattle.booth_raft.specs.Sound.{IsSound}
 use Rattle.booth_node.specs.declared.node_config.NodeConfig.{NodeConfig}
 use Rattle.booth_node.specs.Opening.{is_site_at, own_place, rank_at}
 use Rattle.booth_node.specs.Session.{SessionEntry, Starts, Makes, IsCut}
-use Rattle.booth_node.specs.World.{World, members_of, id_at, HasForm, IsNodeOf, IsOneTicket, OneConfigurationIsEnough, StartsIn, StartsWithIt}
+use Rattle.booth_node.specs.World.{RecordsGoOn, World, members_of, id_at, HasForm, IsNodeOf, IsOneTicket, OneConfigurationIsEnough, StartsIn, StartsWithIt}
 use Rattle.booth_world.specs.Cores.{Session}
 use Rattle.booth_world.specs.Facts.{Has}
 use Rattle.booth_world.proofs.Lists.{none_is, some_same}
+use Rattle.booth_world.proofs.Stays.{not_up}
 use Rattle.booth_world.proofs.WorldSteps.{Seats, Setting, equal_bytes, other_bytes, own_place_of, same_bytes, setup_by, setup_for}
 
 -- ---- names
@@ -269,6 +270,19 @@ setup_sound w form ticket one m below session =
       retries = timed.retries;
     }
 
+-- a setting, with what is known of its starts
+abbrev pub going_on : (w : World) (ticket : TicketConf) (going : Bool) → (going ≡ true → RecordsGoOn w) → Setting w ticket → Setting w ticket
+going_on w ticket going recs setting = record {
+  most = setting.most;
+  enough = setting.enough;
+  automatic = setting.automatic;
+  ids = setting.ids;
+  same = setting.same;
+  goes_on = going;
+  on = recs;
+  sound = setting.sound;
+}
+
 pub setting_of : (w : World) → HasForm w → (ticket : TicketConf) → IsOneTicket w ticket → ticket.manual ≡ false → Setting w ticket
 setting_of w form ticket one automatic = record {
   most = 2 ^ 64;
@@ -276,6 +290,8 @@ setting_of w form ticket one automatic = record {
   automatic = automatic;
   ids = ids_apart w form;
   same = one.same;
+  goes_on = false;
+  on = λ going. absurd (not_up going);
   sound = setup_sound w form ticket one;
 }
 

@@ -179,12 +179,12 @@ cores_are_apart c cast early late course timed s t other k hs ht =
     (held c cast (late_cores c cast early late) z t r.late_holds ht))
 
 pub core_terms : CoreTermsNeverFall
-core_terms c cast early late course s term below at k has =
+core_terms c cast early late course s term below on at k has =
     let r = runs_of c cast early late course in
     let w = world_of c r.first in
     let z = world_of c (r.first ++ r.more) in
     let one = kept_of cast.id_of (z.member s).may k (subst (λ (l : List Record). Has l k) (sym (r.late_holds.each s below).same_may) has) in
-    let l = runs_keep_terms c r.first r.more r.run_all s term
+    let l = runs_keep_terms c r.first r.more r.run_all s term on
     (λ y h. at (record_in cast.id_of y)
     (subst (λ (l : List Record). Has l (record_in cast.id_of y)) (r.early_holds.each s below).same_may (record_has cast.id_of (w.member s).may y h)))
     one.0 one.1 in
@@ -278,12 +278,12 @@ all_are_second c cast early late course r es ls =
     (second_from c cast course.clocks course.is_cast (early_cores c cast early) late early_up ls course.enters_late)
 
 pub later_core : LaterCoreHasLaterTerm
-later_core c cast early late course timed es ls s t other k n l m kl nl hs ht =
+later_core c cast early late course timed on es ls s t other k n l m kl nl hs ht =
     let r = runs_of c cast early late course in
     let w = world_of c r.first in
     let z = world_of c (r.first ++ r.more) in
     let second = all_are_second c cast early late course r es ls in
     let a = held_by c cast (early_cores c cast early) w s k r.early_holds hs in
     let b = held_by c cast (late_cores c cast early late) z t n r.late_holds ht in
-    runs_rise c course.clocks timed r.first r.more r.run_all second s t other a.0 b.0 l m
+    runs_rise c course.clocks timed on r.first r.more r.run_all second s t other a.0 b.0 l m
     (ap (λ (k : Record). k.lease) a.1 ∙ kl) (ap (λ (k : Record). k.lease) b.1 ∙ nl) a.2 b.2

@@ -13,6 +13,7 @@ use Rattle.booth_raft.specs.StartAndLearn.{started}
 use Rattle.booth_raft.proofs.HeardLemmas.{start_facts, hear_good}
 use Rattle.booth_raft.proofs.KeptLemmas.{ask_good, finish_good, release_good, renew_good}
 use Rattle.booth_raft.proofs.DueLemmas.{due_now_good, greeted_facts, noted_facts}
+use Rattle.booth_world.specs.Reading.{MayBeRead, IsLaterOrKept}
 use Rattle.booth_world.specs.Facts.{Has, Round, Answer, Gain, Release, Facts}
 use Rattle.booth_world.specs.States.{MemberState, WorldState, opening, put, Cluster, HasClocks, reads}
 use Rattle.booth_world.specs.Lives.{reading_clock, crashing}
@@ -339,16 +340,15 @@ module _ (c : Cluster) (cast : Cast) (clocks : HasClocks c) (is_cast : IsCast c 
         marked = i.marked;
       })
 
-  -- the record that a start reads is one that may be kept
-  start_premise : (cores : Cores) (w : WorldState) (m : ℕ) (kept : Record) → CoresHold c cast cores w → m < c.members → Has (cores.place m).may kept → Has (records_in cast.id_of (w.member m).may) kept
-  start_premise cores w m kept i below has = subst (λ (l : List Record). Has l kept) (sym (i.each m below).same_may) has
-
   starts_again : (cores : Cores) (steps : List WorldStep) (m : ℕ) (session : Session) (kept : Record) → IsRun c (opening c) steps → CoresHold c cast cores (world_of c steps)
-      → m < c.members → (cores.place m).view ≡ None → Has (cores.place m).may kept → ((cores.place m).session.second ≡ true → session.second ≡ true) → Reached c cast (entered c cast cores (StartsWith m session kept)) steps (session.second ≡ true)
-  starts_again cores steps m session kept run i below down has stays =
+      → m < c.members → (cores.place m).view ≡ None → MayBeRead (c.is_site m) (cores.place m).may kept → ((cores.place m).session.second ≡ true → session.second ≡ true)
+      → (c.goes_on ≡ true → IsLaterOrKept (cores.place m).may kept) → Reached c cast (entered c cast cores (StartsWith m session kept)) steps (session.second ≡ true)
+  starts_again cores steps m session kept run i below down read stays on =
       let w = world_of c steps in
       let one = i.each m below in
-      let gives = calls_are_steps.start_gives c clocks steps run cast.id_of m session.second (cast.setup m session) is_cast.ids below (is_cast.seated m below session) (one.down down) (λ was. stays (sym one.same_second ∙ was)) kept (start_premise cores w m kept i below has) in
+      let gives = calls_are_steps.start_gives c clocks steps run cast.id_of m session.second (cast.setup m session) is_cast.ids below (is_cast.seated m below session) (one.down down) (λ was. stays (sym one.same_second ∙ was)) kept
+      (subst (λ (l : List Record). MayBeRead (c.is_site m) l kept) (sym one.same_may) read)
+      (λ going. subst (λ (l : List Record). IsLaterOrKept l kept) (sym one.same_may) (on going)) in
       let by_reading = subst (λ (r : ℕ). GivesIn session.second c cast.id_of w m (record { view = started (cast.setup m session) kept r; say = says.Nothing; may = kept ∷ []; releases = w.facts.releases })) one.same_reading gives in
       let by_all = subst (λ (l : List Release). GivesIn session.second c cast.id_of w m (record { view = started (cast.setup m session) kept (cores.place m).reading; say = says.Nothing; may = kept ∷ []; releases = l })) i.same_releases by_reading in
       given_holds cores steps m session _ run i below by_all (start_facts (cast.setup m session) kept (cores.place m).reading)
@@ -379,7 +379,7 @@ module _ (c : Cluster) (cast : Cast) (clocks : HasClocks c) (is_cast : IsCast c 
   enters cores (Stops m) steps run i may =
       let v = the_value _ (cores.place m).view may.1 in
       stopped cores steps m v.0 run i may.0 v.1
-  enters cores (StartsWith m session kept) steps run i may = starts_again cores steps m session kept run i may.0 may.1 may.2 may.3
+  enters cores (StartsWith m session kept) steps run i may = starts_again cores steps m session kept run i may.0 may.1 may.2 may.3 may.4
 
   pub enter_all : (cores : Cores) (entries : List CoreEntry) (steps : List WorldStep) → IsRun c (opening c) steps → CoresHold c cast cores (world_of c steps) → AreEntered c cast cores entries
       → Reached c cast (cores_after c cast cores entries) steps (AreSecondFrom cores entries)

@@ -14,13 +14,13 @@ use Rattle.booth_raft.specs.declared.view.Rule.TheVariants as rules
 use Rattle.booth_raft.specs.declared.view.View.{View}
 use Rattle.booth_raft.specs.Members.{is_candidate, is_leader, is_promised_elsewhere}
 use Rattle.booth_raft.specs.Outcome.{Outcome, quiet}
-use Rattle.booth_world.specs.Facts.{Has, Facts}
+use Rattle.booth_world.specs.Facts.{Facts}
 use Rattle.booth_world.specs.States.{Pledge, KeptRecord, MemberState, Cluster, HasClocks}
 use Rattle.booth_world.specs.Steps.{Starts}
 use Rattle.booth_world.specs.Agreement.{seat, version_in, bound_kept, promise_kept, abstain_kept, bound_in, promise_in, record_in, Agrees}
 use Rattle.booth_base.specs.Times.{promise_of}
-use Rattle.booth_world.specs.Lives.{pledge_at_start}
-use Rattle.booth_world.proofs.LifeLaws.{within_at_start}
+use Rattle.booth_world.specs.Lives.{pledge_at_start, MayRead, GoesOn}
+use Rattle.booth_world.proofs.LifeLaws.{named_read, within_at_start}
 use Rattle.booth_world.specs.Messages.{IsSaid}
 use Rattle.booth_world.specs.Gives.{LeadsTo, mark_of}
 use Rattle.booth_world.proofs.Lists.{none_is}
@@ -199,13 +199,14 @@ module _ (c : Cluster) (id_of : ℕ → MemberId) (now m : ℕ) (ids : IsPlaced 
 
   -- ---- start
 
-  pub starts_with : (f : Facts) (x : MemberState) (kept : KeptRecord) (second : Bool) → MemberGood c now f m x → x.up ≡ false → Has x.may kept → (x.second ≡ true → second ≡ true)
+  pub starts_with : (f : Facts) (x : MemberState) (kept : KeptRecord) (second : Bool) → MemberGood c now f m x → x.up ≡ false → MayRead (c.is_site m) x.may kept
+      → (c.goes_on ≡ true → GoesOn x.may kept) → (x.second ≡ true → second ≡ true)
       → LeadsTo c id_of (record (mark_of now m x) { second = second }) f x
       (record { view = started (seat c id_of m second setup) (record_in id_of kept) x.reading; say = says.Nothing; may = record_in id_of kept ∷ []; releases = f.releases })
-  starts_with f x kept second good down has stays = record {
+  starts_with f x kept second good down read on stays = record {
     steps = Starts kept second ∷ [];
     starts_so = (refl, tt);
-    run = (record { down = down; fact = has; stays = stays }, tt);
+    run = (record { down = down; read = read; on = on; stays = stays }, tt);
     reached = record {
       agrees = record {
         up = refl;
@@ -213,7 +214,7 @@ module _ (c : Cluster) (id_of : ℕ → MemberId) (now m : ℕ) (ids : IsPlaced 
         bound = pledged.bound;
         promise = pledged.promise;
         abstain = pledged.abstain;
-        within = within_at_start c x.reading kept.pledge (good.pledges.named kept has);
+        within = within_at_start c x.reading kept.pledge (named_read c m x kept read good.pledges);
         kept = inl refl;
         round = λ r e. absurd (none_is r e);
         tried = λ w e. absurd (none_is w e);

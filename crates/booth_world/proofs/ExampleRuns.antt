@@ -139,11 +139,11 @@ inactive e = cc
 
 granted_runs : IsRun three (opening three) granted
 granted_runs = (
-  (omega arith, record { down = refl; fact = inl refl; stays = λ e. e }),
+  (omega arith, record { down = refl; read = inl (inl refl); on = λ e. inl (inl refl); stays = λ e. e }),
   (
-    (omega arith, record { down = refl; fact = inl refl; stays = λ e. e }),
+    (omega arith, record { down = refl; read = inl (inl refl); on = λ e. inl (inl refl); stays = λ e. e }),
     (
-      (omega arith, record { down = refl; fact = inl refl; stays = λ e. e }),
+      (omega arith, record { down = refl; read = inl (inl refl); on = λ e. inl (inl refl); stays = λ e. e }),
       (
         record { later = omega arith; within = omega arith },
         (
@@ -307,9 +307,9 @@ restart_runs = (
   (
     (omega arith, refl),
     (
-      (omega arith, record { down = refl; fact = inl refl; stays = λ e. e }),
+      (omega arith, record { down = refl; read = inl (inl refl); on = λ e. inl (inl refl); stays = λ e. e }),
       (
-        (omega arith, record { down = refl; fact = inl refl; stays = λ e. e }),
+        (omega arith, record { down = refl; read = inl (inl refl); on = λ e. inl (inl refl); stays = λ e. e }),
         tt,
       ),
     ),

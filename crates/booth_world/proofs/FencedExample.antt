@@ -83,11 +83,11 @@ keeps reading round until long = only (KeepsAnswer wild reading round) (pledged 
 
 first_runs : IsRun wild (opening wild) first_part
 first_runs = (
-  (omega arith, record { down = refl; fact = inl refl; stays = λ e. refl }),
+  (omega arith, record { down = refl; read = inl (inl refl); on = λ e. inl (inl refl); stays = λ e. refl }),
   (
-    (omega arith, record { down = refl; fact = inl refl; stays = λ e. refl }),
+    (omega arith, record { down = refl; read = inl (inl refl); on = λ e. inl (inl refl); stays = λ e. refl }),
     (
-      (omega arith, record { down = refl; fact = inl refl; stays = λ e. refl }),
+      (omega arith, record { down = refl; read = inl (inl refl); on = λ e. inl (inl refl); stays = λ e. refl }),
       (
         record { later = omega arith; within = omega arith },
         (

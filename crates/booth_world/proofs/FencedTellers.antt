@@ -14,9 +14,9 @@ use Rattle.booth_raft.specs.GainReleaseLost.{own_end}
 use Rattle.booth_ticket.specs.Requests.{is_holder, told_lease}
 use Rattle.booth_ticket.specs.Ticket.{TicketState, Automatic}
 use Rattle.booth_node.specs.Opening.{setup_of}
-use Rattle.booth_node.specs.World.{World, id_at, clock_at, IsSecondWorld, IsUntimedWorld}
+use Rattle.booth_node.specs.World.{World, id_at, clock_at, IsSecondWorld, IsUntimedWorld, RecordsGoOn}
 use Rattle.booth_node.specs.Held.{Moment, IsAutomatic}
-use Rattle.booth_world.specs.Clusters.{cluster_of}
+use Rattle.booth_world.specs.Clusters.{cluster_going}
 use Rattle.booth_world.specs.States.{opening, HasClocks}
 use Rattle.booth_world.specs.Steps.{WorldStep, IsRun, AreSecond, world_of}
 use Rattle.booth_world.specs.Shadows.{HasShadow}
@@ -24,7 +24,7 @@ use Rattle.booth_world.specs.Fencing.{HasGained}
 use Rattle.booth_world.specs.Told.{WouldTell, ToldTermsAreOfOneIn}
 use Rattle.booth_world.proofs.Lists.{none_is, some_same}
 use Rattle.booth_world.proofs.Views.{kept_of}
-use Rattle.booth_world.proofs.Configured.{setting_of}
+use Rattle.booth_world.proofs.Configured.{going_on, setting_of}
 use Rattle.booth_world.proofs.WorldGood.{opening_good, run_good}
 use Rattle.booth_world.proofs.WorldEntries.{has_clocks}
 use Rattle.booth_world.proofs.WorldRuns.{begins_free}
@@ -56,13 +56,13 @@ the_view o setup a b first second =
     same_view : Automatic a ≡ Automatic b → a ≡ b
     same_view e = cc
 
-gained_told : (w : World) → IsUntimedWorld w → (ticket : TicketConf) → IsAutomatic w ticket → (m : ℕ) (moment : Moment w) (lease : Lease)
-    → (shadow : HasShadow w ticket moment) → WouldTell w ticket m moment lease
-    → HasGained (cluster_of w ticket) (world_of (cluster_of w ticket) shadow.steps) m lease
-gained_told w is_world ticket automatic m moment lease shadow tells =
-    let c = cluster_of w ticket in
+gained_told : (w : World) → IsUntimedWorld w → RecordsGoOn w → (ticket : TicketConf) → IsAutomatic w ticket → (m : ℕ) (moment : Moment w) (lease : Lease)
+    → (shadow : HasShadow w true ticket moment) → WouldTell w ticket m moment lease
+    → HasGained (cluster_going true w ticket) (world_of (cluster_going true w ticket) shadow.steps) m lease
+gained_told w is_world on ticket automatic m moment lease shadow tells =
+    let c = cluster_going true w ticket in
     let state = world_of c shadow.steps in
-    let setting = setting_of w is_world.form ticket automatic.0 automatic.1 in
+    let setting = going_on w ticket true (λ going. on) (setting_of w is_world.form ticket automatic.0 automatic.1) in
     let free = begins_free w is_world ticket setting in
     let clocks : HasClocks c = has_clocks w is_world.rising_clocks ticket setting free in
     let k = shadow.knows m tells.below tells.node tells.resting tells.rests tells.place tells.own tells.is tells.named in
@@ -85,12 +85,12 @@ gained_told w is_world ticket automatic m moment lease shadow tells =
       fresh = λ began. let over = (free m).over lease began in let live = told.1 in omega (arith, over, live, rise, read, last, later);
     }
 
-pub told_terms : (w : World) → IsUntimedWorld w → IsSecondWorld w → ToldTermsAreOfOneIn w
-told_terms w is_world all ticket automatic early late between later s t first second by_s by_t same =
-    let c = cluster_of w ticket in
-    let g = shadows_grow w is_world ticket automatic early late between later in
-    terms_of_one c g.first.steps g.more (subst (λ (steps : List WorldStep). IsRun c (opening c) steps) g.goes_on g.second.run)
+pub told_terms : (w : World) → IsUntimedWorld w → IsSecondWorld w → RecordsGoOn w → ToldTermsAreOfOneIn w
+told_terms w is_world all on ticket automatic early late between later s t first second by_s by_t same =
+    let c = cluster_going true w ticket in
+    let g = shadows_grow w is_world true (λ going. on) ticket automatic early late between later in
+    terms_of_one c refl g.first.steps g.more (subst (λ (steps : List WorldStep). IsRun c (opening c) steps) g.goes_on g.second.run)
     (subst AreSecond g.goes_on (g.all_second all)) s t first second
-    (gained_told w is_world ticket automatic s early first g.first by_s)
-    (subst (λ (steps : List WorldStep). HasGained c (world_of c steps) t second) g.goes_on (gained_told w is_world ticket automatic t late second g.second by_t))
+    (gained_told w is_world on ticket automatic s early first g.first by_s)
+    (subst (λ (steps : List WorldStep). HasGained c (world_of c steps) t second) g.goes_on (gained_told w is_world on ticket automatic t late second g.second by_t))
     same

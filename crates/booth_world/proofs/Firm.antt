@@ -1,6 +1,6 @@
--- Where all sessions are of version 2, a member that answered a round is of the round's term or a later one, and so is each
--- record that it may have kept; in the round's term both are bound to its site. So the answers of one member to two sites
--- have their terms in the order in which they were given.
+-- Where all sessions are of version 2, a member that answered a round is of the round's term or a later one, and so is
+-- each record that it may have kept; in the round's term both are bound to its site. So the answers of one member to
+-- two sites have their terms in the order in which they were given.
 use Rattle.std.proofs.Common.{◌≡◌, ◌≢◌, ◌⊎◌, ℕ, ◌+◌, ◌<◌, ◌≤◌, List, [], ◌∷◌, Bool, true, refl, sym, ap, ◌∙◌, subst, inl, inr, ⊎_elim, arith}
 use Rattle.std.specs.Prelude.{Option, Some, None, if◌then◌else◌}
 use Rattle.std.specs.Option.{ForSome}
@@ -9,7 +9,7 @@ use Rattle.booth_world.specs.Facts.{Has, Round, Answer, Release, Facts}
 use Rattle.booth_world.specs.States.{Pledge, KeptRecord, MemberState, WorldState, opening, Cluster, HasClocks, promise_time}
 use Rattle.booth_world.specs.Rounds.{new_answer}
 use Rattle.booth_world.specs.Leases.{pledge_of, MayKeep}
-use Rattle.booth_world.specs.Lives.{pledge_at_start}
+use Rattle.booth_world.specs.Lives.{pledge_at_start, GoesOn}
 use Rattle.booth_world.specs.Steps.{MemberStep, WorldStep, Elects, Renews, Promises, Answers, Gains, TriesKeep, HasKept, Releases, Clears, Learns, Crashes, Starts, ReadsClock, MemberDoes, Passes, May, member_after, facts_after, MayStep, happens, IsRun, after_steps, StartsSecond, AreSecond}
 use Rattle.booth_world.proofs.Lists.{put_all, new_or_old, none_is, some_same}
 use Rattle.booth_world.proofs.Invariant.{Freed, StateGuard, Guard, Stands, MemberGood, Good}
@@ -81,6 +81,15 @@ bound_at_start : (c : Cluster) (reading : ℕ) (o : Option Pledge) → (pledge_a
 bound_at_start c reading None = refl
 bound_at_start c reading (Some pledge) = refl
 
+-- what goes on is firm
+firm_read : (r : Round) (may : List KeptRecord) (k : KeptRecord) → GoesOn may k
+    → ((y : KeptRecord) → Has may y → IsFirm r y.term (bound_kept y.pledge)) → IsFirm r k.term (bound_kept k.pledge)
+firm_read r may k goes firm = ⊎_elim
+    (λ (kept : Has may k). firm k kept)
+    (λ (y : (z : KeptRecord) × Has may z × (z.term < k.term)).
+    firm_above r (y.0).term k.term (bound_kept (y.0).pledge) (bound_kept k.pledge) (firm y.0 y.1) y.2)
+    goes
+
 joins_firm : (c : Cluster) (f : Facts) (m : ℕ) (x : MemberState) (k : KeptRecord) (rest : List KeptRecord)
     → MemberFirm f.answers m x → MayKeep c f m x k → ((y : KeptRecord) → Has rest y → Has x.may y)
     → MemberFirm f.answers m (record x { may = k ∷ rest })
@@ -94,12 +103,12 @@ joins_firm c f m x k rest i may part = record {
 
 member_firm :
     (c : Cluster) (now : ℕ) (f : Facts) (m : ℕ) (x : MemberState) (step : MemberStep)
-    → MemberFirm f.answers m x → May c f m x step → StartsSecond (MemberDoes m step)
+    → MemberFirm f.answers m x → May c f m x step → StartsSecond (MemberDoes m step) → c.goes_on ≡ true
     → MemberFirm f.answers m (member_after c now m x step)
-member_firm c now f m x Elects i may second =
+member_firm c now f m x Elects i may second on =
     record { second = i.second; records = i.records; state = λ a h e. firm_bound a.round x.term x.bound m may.unbound (i.state a h e) }
-member_firm c now f m x (Renews before) i may second = record { second = i.second; state = i.state; records = i.records }
-member_firm c now f m x (Promises s t) i may second = record {
+member_firm c now f m x (Renews before) i may second on = record { second = i.second; state = i.state; records = i.records }
+member_firm c now f m x (Promises s t) i may second on = record {
   second = i.second;
   records = i.records;
   state = λ a h e. ⊎_elim
@@ -107,48 +116,48 @@ member_firm c now f m x (Promises s t) i may second = record {
       (λ (own : (x.term ≡ t) × ForSome x.bound (λ bound. bound ≡ s)). subst (λ (y : ℕ). IsFirm a.round y (Some s)) own.0 (firm_bound a.round x.term x.bound s own.1 (i.state a h e)))
       may.unbound;
 }
-member_firm c now f m x (Answers r given) i may second = i
-member_firm c now f m x (Gains r places) i may second = i
-member_firm c now f m x (TriesKeep k) i may second = joins_firm c f m x k x.may i may (λ y h. h)
-member_firm c now f m x (HasKept k) i may second = joins_firm c f m x k [] i may (λ y n. absurd n)
-member_firm c now f m x Releases i may second = record { second = i.second; state = i.state; records = i.records }
-member_firm c now f m x (Clears r) i may second = record { second = i.second; state = i.state; records = i.records }
-member_firm c now f m x (Learns t) i may second =
+member_firm c now f m x (Answers r given) i may second on = i
+member_firm c now f m x (Gains r places) i may second on = i
+member_firm c now f m x (TriesKeep k) i may second on = joins_firm c f m x k x.may i may (λ y h. h)
+member_firm c now f m x (HasKept k) i may second on = joins_firm c f m x k [] i may (λ y n. absurd n)
+member_firm c now f m x Releases i may second on = record { second = i.second; state = i.state; records = i.records }
+member_firm c now f m x (Clears r) i may second on = record { second = i.second; state = i.state; records = i.records }
+member_firm c now f m x (Learns t) i may second on =
     record { second = i.second; records = i.records; state = λ a h e. firm_above a.round x.term t x.bound None (i.state a h e) may.above }
-member_firm c now f m x Crashes i may second = record { second = λ up. absurd (not_up up); state = i.state; records = i.records }
-member_firm c now f m x (Starts k is_second) i may second = record {
+member_firm c now f m x Crashes i may second on = record { second = λ up. absurd (not_up up); state = i.state; records = i.records }
+member_firm c now f m x (Starts k is_second) i may second on = record {
   second = λ up. second;
-  state = λ a h e. subst (λ (y : Option ℕ). IsFirm a.round k.term y) (sym (bound_at_start c x.reading k.pledge)) (i.records a h e k may.fact);
-  records = λ a h e z hz. subst (λ (y : KeptRecord). IsFirm a.round y.term (bound_kept y.pledge)) (only_one k z hz) (i.records a h e k may.fact);
+  state = λ a h e. subst (λ (y : Option ℕ). IsFirm a.round k.term y) (sym (bound_at_start c x.reading k.pledge)) (firm_read a.round x.may k (may.on on) (i.records a h e));
+  records = λ a h e z hz. subst (λ (y : KeptRecord). IsFirm a.round y.term (bound_kept y.pledge)) (only_one k z hz) (firm_read a.round x.may k (may.on on) (i.records a h e));
 }
-member_firm c now f m x ReadsClock i may second = record { second = i.second; state = i.state; records = i.records }
+member_firm c now f m x ReadsClock i may second on = record { second = i.second; state = i.state; records = i.records }
 
 -- ---- the facts of a step
 
 -- the answers are as they were, and the member's own new one is firm
 pub answers_firm :
     (c : Cluster) (now : ℕ) (f : Facts) (m : ℕ) (x : MemberState) (step : MemberStep)
-    → MemberFirm f.answers m x → May c f m x step → StartsSecond (MemberDoes m step)
+    → MemberFirm f.answers m x → May c f m x step → StartsSecond (MemberDoes m step) → c.goes_on ≡ true
     → MemberFirm (facts_after now m x step f).answers m (member_after c now m x step)
-answers_firm c now f m x (Answers r given) i may second = record {
+answers_firm c now f m x (Answers r given) i may second on = record {
   second = i.second;
   state = new_or_old (λ (a : Answer). a.member ≡ m → IsFirm a.round x.term x.bound) (new_answer m x r) f.answers
       (λ e. record { least = le_of_eq (sym may.own_term); same = λ same. may.bound }) i.state;
   records = new_or_old (λ (a : Answer). a.member ≡ m → (k : KeptRecord) → Has x.may k → IsFirm a.round k.term (bound_kept k.pledge)) (new_answer m x r) f.answers
       (λ e k hk. let q = may.kept (i.second may.up) k hk in record { least = le_of_eq (sym q.own_term); same = λ same. ap bound_kept q.second ∙ q.bound }) i.records;
 }
-answers_firm c now f m x Elects i may second = member_firm c now f m x Elects i may second
-answers_firm c now f m x (Renews before) i may second = member_firm c now f m x (Renews before) i may second
-answers_firm c now f m x (Promises s t) i may second = member_firm c now f m x (Promises s t) i may second
-answers_firm c now f m x (Gains r places) i may second = member_firm c now f m x (Gains r places) i may second
-answers_firm c now f m x (TriesKeep k) i may second = member_firm c now f m x (TriesKeep k) i may second
-answers_firm c now f m x (HasKept k) i may second = member_firm c now f m x (HasKept k) i may second
-answers_firm c now f m x Releases i may second = member_firm c now f m x Releases i may second
-answers_firm c now f m x (Clears r) i may second = member_firm c now f m x (Clears r) i may second
-answers_firm c now f m x (Learns t) i may second = member_firm c now f m x (Learns t) i may second
-answers_firm c now f m x Crashes i may second = member_firm c now f m x Crashes i may second
-answers_firm c now f m x (Starts k is_second) i may second = member_firm c now f m x (Starts k is_second) i may second
-answers_firm c now f m x ReadsClock i may second = member_firm c now f m x ReadsClock i may second
+answers_firm c now f m x Elects i may second on = member_firm c now f m x Elects i may second on
+answers_firm c now f m x (Renews before) i may second on = member_firm c now f m x (Renews before) i may second on
+answers_firm c now f m x (Promises s t) i may second on = member_firm c now f m x (Promises s t) i may second on
+answers_firm c now f m x (Gains r places) i may second on = member_firm c now f m x (Gains r places) i may second on
+answers_firm c now f m x (TriesKeep k) i may second on = member_firm c now f m x (TriesKeep k) i may second on
+answers_firm c now f m x (HasKept k) i may second on = member_firm c now f m x (HasKept k) i may second on
+answers_firm c now f m x Releases i may second on = member_firm c now f m x Releases i may second on
+answers_firm c now f m x (Clears r) i may second on = member_firm c now f m x (Clears r) i may second on
+answers_firm c now f m x (Learns t) i may second on = member_firm c now f m x (Learns t) i may second on
+answers_firm c now f m x Crashes i may second on = member_firm c now f m x Crashes i may second on
+answers_firm c now f m x (Starts k is_second) i may second on = member_firm c now f m x (Starts k is_second) i may second on
+answers_firm c now f m x ReadsClock i may second on = member_firm c now f m x ReadsClock i may second on
 
 -- another member's answers are as they were
 pub others_firm : (now : ℕ) (f : Facts) (m : ℕ) (x : MemberState) (step : MemberStep) (k : ℕ) (y : MemberState) → k ≢ m
@@ -222,16 +231,16 @@ step_ordered c now f m x ReadsClock good i may o = o
 
 -- ---- runs
 
-pub step_firm : (c : Cluster) (w : WorldState) (step : WorldStep) → Good c w → Firm c w → MayStep c w step → StartsSecond step → Firm c (happens c w step)
-step_firm c w (MemberDoes m step) good firm may second =
+pub step_firm : (c : Cluster) (w : WorldState) (step : WorldStep) → Good c w → Firm c w → MayStep c w step → StartsSecond step → c.goes_on ≡ true → Firm c (happens c w step)
+step_firm c w (MemberDoes m step) good firm may second on =
     let x = w.member m in
     record {
       each = put_all (MemberFirm (facts_after w.now m x step w.facts).answers) w.member m (member_after c w.now m x step)
-          (answers_firm c w.now w.facts m x step (firm.each m) may.1 second)
+          (answers_firm c w.now w.facts m x step (firm.each m) may.1 second on)
           (λ k other. others_firm w.now w.facts m x step k (w.member k) other (firm.each k));
       ordered = step_ordered c w.now w.facts m x step (good.each m) (firm.each m) may.1 firm.ordered;
     }
-step_firm c w (Passes time) good firm may second = record { each = firm.each; ordered = firm.ordered }
+step_firm c w (Passes time) good firm may second on = record { each = firm.each; ordered = firm.ordered }
 
 pub opening_firm : (c : Cluster) → Firm c (opening c)
 opening_firm c = record {
@@ -239,7 +248,7 @@ opening_firm c = record {
   ordered = λ a b n. absurd n;
 }
 
-pub run_firm : (c : Cluster) → HasClocks c → (w : WorldState) (steps : List WorldStep) → Good c w → Firm c w → IsRun c w steps → AreSecond steps → Firm c (after_steps c w steps)
-run_firm c clocks w [] good firm run second = firm
-run_firm c clocks w (step ∷ steps) good firm run second =
-    run_firm c clocks (happens c w step) steps (step_good c clocks w step good run.0) (step_firm c w step good firm run.0 second.0) run.1 second.1
+pub run_firm : (c : Cluster) → HasClocks c → (w : WorldState) (steps : List WorldStep) → Good c w → Firm c w → IsRun c w steps → AreSecond steps → c.goes_on ≡ true → Firm c (after_steps c w steps)
+run_firm c clocks w [] good firm run second on = firm
+run_firm c clocks w (step ∷ steps) good firm run second on =
+    run_firm c clocks (happens c w step) steps (step_good c clocks w step good run.0) (step_firm c w step good firm run.0 second.0 on) run.1 second.1 on

@@ -70,17 +70,17 @@ hosts_are_apart c cast early late course timed s t other k hs ht =
     (ht.0, host_held c cast (late_hosts c cast early late) z t ht.0 f.late_holds ht.1))
 
 pub host_terms : HostTermsNeverFall
-host_terms c cast early late course s term below at k has =
+host_terms c cast early late course s term below on at k has =
     let f = followed c cast early late course in
-    core_terms c cast f.first f.second f.course s term below
+    core_terms c cast f.first f.second f.course s term below on
     (λ k h. at k ((f.early_holds.each s below).only k h))
     k ((f.late_holds.each s below).more k has)
 
 pub later_host : LaterHostHasLaterTerm
-later_host c cast early late course timed es ls s t other k n l m kl nl hs ht =
+later_host c cast early late course timed on es ls s t other k n l m kl nl hs ht =
     let f = followed c cast early late course in
     let IsSecond : Bool → Type 0 = λ second. second ≡ true in
-    later_core c cast f.first f.second f.course timed
+    later_core c cast f.first f.second f.course timed on
     (starts_are_second f.first (start_more (StartsIn early) IsSecond (boots_are_second early es) f.first f.first_starts))
     (starts_are_second f.second (start_more (StartsIn late) IsSecond (boots_are_second late ls) f.second f.second_starts))
     s t other k n l m kl nl

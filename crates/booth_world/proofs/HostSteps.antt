@@ -11,6 +11,7 @@ use Rattle.booth_raft.specs.declared.view.View.{View}
 use Rattle.booth_raft.specs.declared.view.Waiting.{Waiting}
 use Rattle.booth_raft.specs.StartAndLearn.{started}
 use Rattle.booth_raft.proofs.HeardLemmas.{start_facts}
+use Rattle.booth_world.specs.Reading.{IsSilentRecord, MayBeRead, IsLaterOrKept}
 use Rattle.booth_world.specs.Facts.{Has, Release}
 use Rattle.booth_world.specs.States.{put, Cluster, HasClocks, reads}
 use Rattle.booth_world.specs.Gives.{Given, may_answered}
@@ -48,6 +49,19 @@ abbrev Follows : Cluster → Cast → Hosts → Cores → (Release → Type 0) �
 Follows c cast hosts cores IsRelease IsReading IsStart =
     (more : List CoreEntry) × AreEntered c cast cores more × HostsHold c cast hosts (cores_after c cast cores more)
     × ((z : Release) → IsReleaseIn c cast cores more z → IsRelease z) × AreReadBy c cast IsReading cores more × AreStartedBy IsStart more
+
+-- what is read may be so where more may be kept
+pub still_read : (site : Bool) (may more : List Record) (kept : Record) → MayMore may more → MayBeRead site may kept → MayBeRead site more kept
+still_read site may more kept on read = ⊎_elim
+    (λ (h : Has may kept). inl (on kept h))
+    (λ (silent : IsSilentRecord site may kept). inr (record { bare = silent.bare; reaches = λ is. let y = silent.reaches is in (y.0, on y.0 y.1, y.2) }))
+    read
+
+pub still_later : (may more : List Record) (kept : Record) → MayMore may more → IsLaterOrKept may kept → IsLaterOrKept more kept
+still_later may more kept on goes = ⊎_elim
+    (λ (h : Has may kept). inl (on kept h))
+    (λ (y : (k : Record) × Has may k × (k.term < kept.term)). inr (y.0, on y.0 y.1, y.2))
+    goes
 
 module _ (c : Cluster) (cast : Cast) (clocks : HasClocks c) (is_cast : IsCast c cast) where
   place_later : (k : ℕ) (cores cores' : Cores) (p : HostPlace) → IsLater k cores cores' → PlaceHolds c cast k cores p → PlaceHolds c cast k cores' p
@@ -326,8 +340,9 @@ module _ (c : Cluster) (cast : Cast) (clocks : HasClocks c) (is_cast : IsCast c 
             (
               may.0,
               ap (λ (s : CorePlace). s.view) read ∙ here.down may.3,
-              subst (λ (s : CorePlace). Has s.may kept) (sym read) (still m (hosts.place m) cores here kept may.4),
-              λ was. may.5 (ap (λ (s : Session). s.second) (sym here.in_version) ∙ (ap (λ (s : CorePlace). s.session.second) (sym read) ∙ was)),
+              subst (λ (s : CorePlace). MayBeRead (c.is_site m) s.may kept) (sym read) (still_read (c.is_site m) (hosts.place m).may (cores.place m).may kept (still m (hosts.place m) cores here) may.4),
+              (λ was. may.5 (ap (λ (s : Session). s.second) (sym here.in_version) ∙ (ap (λ (s : CorePlace). s.session.second) (sym read) ∙ was))),
+              (λ going. subst (λ (s : CorePlace). IsLaterOrKept s.may kept) (sym read) (still_later (hosts.place m).may (cores.place m).may kept (still m (hosts.place m) cores here) (may.6 going))),
             ),
             tt,
           ),

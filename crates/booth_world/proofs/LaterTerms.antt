@@ -1,5 +1,5 @@
 -- In a world of version 2 the later of two holders has the later term.
-use Rattle.std.proofs.Common.{◌≡◌, ◌≢◌, ℕ, ◌+◌, ◌<◌, ◌≤◌, List, ◌++◌, sym, ap, ◌∙◌, subst, ⊎_elim, arith}
+use Rattle.std.proofs.Common.{◌≡◌, ◌≢◌, ℕ, ◌+◌, ◌<◌, ◌≤◌, List, ◌++◌, true, sym, ap, ◌∙◌, subst, ⊎_elim, arith}
 use Rattle.std.specs.Prelude.{Option, Some, IsSomeAnd}
 use Rattle.booth_rec.specs.declared.record.Lease.{Lease}
 use Rattle.booth_world.specs.Facts.{Round}
@@ -54,11 +54,11 @@ force_of o reading l force is =
     subst (λ (y : Lease). reading < y.until) (some_same q.0 l (sym q.1 ∙ is)) q.2
 
 pub runs_rise :
-    (c : Cluster) → HasClocks c → IsTimed c → (early late : List WorldStep) → IsRun c (opening c) (early ++ late) → AreSecond (early ++ late)
+    (c : Cluster) → HasClocks c → IsTimed c → c.goes_on ≡ true → (early late : List WorldStep) → IsRun c (opening c) (early ++ late) → AreSecond (early ++ late)
     → (s t : ℕ) → s ≢ t → (k n : KeptRecord) (first second : Lease) → k.lease ≡ Some first → n.lease ≡ Some second
     → IsHeldBy c (after_steps c (opening c) early) s k → IsHeldBy c (after_steps c (opening c) (early ++ late)) t n
     → first.term < second.term
-runs_rise c clocks timed early late run are s t other k n l m kl nl hs ht =
+runs_rise c clocks timed on_all early late run are s t other k n l m kl nl hs ht =
     let w = after_steps c (opening c) early in
     let z = after_steps c (opening c) (early ++ late) in
     let first = run_first c (opening c) early late run in
@@ -68,6 +68,6 @@ runs_rise c clocks timed early late run are s t other k n l m kl nl hs ht =
     let on : Later w z = subst (λ (y : WorldState). Later w y) (sym (after-append c (opening c) early late)) (run_later c w late second) in
     let held_early : reads c s w.now < l.until = force_of k.lease (reads c s w.now) l hs.in_force kl in
     let held_late : reads c t z.now < m.until = force_of n.lease (reads c t z.now) m ht.in_force nl in
-    later_term c clocks timed w z s t gw gz (run_firm c clocks (opening c) (early ++ late) (opening_good c clocks) (opening_firm c) run are) on other ht.below l m
+    later_term c clocks timed w z s t gw gz (run_firm c clocks (opening c) (early ++ late) (opening_good c clocks) (opening_firm c) run are on_all) on other ht.below l m
     (force_good c clocks w s gw hs.below k hs.may l kl held_early) (force_good c clocks z t gz ht.below n ht.may m nl held_late)
     held_late

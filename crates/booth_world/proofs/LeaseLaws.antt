@@ -39,6 +39,7 @@ gains c now f m x r ms i g below may =
         one_round = g.one_round;
         answers = g.answers;
         releases = g.releases;
+        releasers = g.releasers;
         apart = g.apart;
         leases = new_or_old (LeaseFact c now f.rounds f.answers) new f.leases
             (record {

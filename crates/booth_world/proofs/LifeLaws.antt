@@ -2,12 +2,12 @@
 use Rattle.std.proofs.Common.{◌≡◌, ℕ, ◌<◌, ◌≤◌, List, [], ◌∷◌, Bool, true, false, refl, sym, ap, ◌∙◌, subst, inl, inr, length, arith, ⊎_elim}
 use Rattle.std.specs.Prelude.{Option, Some, None}
 use native.Mathlib.Nat.{le_of_eq, le_refl}
-use Rattle.booth_world.specs.Facts.{Answer, Release, Facts}
+use Rattle.booth_world.specs.Facts.{Has, Answer, Release, Facts}
 use Rattle.booth_world.specs.States.{Pledge, Promise, IsWithin, KeptRecord, MemberState, WorldState, Cluster, HasClocks, reads}
-use Rattle.booth_world.specs.Lives.{pledge_at_start, MayStart, starting}
+use Rattle.booth_world.specs.Lives.{pledge_at_start, IsSilent, MayRead, MayStart, starting}
 use Rattle.booth_world.specs.Steps.{Learns, Crashes, Starts, ReadsClock, Passes, MayStep, happens}
 use Rattle.booth_world.proofs.Lists.{none_is}
-use Rattle.booth_world.proofs.Invariant.{Covers, StateGuard, RecordsCover, Guard, Stands, PromiseGood, PledgesGood, Good, LeaseGood}
+use Rattle.booth_world.proofs.Invariant.{Covers, StateGuard, RecordsCover, Guard, Stands, PromiseGood, PledgesGood, Good, LeaseGood, IsOverOrGood}
 use Rattle.booth_world.proofs.Stays.{Law, facts_stay, only_one, not_up, stands_by, stands_beside}
 
 pub learns : (c : Cluster) (now : ℕ) (f : Facts) (m : ℕ) (x : MemberState) (term : ℕ) → Law c now f m x (Learns term)
@@ -44,6 +44,23 @@ crashes c now f m x i g below may =
 
 -- start
 
+-- what holds of each record that may be kept, and of a silent one, holds of what a start reads
+pub of_read : (site : Bool) (may : List KeptRecord) (k : KeptRecord) (Q : Type 0)
+    → MayRead site may k → (Has may k → Q) → (IsSilent site may k → Q) → Q
+of_read site may k Q read kept silent = ⊎_elim (λ (h : Has may k). kept h) (λ (s : IsSilent site may k). silent s) read
+
+-- a silent record has no pledge
+pub no_pledge_read : (site : Bool) (may : List KeptRecord) (k : KeptRecord) (p : Pledge) → IsSilent site may k → k.pledge ≡ Some p → ⊥
+no_pledge_read site may k p silent e = none_is p (sym silent.unpledged ∙ e)
+
+-- the rounds and the releases of a member are of no later term than what it reads: of an arbitrator there are none
+pub read_reaches :
+    (c : Cluster) (m : ℕ) (x : MemberState) (k : KeptRecord) (term : ℕ)
+    → MayRead (c.is_site m) x.may k → ((y : KeptRecord) → Has x.may y → term ≤ y.term) → c.is_site m ≡ true → term ≤ k.term
+read_reaches c m x k term read least site =
+    of_read (c.is_site m) x.may k (term ≤ k.term) read (λ h. least k h)
+    (λ silent. let y = silent.reaches site in let l = least y.0 y.1 in let n = y.2 in omega arith)
+
 -- a promise at the start is that of the record
 promise_at_start :
     (c : Cluster) (reading : ℕ) (o : Option Pledge) (term : ℕ) (p : Promise)
@@ -69,22 +86,42 @@ covers_at_start c reading (Some pledge) a past by_record = by_record pledge refl
 
 -- after a start an answer stands by the record, or the abstention
 start_stands :
-    (c : Cluster) (z : List Release) (a : Answer) (x : MemberState) (k : KeptRecord) (second : Bool)
-    → MayStart x k second → a.reading ≤ x.reading → Guard c a x → Stands c z a x.reading (Guard c a (starting c x k second))
-start_stands c z a x k second may past guard =
+    (c : Cluster) (z : List Release) (a : Answer) (site : Bool) (x : MemberState) (k : KeptRecord) (second : Bool)
+    → MayRead site x.may k → a.reading ≤ x.reading → Guard c a x → Stands c z a x.reading (Guard c a (starting c x k second))
+start_stands c z a site x k second read past guard =
+    let covered : (p : Pledge) → k.pledge ≡ Some p → Covers c a p.abstain p.promise =
+    λ p e. of_read site x.may k (Covers c a p.abstain p.promise) read (λ h. guard.1 k h p e) (λ silent. absurd (no_pledge_read site x.may k p silent e)) in
     Stands.Guarded (
-      inr (covers_at_start c x.reading k.pledge a past (guard.1 k may.fact)),
-      λ w hw. subst (λ (y : KeptRecord). (p : Pledge) → y.pledge ≡ Some p → Covers c a p.abstain p.promise) (only_one k w hw) (guard.1 k may.fact),
+      inr (covers_at_start c x.reading k.pledge a past covered),
+      λ w hw. subst (λ (y : KeptRecord). (p : Pledge) → y.pledge ≡ Some p → Covers c a p.abstain p.promise) (only_one k w hw) covered,
     )
+
+-- the pledge of what is read is good, and names members
+pledge_read :
+    (c : Cluster) (m : ℕ) (x : MemberState) (k : KeptRecord) → MayRead (c.is_site m) x.may k → PledgesGood c.members x.second x.reading x.may
+    → (pledge : Pledge) → k.pledge ≡ Some pledge → (p : Promise) → pledge.promise ≡ Some p → PromiseGood k.term x.reading pledge.abstain p
+pledge_read c m x k read good pledge e p has =
+    of_read (c.is_site m) x.may k (PromiseGood k.term x.reading pledge.abstain p) read (λ h. good.good k h pledge e p has)
+    (λ silent. absurd (no_pledge_read (c.is_site m) x.may k pledge silent e))
+
+pub named_read :
+    (c : Cluster) (m : ℕ) (x : MemberState) (k : KeptRecord) → MayRead (c.is_site m) x.may k → PledgesGood c.members x.second x.reading x.may
+    → (pledge : Pledge) → k.pledge ≡ Some pledge → IsWithin c.members pledge.bound pledge.promise
+named_read c m x k read good pledge e =
+    of_read (c.is_site m) x.may k (IsWithin c.members pledge.bound pledge.promise) read (λ h. good.named k h pledge e)
+    (λ silent. absurd (no_pledge_read (c.is_site m) x.may k pledge silent e))
 
 -- a start in version 1 is one after version 1
 start_pledges :
-    (members : ℕ) (x : MemberState) (k : KeptRecord) (second : Bool) → MayStart x k second → PledgesGood members x.second x.reading x.may
-    → PledgesGood members second x.reading (k ∷ [])
-start_pledges members x k second may good = record {
-  first = λ first w hw. subst (λ (y : KeptRecord). y.pledge ≡ None) (only_one k w hw) (good.first (by_version x.second refl first) k may.fact);
-  good = λ w hw. subst (λ (y : KeptRecord). (pledge : Pledge) → y.pledge ≡ Some pledge → (p : Promise) → pledge.promise ≡ Some p → PromiseGood y.term x.reading pledge.abstain p) (only_one k w hw) (good.good k may.fact);
-  named = λ w hw. subst (λ (y : KeptRecord). (pledge : Pledge) → y.pledge ≡ Some pledge → IsWithin members pledge.bound pledge.promise) (only_one k w hw) (good.named k may.fact);
+    (c : Cluster) (m : ℕ) (x : MemberState) (k : KeptRecord) (second : Bool) → MayStart c m x k second → PledgesGood c.members x.second x.reading x.may
+    → PledgesGood c.members second x.reading (k ∷ [])
+start_pledges c m x k second may good = record {
+  first = λ first w hw. subst (λ (y : KeptRecord). y.pledge ≡ None) (only_one k w hw)
+      (of_read (c.is_site m) x.may k (k.pledge ≡ None) may.read (λ h. good.first (by_version x.second refl first) k h) (λ silent. silent.unpledged));
+  good = λ w hw. subst (λ (y : KeptRecord). (pledge : Pledge) → y.pledge ≡ Some pledge → (p : Promise) → pledge.promise ≡ Some p → PromiseGood y.term x.reading pledge.abstain p) (only_one k w hw)
+      (pledge_read c m x k may.read good);
+  named = λ w hw. subst (λ (y : KeptRecord). (pledge : Pledge) → y.pledge ≡ Some pledge → IsWithin c.members pledge.bound pledge.promise) (only_one k w hw)
+      (named_read c m x k may.read good);
 }
   where
     by_version : (b : Bool) → x.second ≡ b → second ≡ false → x.second ≡ false
@@ -97,18 +134,21 @@ starts c now f m x k second i g below may =
       clock = i.clock;
       may = record {
         some = (k, inl refl);
-        own_rounds = λ r h e z hz. subst (λ (y : KeptRecord). r.term ≤ y.term) (only_one k z hz) (i.may.own_rounds r h e k may.fact);
-        own_releases = λ r h e z hz. subst (λ (y : KeptRecord). r.term ≤ y.term) (only_one k z hz) (i.may.own_releases r h e k may.fact);
+        own_rounds = λ r h e z hz. subst (λ (y : KeptRecord). r.term ≤ y.term) (only_one k z hz)
+            (read_reaches c m x k r.term may.read (i.may.own_rounds r h e) (subst (λ (s : ℕ). c.is_site s ≡ true) e (g.rounds r h).site));
+        own_releases = λ r h e z hz. subst (λ (y : KeptRecord). r.term ≤ y.term) (only_one k z hz)
+            (read_reaches c m x k r.term may.read (i.may.own_releases r h e) (subst (λ (s : ℕ). c.is_site s ≡ true) e (g.releasers r h)));
       };
       term = λ up z hz. let e = only_one k z hz in le_of_eq (ap (λ (y : KeptRecord). y.term) (sym e));
       round = λ r e. absurd (none_is r e);
-      lease = λ z hz l e. i.lease k may.fact l (ap (λ (y : KeptRecord). y.lease) (only_one k z hz) ∙ e);
-      promise = λ p e. promise_at_start c x.reading k.pledge k.term p (i.pledges.good k may.fact) e;
-      within = within_at_start c x.reading k.pledge (i.pledges.named k may.fact);
-      pledges = start_pledges c.members x k second may i.pledges;
+      lease = λ z hz l e. let own = ap (λ (y : KeptRecord). y.lease) (only_one k z hz) ∙ e in
+          of_read (c.is_site m) x.may k (IsOverOrGood c f.leases f.releases m x.reading l) may.read (λ h. i.lease k h l own) (λ silent. absurd (none_is l (sym silent.free ∙ own)));
+      promise = λ p e. promise_at_start c x.reading k.pledge k.term p (pledge_read c m x k may.read i.pledges) e;
+      within = within_at_start c x.reading k.pledge (named_read c m x k may.read i.pledges);
+      pledges = start_pledges c m x k second may i.pledges;
       answers = λ a h e. let b = i.answers a h e in record {
         past = b.past;
-        stands = stands_by c f.releases a x.reading (Guard c a x) (Guard c a (starting c x k second)) (start_stands c f.releases a x k second may b.past) b.stands;
+        stands = stands_by c f.releases a x.reading (Guard c a x) (Guard c a (starting c x k second)) (start_stands c f.releases a (c.is_site m) x k second may.read b.past) b.stands;
       };
     })
 
@@ -164,5 +204,6 @@ passes c w time g may =
         answers = λ a h. let q = g.facts.answers a h in record { below = q.below; clock = q.clock; round = q.round; later = q.later; past = let l = q.past in omega arith };
         leases = λ r h. let q = g.facts.leases r h in record { round = q.round; past = let l = q.past in omega arith; majority = q.majority; answered = q.answered };
         releases = λ r h. let l = g.facts.releases r h in omega arith;
+        releasers = g.facts.releasers;
       };
     }

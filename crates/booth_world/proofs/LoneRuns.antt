@@ -38,7 +38,7 @@ lone_entered ticket = record {
   clocks = lone_clocks;
   is_cast = lone_is_cast ticket;
   enters_early = (
-    (omega arith, refl, inl refl, λ e. e),
+    (omega arith, refl, inl (inl refl), (λ e. e), (λ on. inl (inl refl))),
     (
       (omega arith, omega arith, omega arith, λ second. absurd (inactive second)),
       ((omega arith, (refl, refl)), ((omega arith, refl), ((omega arith, refl), tt))),
@@ -46,7 +46,7 @@ lone_entered ticket = record {
   );
   enters_late = (
     (omega arith, (refl, refl)),
-    ((omega arith, refl), ((omega arith, (refl, refl)), ((omega arith, tt), ((omega arith, refl, inl refl, λ e. e), tt)))),
+    ((omega arith, refl), ((omega arith, (refl, refl)), ((omega arith, tt), ((omega arith, refl, inl (inl refl), (λ e. e), (λ on. inl (inl refl))), tt)))),
   );
 }
 
@@ -70,12 +70,12 @@ lone_hosted ticket = record {
   clocks = lone_clocks;
   is_cast = lone_is_cast ticket;
   hosted_early = (
-    (omega arith, omega arith, omega arith, refl, inl refl, λ e. e),
+    (omega arith, omega arith, omega arith, refl, inl (inl refl), (λ e. e), (λ on. inl (inl refl))),
     (
       (omega arith, omega arith, omega arith, (tt, (refl, left_so (λ (view : View). (ok : Bool) → Unit {0}) (λ view ok. tt) (asks_tree ticket))), λ l e. absurd (cc)),
       (
         (omega arith, refl),
-        ((omega arith, refl), ((omega arith, tt), ((omega arith, omega arith, omega arith, refl, inl refl, λ e. e), tt))),
+        ((omega arith, refl), ((omega arith, tt), ((omega arith, omega arith, omega arith, refl, inl (inl refl), (λ e. e), (λ on. inl (inl refl))), tt))),
       ),
     ),
   );

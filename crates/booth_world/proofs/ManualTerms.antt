@@ -14,11 +14,11 @@ use Rattle.booth_wire.specs.declared.message.Setup.{Setup}
 use Rattle.booth_node.specs.declared.node_config.NodeConfig.{NodeConfig}
 use Rattle.booth_node.specs.State.{State}
 use Rattle.booth_node.specs.Held.{Moment, may_at}
-use Rattle.booth_node.specs.Opening.{known_at_start, opened, opened_by, setup_of, start_reading}
+use Rattle.booth_node.specs.Opening.{is_site_at, known_at_start, opened, opened_by, setup_of, start_reading}
 use Rattle.booth_node.specs.Reaction.{Ask, Send, Keep, Start, react, used}
-use Rattle.booth_node.specs.Records.{Has, record_at, may_after, may_after_all, may_after_keep, with_next}
+use Rattle.booth_node.specs.Records.{IsSilent, MayRead, GoesOn, Has, record_at, may_after, may_after_all, may_after_keep, with_next}
 use Rattle.booth_node.specs.Session.{CutCall, MayMake, MayBeCut, CutKeep, CutNext, CutNow, CutSend, CutStart, SessionEntry, Starts, Makes, IsCut, Stand, Down, Doing, Hearing, MayDo, AreSessions, after_call, after_entry, after_entries}
-use Rattle.booth_node.specs.World.{HasConfiguration, IsOneTicket, ReadsKept, StartsWithIt, WorldEntry, World, members_of, entries_of, stand_after, begins_with, IsUntimedWorld}
+use Rattle.booth_node.specs.World.{HasConfiguration, IsOneTicket, ReadsKept, RecordsGoOn, StartsOn, StartsWithIt, WorldEntry, World, members_of, entries_of, stand_after, begins_with, IsUntimedWorld}
 use Rattle.booth_ticket.specs.Ticket.{TicketState, Known, Automatic, Manual}
 use Rattle.booth_world.specs.Kept.{IsOfKind, RestsInKind, StandsInKind}
 use Rattle.booth_world.specs.Worlds.{IsLater}
@@ -75,6 +75,10 @@ module _ (own_name : List ℕ) where
   abbrev Rises : ℕ → Stand → List Record → Type 0
   Rises term stand may = (later : ℕ) × (term ≤ later) × IsLeast later stand may
 
+  -- the same, but that the term did not fall is so where a premise is
+  abbrev RisesIf : Type 0 → ℕ → Stand → List Record → Type 0
+  RisesIf P term stand may = (later : ℕ) × (P → term ≤ later) × IsLeast later stand may
+
   stays : (term : ℕ) (stand after : Stand) (may : List Record) → IsLeast term stand may → IsHighAt term after → Rises term after may
   stays term stand after may x high =
       (term, omega arith, record { lowest = x.lowest; one = x.one; is = x.is; least = x.least; high = high })
@@ -94,19 +98,19 @@ module _ (own_name : List ℕ) where
     },
   )
 
-  -- a record is alone, of a term that is not below the least
+  -- a record is alone
+  least_alone : (after : Stand) (rec : Record) → IsHighAt rec.term after → IsLeast rec.term after (rec ∷ [])
+  least_alone after rec high = record {
+    lowest = rec;
+    one = inl refl;
+    is = omega arith;
+    least = λ k h. ⊎_elim (λ (e : rec ≡ k). subst (λ (r : Record). rec.term ≤ r.term) e (omega arith)) (λ (g : ⊥). absurd g) h;
+    high = high;
+  }
+
+  -- and of a term that is not below the least
   alone : (term : ℕ) (after : Stand) (rec : Record) → term ≤ rec.term → IsHighAt rec.term after → Rises term after (rec ∷ [])
-  alone term after rec above high = (
-    rec.term,
-    above,
-    record {
-      lowest = rec;
-      one = inl refl;
-      is = omega arith;
-      least = λ k h. ⊎_elim (λ (e : rec ≡ k). subst (λ (r : Record). rec.term ≤ r.term) e (omega arith)) (λ (g : ⊥). absurd g) h;
-      high = high;
-    },
-  )
+  alone term after rec above high = (rec.term, above, least_alone after rec high)
 
   -- a keep of this ticket, or of another
   keeps : (term : ℕ) (node : NodeConfig) (name : List ℕ) (tried : Record) (go : Bool → Deeds Ask State) (ticket_name : List ℕ) (rec : Record) (ok : Bool)
@@ -196,31 +200,36 @@ module _ (own_name : List ℕ) where
       cuts_keep term node name tried go ticket_name rec may x d.0 d.1
   cuts term (Hearing node old answer bytes) (CutKeep ticket_name rec) may x d = absurd d
 
-  -- what a start owes: where it has the ticket, its record may have been kept, and the ticket stands in the state that it
-  -- leaves; and where it has not, no ticket there has the name
-  abbrev StartsSo : List Record → SessionEntry → Type 0
-  StartsSo may (Starts node reading records) =
+  -- what a start owes: where it has the ticket, its record is of no earlier term than all that may have been kept, and
+  -- the ticket stands in the state that it leaves; and where it has not, no ticket there has the name
+  abbrev StartsSo : Type 0 → List Record → SessionEntry → Type 0
+  StartsSo P may (Starts node reading records) =
       IsSoundConfig node.config
       × ((place : ℕ) → at_of node ≡ Some place
-      → Has may (record_at records place)
+      → (P → (term : ℕ) → ((k : Record) → Has may k → term ≤ k.term) → term ≤ (record_at records place).term)
       × IsPlaced own_name (at_of node) (record_at records place).term (opened node records reading).tickets)
       × (at_of node ≡ None → (term : ℕ) → IsPlaced own_name (at_of node) term (opened node records reading).tickets)
-  StartsSo may what = Unit {0}
+  StartsSo P may what = Unit {0}
 
-  one_entry : (term : ℕ) (stand : Stand) (what : SessionEntry) (may : List Record) → IsLeast term stand may → MayDo stand what
-      → StartsSo may what
-      → Rises term (after_entry stand what) (may_after own_name may what)
-  one_entry term stand (Starts node reading records) may x d so = by_place (at_of node) refl
+  if_so : (P : Type 0) (term : ℕ) (stand : Stand) (may : List Record) → Rises term stand may → RisesIf P term stand may
+  if_so P term stand may r = (r.0, (λ p. r.1), r.2)
+
+  one_entry : (P : Type 0) (term : ℕ) (stand : Stand) (what : SessionEntry) (may : List Record) → IsLeast term stand may → MayDo stand what
+      → StartsSo P may what
+      → RisesIf P term (after_entry stand what) (may_after own_name may what)
+  one_entry P term stand (Starts node reading records) may x d so = by_place (at_of node) refl
     where
       by_place : (o : Option ℕ) → at_of node ≡ o
-          → Rises term (Doing node (Ends (opened node records reading))) (option_map_or (λ (n : ℕ). record_at records n ∷ []) o may)
-      by_place None none = stays term stand (Doing node (Ends (opened node records reading))) may x (so.0, so.2 none term)
+          → RisesIf P term (Doing node (Ends (opened node records reading))) (option_map_or (λ (n : ℕ). record_at records n ∷ []) o may)
+      by_place None none = if_so P term (Doing node (Ends (opened node records reading))) may (stays term stand (Doing node (Ends (opened node records reading))) may x (so.0, so.2 none term))
       by_place (Some place) at =
-          let q = so.1 place at in
-          alone term (Doing node (Ends (opened node records reading))) (record_at records place)
-          (x.least (record_at records place) q.0) (so.0, q.1)
-  one_entry term stand (Makes call) may x d so = makes term stand call may x d
-  one_entry term stand (IsCut call) may x d so = cuts term stand call may x d
+          let q = so.1 place at in (
+            (record_at records place).term,
+            (λ p. q.0 p term x.least),
+            least_alone (Doing node (Ends (opened node records reading))) (record_at records place) (so.0, q.1),
+          )
+  one_entry P term stand (Makes call) may x d so = if_so P term (after_call stand call) (may_after own_name may (Makes call)) (makes term stand call may x d)
+  one_entry P term stand (IsCut call) may x d so = if_so P term Down (may_after own_name may (IsCut call)) (cuts term stand call may x d)
 
   -- the record of the next entry is not below the least term either
   next_above : (term : ℕ) (stand : Stand) (may : List Record) (x : SessionEntry) (xs : List SessionEntry) (k : Record) → IsLeast term stand may
@@ -243,8 +252,26 @@ module _ (own_name : List ℕ) where
 
 -- ---- a world
 
+-- A record that a site reads, or that goes on, has at least the term that all records have that may have been written.
+read_least : (site : Bool) (may : List Record) (k : Record) (term : ℕ) → MayRead site may k → (site ≡ true) ⊎ GoesOn may k
+    → ((y : Record) → Has may y → term ≤ y.term) → term ≤ k.term
+read_least site may k term read on least = ⊎_elim
+    (λ (h : Has may k). least k h)
+    (λ (silent : IsSilent site may k). ⊎_elim
+    (λ (is : site ≡ true). let y = silent.reaches is in let l = least y.0 y.1 in omega (arith, l, y.2))
+    (λ (goes : GoesOn may k). ⊎_elim
+    (λ (h : Has may k). least k h)
+    (λ (y : (z : Record) × Has may z × (z.term < k.term)). let l = least y.0 y.1 in omega (arith, l, y.2))
+    goes)
+    on)
+    read
+
 module _ (w : World) (is_world : IsUntimedWorld w) (ticket : TicketConf) (one : IsOneTicket w ticket) (by_hand : ticket.manual ≡ true)
     (m : ℕ) (below : m < members_of w) where
+  -- the member is a site, or each start goes on
+  abbrev Goes : Type 0
+  Goes = (is_site_at w.members m ≡ true) ⊎ RecordsGoOn w
+
   abbrev start : Record
   start = begins_with w m ticket.name
 
@@ -296,29 +323,46 @@ module _ (w : World) (is_world : IsUntimedWorld w) (ticket : TicketConf) (one : 
   }
 
   starts_so : (before after : List WorldEntry) (e : WorldEntry) → w.entries ≡ before ++ e ∷ after → e.member ≡ m
-      → MayDo (stand_after m before) e.what → StartsSo ticket.name (may_of before) e.what
+      → MayDo (stand_after m before) e.what → StartsSo ticket.name Goes (may_of before) e.what
   starts_so before after e whole is may_do =
-      by_what e.what (is_world.same_members before after e whole) (is_world.records_return before after e whole) (one.same before after e whole) may_do
+      by_what e.what (is_world.same_members before after e whole) (is_world.records_return before after e whole) goes (one.same before after e whole) may_do
     where
-      by_what : (what : SessionEntry) → HasConfiguration w e what → ReadsKept w before e what → StartsWithIt ticket what
-          → MayDo (stand_after m before) what → StartsSo ticket.name (may_of before) what
-      by_what (Starts node reading records) own kept agree many = (
+      -- a site reads no earlier term, and where starts go on nobody does
+      goes : Goes → (is_site_at w.members e.member ≡ true) ⊎ StartsOn w before e e.what
+      goes on = ⊎_elim
+          (λ (site : is_site_at w.members m ≡ true). inl (subst (λ (n : ℕ). is_site_at w.members n ≡ true) (sym is) site))
+          (λ (all : RecordsGoOn w). inr (all before after e whole))
+          on
+
+      by_what : (what : SessionEntry) → HasConfiguration w e what → ReadsKept w before e what
+          → (Goes → (is_site_at w.members e.member ≡ true) ⊎ StartsOn w before e what) → StartsWithIt ticket what
+          → MayDo (stand_after m before) what → StartsSo ticket.name Goes (may_of before) what
+      by_what (Starts node reading records) own kept goes agree many = (
         own.sound,
         (λ place at.
             let there = found_there node.config place ticket.name at in
             let named : there.0.name ≡ ticket.name = found_named node.config place there.0 there.1 ticket.name at in (
-              subst (λ (n : ℕ). Has (may_after_all ticket.name (begins_with w n ticket.name ∷ []) (entries_of n before)) (record_at records place)) is
-                  (subst (λ (name : List ℕ). Has (may_after_all name (begins_with w e.member name ∷ []) (entries_of e.member before)) (record_at records place))
-                  named (kept place there.0 there.1)),
+              (λ on term least. read_least (is_site_at w.members e.member) (may_of before) (record_at records place) term
+                  (subst (λ (n : ℕ). MayRead (is_site_at w.members e.member) (may_after_all ticket.name (begins_with w n ticket.name ∷ []) (entries_of n before)) (record_at records place)) is
+                  (subst (λ (name : List ℕ). MayRead (is_site_at w.members e.member) (may_after_all name (begins_with w e.member name ∷ []) (entries_of e.member before)) (record_at records place))
+                  named (kept place there.0 there.1)))
+                  (⊎_elim
+                  (λ (site : is_site_at w.members e.member ≡ true). inl site)
+                  (λ (starts : StartsOn w before e (Starts node reading records)). inr
+                  (subst (λ (n : ℕ). GoesOn (may_after_all ticket.name (begins_with w n ticket.name ∷ []) (entries_of n before)) (record_at records place)) is
+                  (subst (λ (name : List ℕ). GoesOn (may_after_all name (begins_with w e.member name ∷ []) (entries_of e.member before)) (record_at records place))
+                  named (starts place there.0 there.1))))
+                  (goes on))
+                  least),
               opened_so node own.sound reading records many agree place at,
             )),
         (λ none term. opened_without node own.sound reading records none term),
       )
-      by_what (Makes call) own kept agree many = tt
-      by_what (IsCut call) own kept agree many = tt
+      by_what (Makes call) own kept goes agree many = tt
+      by_what (IsCut call) own kept goes agree many = tt
 
   abbrev Later : ℕ → List WorldEntry → Type 0
-  Later term before = (later : ℕ) × (term ≤ later) × Least later before
+  Later term before = (later : ℕ) × (Goes → term ≤ later) × Least later before
 
   one_step : (term : ℕ) (before after : List WorldEntry) (e : WorldEntry) → w.entries ≡ before ++ e ∷ after → Least term before
       → Later term (before ++ e ∷ [])
@@ -330,7 +374,7 @@ module _ (w : World) (is_world : IsUntimedWorld w) (ticket : TicketConf) (one : 
           entries_join m before (e ∷ []) ∙ ap (λ (xs : List SessionEntry). entries_of m before ++ xs) (entry_other m e [] ne)
           ∙ append_none (entries_of m before) in (
             term,
-            omega arith,
+            (λ on. omega arith),
             subst (λ (xs : List SessionEntry). IsLeast ticket.name term (after_entries Down xs) (may_after_all ticket.name (start ∷ []) xs)) (sym same) x,
           )
       by_member (inl is) =
@@ -342,7 +386,7 @@ module _ (w : World) (is_world : IsUntimedWorld w) (ticket : TicketConf) (one : 
           (ap (λ (es : List WorldEntry). entries_of m es) whole ∙ entries_join m before (e ∷ after)
           ∙ ap (λ (xs : List SessionEntry). entries_of m before ++ xs) (entry_own m e after is))
           (is_world.one_daemon m below)) in
-          let r = one_entry ticket.name term (stand_after m before) e.what (may_of before) x may_do (starts_so before after e whole is may_do) in (
+          let r = one_entry ticket.name Goes term (stand_after m before) e.what (may_of before) x may_do (starts_so before after e whole is may_do) in (
             r.0,
             r.1,
             subst (λ (s : Stand). IsLeast ticket.name r.0 s (may_of (before ++ e ∷ []))) (sym (stand_own m before e is))
@@ -354,13 +398,13 @@ module _ (w : World) (is_world : IsUntimedWorld w) (ticket : TicketConf) (one : 
   steps : (between before after : List WorldEntry) (term : ℕ) → w.entries ≡ before ++ (between ++ after) → Least term before
       → Later term (before ++ between)
   steps [] before after term whole x =
-      (term, omega arith, subst (λ (es : List WorldEntry). Least term es) (sym (append_none before)) x)
+      (term, (λ on. omega arith), subst (λ (es : List WorldEntry). Least term es) (sym (append_none before)) x)
   steps (e ∷ between) before after term whole x =
       let one = one_step term before (between ++ after) e whole x in
       let rest =
       steps between (before ++ e ∷ []) after one.0 (whole ∙ sym (append_both before (e ∷ []) (between ++ after))) one.2 in (
         rest.0,
-        omega (arith, one.1, rest.1),
+        (λ on. let low = one.1 on in let high = rest.1 on in omega arith),
         subst (λ (es : List WorldEntry). Least rest.0 es) (append_both before (e ∷ []) between) rest.2,
       )
 
@@ -386,10 +430,10 @@ module _ (w : World) (is_world : IsUntimedWorld w) (ticket : TicketConf) (one : 
           (ap (λ (es : List WorldEntry). entries_of m es) moment.whole ∙ entries_join m moment.before moment.after
           ∙ ap (λ (es : List SessionEntry). entries_of m moment.before ++ es) is) (is_world.one_daemon m below))) g
 
-  pub manual_terms_hold : (early late : Moment w) (between : List WorldEntry) → IsLater w early late between → (term : ℕ)
+  pub manual_terms_hold : (early late : Moment w) (between : List WorldEntry) → IsLater w early late between → (term : ℕ) → Goes
       → ((k : Record) → Has (may_at w ticket m early) k → term ≤ k.term)
       → (k : Record) → Has (may_at w ticket m late) k → term ≤ k.term
-  manual_terms_hold early late between later term least k h =
+  manual_terms_hold early late between later term on least k h =
       let at_early = steps early.before [] early.after start.term early.whole first in
       let x : Least at_early.0 early.before = at_early.2 in
       let low : term ≤ x.lowest.term =
@@ -400,7 +444,7 @@ module _ (w : World) (is_world : IsUntimedWorld w) (ticket : TicketConf) (one : 
       let high : at_late.0 ≤ k.term =
       above_at late at_late.0 (subst (λ (es : List WorldEntry). Least at_late.0 es) (sym later.entries) at_late.2) k h in
       let is : x.lowest.term ≤ at_early.0 = x.is in
-      let rises : at_early.0 ≤ at_late.0 = at_late.1 in
+      let rises : at_early.0 ≤ at_late.0 = at_late.1 on in
       omega (arith, low, high, is, rises)
 
   -- where it rests, it stands as a manual ticket

@@ -112,8 +112,8 @@ module _ (node : NodeConfig) (s : Setup) where
   }
 
   -- The node's deeds keep of this ticket what the host's tree keeps, start its handler where the host's tree asks for
-  -- something else, which may go on to ask for more, and say what it says before that; deeds of other tickets stand between.
-  -- Where they end, this is so of what is left and of the place in the host's tree.
+  -- something else, which may go on to ask for more, and say what it says before that; deeds of other tickets stand
+  -- between. Where they end, this is so of what is left and of the place in the host's tree.
   abbrev pub Mirrors : {S : Type 0} → (List MemberMessage → S → TurnTree → Type 0) → List MemberMessage → Deeds Ask S → TurnTree → Type 0
   Mirrors Q sent (Ends state) tree = Q sent state tree
   Mirrors Q sent (Does (Send peer message) go) tree =

@@ -1,4 +1,5 @@
--- What an arrival is for one ticket: a member's message that is heard, a client's request, or nothing; and so the whole turn.
+-- What an arrival is for one ticket: a member's message that is heard, a client's request, or nothing; and so the whole
+-- turn.
 use Rattle.std.proofs.Common.{◌≡◌, ◌≢◌, ◌⊎◌, inl, inr, ℕ, zero, suc, ◌+◌, ◌^◌, ◌<◌, ◌≤◌, Bool, List, length, refl, sym, subst, arith, [], ◌∷◌}
 use Rattle.std.specs.Prelude.{Option, Some, None, Result, Ok, Err}
 use Rattle.std.specs.List.{range_with_len}

@@ -26,8 +26,8 @@ use Rattle.booth_world.proofs.Mirrors.{later}
 
 -- ---- plans
 
--- A number below `most`, as answers tell it, since a plan is made before the number of a job is known: one answer for each
--- one that is counted, and then one that ends.
+-- A number below `most`, as answers tell it, since a plan is made before the number of a job is known: one answer for
+-- each one that is counted, and then one that ends.
 abbrev pub counts : ℕ → ℕ → (ℕ → Plan) → Plan
 counts zero number go = go number
 counts (suc most) number go = Waits (λ more. if more then counts most (number + 1) go else go number)

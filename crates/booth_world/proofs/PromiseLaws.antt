@@ -132,6 +132,7 @@ answers c now f m x r given i g below may =
           answered = λ k hk. let a = q.answered k hk in (a.0, inr a.1, a.2, a.3, a.4);
         };
         releases = g.releases;
+        releasers = g.releasers;
         apart = λ a b ha hb. ⊎_elim
             (λ (ea : new ≡ a). subst (λ (y : Answer). y.member ≡ b.member → y.round.site ≢ b.round.site → Apart c f.releases y b) ea
             (λ (same : m ≡ b.member) (other : r.site ≢ b.round.site). ⊎_elim

@@ -55,7 +55,8 @@ IsTrueOf s now may head part =
 abbrev pub IsTrueJob : List Record → ℕ → Type 0
 IsTrueJob may expires = 0 < expires → (k : Record) × Has may k × (lease_end k.lease / 1000 ≡ expires)
 
--- All that these deeds tell is borne out by the records that may be kept then; and of these and of what is left P holds.
+-- All that these deeds tell is borne out by the records that may be kept then; and of these and of what is left P
+-- holds.
 abbrev pub Honest : {V : Type 0} → Setup → ℕ → (List Record → V → Type 0) → List Record → Deeds Ask V → Type 0
 Honest s now P may (Ends left) = P may left
 Honest s now P may (Does (Say to head part) go) = IsTrueOf s now may head part × Honest s now P may (go true)

@@ -1,4 +1,5 @@
--- In each world, a member that tells a term has gained a lease of it; and in version 2 a term that is told is one member's.
+-- In each world, a member that tells a term has gained a lease of it; and in version 2 a term that is told is one
+-- member's.
 use Rattle.std.proofs.Common.{◌≡◌, ◌≢◌, ◌⊎◌, inl, inr, ℕ, ◌<◌, ◌≤◌, ◌-◌, ◌^◌, Bool, true, false, List, ◌∷◌, ◌++◌, length, refl, sym, ap, ◌∙◌, subst, arith, if◌then◌else◌}
 use Rattle.std.specs.Prelude.{min, max, Option, Some, None, Ok, is_ok, not, nat_lt}
 use Rattle.std.proofs.lemmas.Bool.{and_parts}
@@ -32,7 +33,7 @@ use Rattle.booth_node.specs.Held.{Moment}
 use Rattle.booth_node.specs.Reaction.{Ask, Send, Keep, Start, used}
 use Rattle.booth_node.specs.Records.{Has, may_after}
 use Rattle.booth_node.specs.Session.{CutSend, SessionEntry, Starts, Makes, IsCut, Stand, Down, Doing, Hearing, MayMake, MayDo, after_call, after_entry}
-use Rattle.booth_node.specs.World.{IsOneTicket, IsSend, ReadsClock, WorldEntry, World, begins_with, clock_at, entries_of, id_at, members_of, stand_after, IsSecondWorld, IsUntimedWorld}
+use Rattle.booth_node.specs.World.{IsOneTicket, IsSend, ReadsClock, WorldEntry, World, begins_with, clock_at, entries_of, id_at, members_of, stand_after, IsSecondWorld, IsUntimedWorld, RecordsGoOn}
 use Rattle.booth_world.specs.Fencing.{HasGainedAt}
 use Rattle.booth_world.specs.Tellers.{IsNext, address_at}
 use Rattle.booth_world.specs.Told.{MessageTellsTerm, ToldTermsAreGained, TellersOfOneTermIn, LaterTellersHaveLaterTermsIn, WorldsHaveFencingTerms}
@@ -263,30 +264,30 @@ told_terms_are_gained w is_world ticket automatic moment entry next term tells =
     (is_world.form.members moment.before next.0 entry (moment.whole ∙ ap (λ (es : List WorldEntry). moment.before ++ es) next.1))
     moment entry next refl term tells.0 tells.1 tells.2 tells.3 tells.4
 
-pub tellers_of_one_term : (w : World) → IsUntimedWorld w → IsSecondWorld w → TellersOfOneTermIn w
-tellers_of_one_term w is_world all ticket automatic early late between later first second at_first at_second term tells tells_too =
+pub tellers_of_one_term : (w : World) → IsUntimedWorld w → IsSecondWorld w → RecordsGoOn w → TellersOfOneTermIn w
+tellers_of_one_term w is_world all on ticket automatic early late between later first second at_first at_second term tells tells_too =
     let a = told_terms_are_gained w is_world ticket automatic early first at_first term tells in
     let b = told_terms_are_gained w is_world ticket automatic late second at_second term tells_too in
-    world_terms_of_one w is_world all ticket automatic early late between later first.member second.member a.0 b.0 a.2 b.2 (a.1 ∙ sym b.1)
+    world_terms_of_one w is_world all on ticket automatic early late between later first.member second.member a.0 b.0 a.2 b.2 (a.1 ∙ sym b.1)
 
-pub later_tellers_have_later_terms : (w : World) → IsUntimedWorld w → IsSecondWorld w → LaterTellersHaveLaterTermsIn w
-later_tellers_have_later_terms w is_world all ticket automatic early late between later first second at_first at_second term greater tells tells_too below =
+pub later_tellers_have_later_terms : (w : World) → IsUntimedWorld w → IsSecondWorld w → RecordsGoOn w → LaterTellersHaveLaterTermsIn w
+later_tellers_have_later_terms w is_world all on ticket automatic early late between later first second at_first at_second term greater tells tells_too below =
     let a = told_terms_are_gained w is_world ticket automatic early first at_first term tells in
     let b = told_terms_are_gained w is_world ticket automatic late second at_second greater tells_too in
     let of_first = a.1 in
     let of_second = b.1 in
     let less : a.0.term < b.0.term =
-    world_askers w is_world all ticket automatic early late between later first.member second.member a.0 b.0 a.2 b.2
+    world_askers w is_world all on ticket automatic early late between later first.member second.member a.0 b.0 a.2 b.2
     (λ kept has. subst (λ (n : ℕ). kept.term < n) (sym of_second) (below kept has)) in
     omega (arith, less, of_first, of_second)
 
 pub worlds_have_fencing_terms : WorldsHaveFencingTerms
-worlds_have_fencing_terms w is_world all = record {
-  terms = world_terms_of_one w is_world all;
-  holders = holders_of_one_term w is_world all;
-  askers = world_askers w is_world all;
-  told = told_terms w is_world all;
+worlds_have_fencing_terms w is_world all on = record {
+  terms = world_terms_of_one w is_world all on;
+  holders = holders_of_one_term w is_world all on;
+  askers = world_askers w is_world all on;
+  told = told_terms w is_world all on;
   gained = told_terms_are_gained w is_world;
-  tellers = tellers_of_one_term w is_world all;
-  later_tellers = later_tellers_have_later_terms w is_world all;
+  tellers = tellers_of_one_term w is_world all on;
+  later_tellers = later_tellers_have_later_terms w is_world all on;
 }

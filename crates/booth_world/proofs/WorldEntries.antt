@@ -19,8 +19,9 @@ use Rattle.booth_raft.specs.StartAndLearn.{started}
 use Rattle.booth_ticket.specs.Saying.{others}
 use Rattle.booth_ticket.specs.Ticket.{TicketState}
 use Rattle.booth_node.specs.declared.node_config.NodeConfig.{NodeConfig}
+use Rattle.booth_world.specs.Reading.{MayBeRead, IsLaterOrKept}
 use Rattle.booth_world.specs.States.{HasClocks, reads}
-use Rattle.booth_node.specs.Opening.{setup_of, started_from, start_reading, known_at_start, opened, opened_by}
+use Rattle.booth_node.specs.Opening.{is_site_at, setup_of, started_from, start_reading, known_at_start, opened, opened_by}
 use Rattle.booth_host.specs.declared.host.Job.{Job}
 use Rattle.booth_node.specs.Reaction.{Ask, Send, Keep, Start, used, react}
 use Rattle.booth_node.specs.Records.{may_after_keep, may_after, record_at}
@@ -32,6 +33,7 @@ use Rattle.booth_world.specs.Turns.{Keeps, TurnTree, turn_tree}
 use Rattle.booth_world.specs.Hosts.{BeginsTurn, DoesAsk, Halts, Boots, HostPlace, Hosts, pending_in, pending, MayBegin, MayCome, begun, hosted, hosts_after}
 use Rattle.booth_world.specs.HostLaws.{Revokes, RevokesAfter, IsHostReleaseAt}
 use Rattle.booth_world.specs.Revocations.{others_of, IsRevocation, SendsEach}
+use Rattle.booth_world.proofs.HostSteps.{still_read, still_later}
 use Rattle.booth_world.proofs.Lists.{none_is, some_same}
 use Rattle.booth_world.proofs.CallSteps.{put_same}
 use Rattle.booth_world.proofs.Mirrors.{Repeats, IsTold}
@@ -383,16 +385,17 @@ module _ (w : World) (clocks : HasRisingClocks w) (ticket : TicketConf) (setting
   module _ (m : ℕ) (below : m < members_of w) where
     boots : (hosts : Hosts) (session : Session) (node : NodeConfig) (its : Seats w ticket setting m session node) → its.conf.manual ≡ false → (reading : ℕ) (records : List (Option Record)) → hosts.now < w.span → (hosts.place m).tree ≡ None
         → ((hosts.place m).session.second ≡ true → session.second ≡ true)
-        → length records ≡ length node.config.tickets → reading ≡ clock_at w m hosts.now → Has (hosts.place m).may (record_at records its.place)
+        → length records ≡ length node.config.tickets → reading ≡ clock_at w m hosts.now → MayBeRead (is_site_at w.members m) (hosts.place m).may (record_at records its.place)
+        → (setting.goes_on ≡ true → IsLaterOrKept (hosts.place m).may (record_at records its.place))
         → Stepping hosts m session (Doing node (Ends (opened node records reading))) (record_at records its.place ∷ [])
         (IsTrace w ticket.name m hosts.now (Doing node (Ends (opened node records reading))) (Starts node reading records))
-    boots hosts session node its automatic reading records within down stays all is may_read =
+    boots hosts session node its automatic reading records within down stays all is may_read on =
         let now : ℕ = read_by m hosts.now in
         let kept : Record = record_at records its.place in
         then_says w ticket setting m below hosts (Boots m hosts.now session kept) session (Doing node (Ends (opened node records reading))) (kept ∷ [])
         (IsTrace w ticket.name m hosts.now (Doing node (Ends (opened node records reading))) (Starts node reading records))
         (Ends (started (setup_at w ticket setting m session) kept now))
-        (below, omega arith, within, down, may_read, stays)
+        (below, omega arith, within, down, may_read, stays, on)
         (moved_one w ticket setting m below hosts _ hosts.sent (λ l h. h))
         (ap (λ (p : HostPlace). p.tree) (put_same hosts.place m _))
         (λ p tree_is reading_is may_is session_is. record {
@@ -431,23 +434,28 @@ module _ (w : World) (clocks : HasRisingClocks w) (ticket : TicketConf) (setting
 
     pub starts : (hosts : Hosts) (session : Session) (node : NodeConfig) (reading : ℕ) (records : List (Option Record)) → hosts.now < w.span
         → length records ≡ length node.config.tickets → (its : Seats w ticket setting m session node) → its.conf.manual ≡ false → reading ≡ clock_at w m hosts.now
-        → ((hosts.place m).session.second ≡ true → session.second ≡ true) → Has (hosts.place m).may (record_at records its.place)
+        → ((hosts.place m).session.second ≡ true → session.second ≡ true) → MayBeRead (is_site_at w.members m) (hosts.place m).may (record_at records its.place)
+        → (setting.goes_on ≡ true → IsLaterOrKept (hosts.place m).may (record_at records its.place))
         → Stepping hosts m session (Doing node (Ends (opened node records reading))) (record_at records its.place ∷ [])
         (IsTrace w ticket.name m hosts.now (Doing node (Ends (opened node records reading))) (Starts node reading records))
-    starts hosts session node reading records within all its automatic is stays may_read = by_tree (hosts.place m).tree refl
+    starts hosts session node reading records within all its automatic is stays may_read on = by_tree (hosts.place m).tree refl
       where
         by_tree : (o : Option TurnTree) → (hosts.place m).tree ≡ o
             → Stepping hosts m session (Doing node (Ends (opened node records reading))) (record_at records its.place ∷ [])
             (IsTrace w ticket.name m hosts.now (Doing node (Ends (opened node records reading))) (Starts node reading records))
-        by_tree None down = boots hosts session node its automatic reading records within down stays all is may_read
+        by_tree None down = boots hosts session node its automatic reading records within down stays all is may_read on
         by_tree (Some t) up =
             let halted : Hosts = hosted (cluster w ticket setting) (cast w ticket setting) hosts (Halts m) in
             let rest : Stepping halted m session (Doing node (Ends (opened node records reading))) (record_at records its.place ∷ [])
             (IsTrace w ticket.name m hosts.now (Doing node (Ends (opened node records reading))) (Starts node reading records)) =
             boots halted session node its automatic reading records within (ap (λ (p : HostPlace). p.tree) (put_same hosts.place m _))
             (λ was. stays (sym (ap (λ (p : HostPlace). p.session.second) (put_same hosts.place m _)) ∙ was)) all is
-            (subst (λ (p : HostPlace). Has p.may (record_at records its.place)) (sym (put_same hosts.place m _))
-            (still_may (hosts.place m).tree (hosts.place m).may (record_at records its.place) may_read)) in
+            (subst (λ (p : HostPlace). MayBeRead (is_site_at w.members m) p.may (record_at records its.place)) (sym (put_same hosts.place m _))
+            (still_read (is_site_at w.members m) (hosts.place m).may (pending (hosts.place m).tree (hosts.place m).may) (record_at records its.place)
+            (still_may (hosts.place m).tree (hosts.place m).may) may_read))
+            (λ going. subst (λ (p : HostPlace). IsLaterOrKept p.may (record_at records its.place)) (sym (put_same hosts.place m _))
+            (still_later (hosts.place m).may (pending (hosts.place m).tree (hosts.place m).may) (record_at records its.place)
+            (still_may (hosts.place m).tree (hosts.place m).may) (on going))) in
             record {
               entries = Halts m ∷ rest.entries;
               hosted_all = ((below, subst (λ (o : Option TurnTree). IsSomeAnd o (λ tree. Unit {0})) (sym up) tt), rest.hosted_all);

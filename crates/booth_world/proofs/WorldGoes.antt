@@ -13,13 +13,14 @@ use Rattle.booth_host.specs.declared.entry.Entry.{Entry}
 use Rattle.booth_host.specs.declared.entry.Entry.TheVariants as calls
 use Rattle.booth_raft.specs.StartAndLearn.{started}
 use Rattle.booth_node.specs.declared.node_config.NodeConfig.{NodeConfig}
-use Rattle.booth_node.specs.Opening.{opened, start_reading}
+use Rattle.booth_node.specs.Opening.{is_site_at, opened, start_reading}
 use Rattle.booth_node.specs.Reaction.{Send, Keep, Start, used}
 use Rattle.booth_node.specs.Records.{Has as Holds, may_after, may_after_all, record_at}
 use Rattle.booth_node.specs.Session.{CutCall, CutNext, CutNow, CutSend, CutKeep, CutStart, SessionEntry, Starts, Makes, IsCut, Stand, Down, Doing, Hearing, MayMake, MayBeCut, MayDo, did, after_call, after_entry, AreSessions}
-use Rattle.booth_node.specs.World.{WorldEntry, World, members_of, clock_at, IsNodeOf, entries_of, HasConfiguration, ReadsClock, ReadsKept, StaysSecond, StartsWithIt, IsSend, HearsSent, stand_after, begins_with, IsUntimedWorld}
+use Rattle.booth_node.specs.World.{WorldEntry, World, members_of, clock_at, IsNodeOf, entries_of, HasConfiguration, ReadsClock, ReadsKept, StartsOn, StaysSecond, StartsWithIt, IsSend, HearsSent, stand_after, begins_with, IsUntimedWorld}
+use Rattle.booth_world.specs.Reading.{MayBeRead, IsLaterOrKept}
 use Rattle.booth_world.specs.Cores.{Session, opening_session}
-use Rattle.booth_world.specs.Facts.{Has, Release}
+use Rattle.booth_world.specs.Facts.{Release}
 use Rattle.booth_world.specs.Turns.{Keeps, TurnTree}
 use Rattle.booth_world.specs.Hosts.{HostEntry, LetsPass, HostPlace, Hosts, AreHosted}
 use Rattle.booth_world.specs.HostLaws.{IsHostReleaseIn}
@@ -32,7 +33,7 @@ use Rattle.booth_world.proofs.HostRuns.{IsOf, of_none}
 use Rattle.booth_world.proofs.Mirrors.{SentMore}
 use Rattle.booth_world.proofs.WorldSteps.{Trace, Frees, Reads, Begins, IsTrace, Setting, Seats, same_bytes, other_bytes, cluster, cast, setup_for, StandsAt, next_at, Shows}
 use Rattle.booth_world.proofs.WorldEntries.{read_by, used_is, HearsGoodAt, ReadsHere, makes, cuts, starts, started_is, when_true, when_false}
-use Rattle.booth_world.proofs.WorldHosts.{has_here, entries_join, entry_own, in_either, last_join, other_last, sessions_at, has_one, has_none, last_makes, last_rests, no_call, up_after, no_stand, was_second, may_of, after_hosts, IsSaidBy, IdlesAt, IsAt, Placed, PlacedAfter, placed_on, placed_more, placed_of, shows_of, Shadows, send_said, hears_so}
+use Rattle.booth_world.proofs.WorldHosts.{read_here, goes_here, entries_join, entry_own, in_either, last_join, other_last, sessions_at, has_one, has_none, last_makes, last_rests, no_call, up_after, no_stand, was_second, may_of, after_hosts, IsSaidBy, IdlesAt, IsAt, Placed, PlacedAfter, placed_on, placed_more, placed_of, shows_of, Shadows, send_said, hears_so}
 
 module _ (w : World) (is_world : IsUntimedWorld w) (ticket : TicketConf) (setting : Setting w ticket) where
   -- what an entry of a member that stands so leads its host to
@@ -203,11 +204,14 @@ module _ (w : World) (is_world : IsUntimedWorld w) (ticket : TicketConf) (settin
       → Placed w is_world ticket setting m stand may second last hosts.now (hosts.place m) hosts.sent
       → length records ≡ length node.config.tickets → IsNodeOf w m node → reading ≡ clock_at w m hosts.now
       → StartsWithIt ticket (Starts node reading records)
-      → ((place : ℕ) (conf : TicketConf) → slice_get node.config.tickets place ≡ Some conf → conf.name ≡ ticket.name → Has may (record_at records place))
+      → ((place : ℕ) (conf : TicketConf) → slice_get node.config.tickets place ≡ Some conf → conf.name ≡ ticket.name
+      → MayBeRead (is_site_at w.members m) may (record_at records place))
+      → ((place : ℕ) (conf : TicketConf) → slice_get node.config.tickets place ≡ Some conf → conf.name ≡ ticket.name
+      → setting.goes_on ≡ true → IsLaterOrKept may (record_at records place))
       → ((hosts.place m).session.second ≡ true → node.second ≡ true)
       → (place : ℕ) → position (is_called ticket.name) node.config.tickets ≡ Some place
       → Went hosts m stand may second last (Starts node reading records)
-  went_starts hosts m below within stand node reading records may second last x all own clock agree kept stays place at =
+  went_starts hosts m below within stand node reading records may second last x all own clock agree kept on stays place at =
       let conf = found_there node.config place ticket.name at in
       went conf.0 conf.1 (found_named node.config place conf.0 conf.1 ticket.name at)
     where
@@ -220,8 +224,10 @@ module _ (w : World) (is_world : IsUntimedWorld w) (ticket : TicketConf) (settin
           let steps = starts w is_world.rising_clocks ticket setting m below hosts s.0 node reading records within all seats
           (ap (λ (t : TicketConf). t.manual) s.4 ∙ agrees.0 ∙ setting.automatic) clock
           (λ was. s.1 ∙ stays was)
-          (subst (λ (rs : List Record). Has rs (record_at records seats.place)) (sym x.same_may)
-          (subst (λ (n : ℕ). Has may (record_at records n)) (sym s.3) (kept place conf there named))) in
+          (subst (λ (rs : List Record). MayBeRead (is_site_at w.members m) rs (record_at records seats.place)) (sym x.same_may)
+          (subst (λ (n : ℕ). MayBeRead (is_site_at w.members m) may (record_at records n)) (sym s.3) (kept place conf there named)))
+          (λ going. subst (λ (rs : List Record). IsLaterOrKept rs (record_at records seats.place)) (sym x.same_may)
+          (subst (λ (n : ℕ). IsLaterOrKept may (record_at records n)) (sym s.3) (on place conf there named going))) in
           let last_hosts : Hosts = after_hosts w is_world ticket setting hosts steps.entries in
           let has : has_ticket ticket.name node ≡ true = has_one ticket.name node place at in
           let now_may : record_at records seats.place ∷ [] ≡ may_after ticket.name may (Starts node reading records) =
@@ -328,15 +334,19 @@ module _ (w : World) (is_world : IsUntimedWorld w) (ticket : TicketConf) (settin
 
     begins_so : (node : NodeConfig) (reading : ℕ) (records : List (Option Record)) → length records ≡ length node.config.tickets
         → IsNodeOf w e.member node → reading ≡ clock_at w e.member e.time → ReadsKept w before e (Starts node reading records)
+        → (setting.goes_on ≡ true → StartsOn w before e (Starts node reading records))
         → StaysSecond w before e (Starts node reading records) → StartsWithIt ticket (Starts node reading records)
         → (o : Option ℕ) → position (is_called ticket.name) node.config.tickets ≡ o → Going (Starts node reading records)
-    begins_so node reading records all own clock kept stays agree None none =
+    begins_so node reading records all own clock kept on stays agree None none =
         went_without passed e.member stand node reading records may second last placed own none
-    begins_so node reading records all own clock kept stays agree (Some place) at =
+    begins_so node reading records all own clock kept on stays agree (Some place) at =
         went_starts passed e.member below within stand node reading records may second last placed all own clock agree
         (λ n conf there named.
-        subst (λ (name : List ℕ). Has (may_after_all name (begins_with w e.member name ∷ []) mine) (record_at records n)) named
-        (has_here (may_after_all conf.name (begins_with w e.member conf.name ∷ []) mine) (record_at records n) (kept n conf there)))
+        subst (λ (name : List ℕ). MayBeRead (is_site_at w.members e.member) (may_after_all name (begins_with w e.member name ∷ []) mine) (record_at records n)) named
+        (read_here (is_site_at w.members e.member) (may_after_all conf.name (begins_with w e.member conf.name ∷ []) mine) (record_at records n) (kept n conf there)))
+        (λ n conf there named going.
+        subst (λ (name : List ℕ). IsLaterOrKept (may_after_all name (begins_with w e.member name ∷ []) mine) (record_at records n)) named
+        (goes_here (may_after_all conf.name (begins_with w e.member conf.name ∷ []) mine) (record_at records n) (on going n conf there)))
         (λ was. stays (was_second ticket.name (w.begins e.member).second mine (sym placed.version ∙ was)))
         place at
 
@@ -363,11 +373,12 @@ module _ (w : World) (is_world : IsUntimedWorld w) (ticket : TicketConf) (settin
             rests passed e.member stand may second last (IsCut call) placed (idle_cut e.member stand call may idle d) refl refl (inl (tt, inl refl))
 
     pub goes : (what : SessionEntry) → MayDo stand what → HasConfiguration w e what → ReadsClock w e what → ReadsKept w before e what
+        → (setting.goes_on ≡ true → StartsOn w before e what)
         → StaysSecond w before e what → HearsSent w before stand what → StartsWithIt ticket what → Going what
-    goes (Starts node reading records) d own clock kept stays heard agree =
-        begins_so node reading records d own clock kept stays agree (position (is_called ticket.name) node.config.tickets) refl
-    goes (Makes call) d own clock kept stays heard agree = makes_so call d clock heard
-    goes (IsCut call) d own clock kept stays heard agree = cut_so call d
+    goes (Starts node reading records) d own clock kept on stays heard agree =
+        begins_so node reading records d own clock kept on stays agree (position (is_called ticket.name) node.config.tickets) refl
+    goes (Makes call) d own clock kept on stays heard agree = makes_so call d clock heard
+    goes (IsCut call) d own clock kept on stays heard agree = cut_so call d
 
   -- ---- entry by entry
 
@@ -411,7 +422,7 @@ module _ (w : World) (is_world : IsUntimedWorld w) (ticket : TicketConf) (settin
       (subst (λ (xs : List SessionEntry). AreSessions Down xs) mine (is_world.one_daemon e.member below)) in
       let went = goes before after e whole hosts shadow below within later members e.what may_do
       (is_world.same_members before after e whole) (is_world.rising_clocks.read before after e whole)
-      (is_world.records_return before after e whole) (is_world.versions_rise before after e whole) (is_world.members_speak before after e whole)
+      (is_world.records_return before after e whole) (λ going. setting.on going before after e whole) (is_world.versions_rise before after e whole) (is_world.members_speak before after e whole)
       (setting.same before after e whole) in
       let last : Hosts = after_hosts w is_world ticket setting (record hosts { now = e.time }) went.entries in
       record {

@@ -7,7 +7,7 @@ use Rattle.booth_world.specs.Facts.{Has, Release}
 use Rattle.booth_world.specs.Growth.{ShadowsGrow}
 use Rattle.booth_world.specs.Hosts.{opening_hosts}
 use Rattle.booth_world.specs.Revocations.{AtSome}
-use Rattle.booth_world.proofs.Configured.{setting_of}
+use Rattle.booth_world.proofs.Configured.{going_on, setting_of}
 use Rattle.booth_world.proofs.CoreReads.{all_read, opening_read, read_more, ReadsIn, start_more, starts_are_second, StartsIn}
 use Rattle.booth_world.proofs.CoreRuns.{all_are_second, all_released, runs_of}
 use Rattle.booth_world.proofs.CoreSteps.{opens}
@@ -33,8 +33,8 @@ at_last before (x ∷ xs) ys P at =
 -- ---- the later shadow
 
 pub shadows_grow : ShadowsGrow
-shadows_grow w is_world ticket automatic early late between later =
-    let setting = setting_of w is_world.form ticket automatic.0 automatic.1 in
+shadows_grow w is_world going recs ticket automatic early late between later =
+    let setting = going_on w ticket going recs (setting_of w is_world.form ticket automatic.0 automatic.1) in
     let c = cluster w ticket setting in
     let k = cast w ticket setting in
     let clocks = has_clocks w is_world.rising_clocks ticket setting (begins_free w is_world ticket setting) in

@@ -28,10 +28,11 @@ use Rattle.booth_host.specs.declared.entry.Entry.{Entry}
 use Rattle.booth_host.specs.declared.entry.Entry.TheVariants as calls
 use Rattle.booth_node.specs.declared.node_config.NodeConfig.{NodeConfig}
 use Rattle.booth_node.specs.Reaction.{Ask, Send, Keep, Start, used}
-use Rattle.booth_node.specs.Records.{Has as Holds, may_after, may_after_all}
+use Rattle.booth_node.specs.Records.{IsSilent, MayRead, GoesOn, Has as Holds, may_after, may_after_all}
 use Rattle.booth_node.specs.Session.{CutSend, SessionEntry, Starts, Makes, IsCut, Stand, Down, Doing, Hearing, MayMake, MayDo, after_call, after_entry, AreSessions, after_entries}
 use Rattle.booth_node.specs.State.{State}
 use Rattle.booth_node.specs.World.{WorldEntry, World, members_of, id_at, IsNodeOf, entries_of, last_time, WasSecond, IsSend, WasSent, HearsSent, stand_after, begins_with, IsUntimedWorld}
+use Rattle.booth_world.specs.Reading.{MayBeRead, IsLaterOrKept}
 use Rattle.booth_world.specs.Cores.{Session}
 use Rattle.booth_world.specs.States.{reads}
 use Rattle.booth_world.specs.Facts.{Has}
@@ -52,6 +53,19 @@ pub has_here : {A : Type 0} (xs : List A) (x : A) → Holds xs x → Has xs x
 has_here [] x h = h
 has_here (y ∷ ys) x (inl e) = inl e
 has_here (y ∷ ys) x (inr h) = inr (has_here ys x h)
+
+-- what a start of the world may read
+pub read_here : (site : Bool) (may : List Record) (k : Record) → MayRead site may k → MayBeRead site may k
+read_here site may k read = ⊎_elim
+    (λ (h : Holds may k). inl (has_here may k h))
+    (λ (silent : IsSilent site may k). inr (record { bare = silent.bare; reaches = λ is. let y = silent.reaches is in (y.0, has_here may y.0 y.1, y.2) }))
+    read
+
+pub goes_here : (may : List Record) (k : Record) → GoesOn may k → IsLaterOrKept may k
+goes_here may k goes = ⊎_elim
+    (λ (h : Holds may k). inl (has_here may k h))
+    (λ (y : (z : Record) × Holds may z × (z.term < k.term)). inr (y.0, has_here may y.0 y.1, y.2))
+    goes
 
 pub entries_join : (m : ℕ) (xs ys : List WorldEntry) → entries_of m (xs ++ ys) ≡ entries_of m xs ++ entries_of m ys
 entries_join m [] ys = refl
@@ -190,8 +204,8 @@ module _ (w : World) (is_world : IsUntimedWorld w) (ticket : TicketConf) (settin
   IdlesAt m (Hearing node old answer bytes) =
       IsNodeOf w m node × IsWithout ticket.name old × (position (is_called ticket.name) node.config.tickets ≡ None)
 
-  -- it is down, or in a session that has the ticket, which is its last one; or in one that has not, where its host is as
-  -- the last one left it
+  -- it is down, or in a session that has the ticket, which is its last one; or in one that has not, where its host is
+  -- as the last one left it
   abbrev pub IsAt : ℕ → Stand → LastStand → HostPlace → List MemberMessage → Type 0
   IsAt m stand last p sent =
       (StandsAt w ticket setting m p.session stand p sent × ((stand ≡ Down) ⊎ ((last.now ≡ true) × (stand ≡ last.stand))))

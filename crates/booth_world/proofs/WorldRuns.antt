@@ -11,6 +11,7 @@ use Rattle.booth_rec.specs.declared.record.Lease.{Lease}
 use Rattle.booth_rec.specs.declared.record.Record.{Record}
 use Rattle.booth_rec.specs.Record.{IsInForce}
 use Rattle.booth_host.specs.declared.entry.Entry.TheVariants as calls
+use Rattle.booth_node.specs.Opening.{is_site_at}
 use Rattle.booth_node.specs.declared.node_config.NodeConfig.{NodeConfig}
 use Rattle.booth_node.specs.State.{State}
 use Rattle.booth_world.specs.Rules.{MemberMessage}
@@ -386,10 +387,10 @@ module _ (w : World) (is_world : IsUntimedWorld w) (ticket : TicketConf) (settin
   left_second all before (e ∷ between) after whole version (inr later) =
       left_second all (before ++ e ∷ []) between after (whole ∙ sym (append_both before (e ∷ []) (between ++ after))) version later
 
-  pub terms_rise : IsTimed (cluster w ticket setting) → IsSecondWorld w → (early late : Moment w) (between : List WorldEntry) → IsLater w early late between → (s t : ℕ) → s ≢ t
+  pub terms_rise : IsTimed (cluster w ticket setting) → setting.goes_on ≡ true → IsSecondWorld w → (early late : Moment w) (between : List WorldEntry) → IsLater w early late between → (s t : ℕ) → s ≢ t
       → (kept other : Record) (first second : Lease) → kept.lease ≡ Some first → other.lease ≡ Some second
       → HoldsBy w ticket s early kept → HoldsBy w ticket t late other → first.term < second.term
-  terms_rise timed all early late between later s t ne kept other first second is_first is_second by_s by_t =
+  terms_rise timed on all early late between later s t ne kept other first second is_first is_second by_s by_t =
       let r = reached early in
       let hosts : Hosts = after_hosts w is_world ticket setting Opening r.entries in
       let q = reached_later early late between hosts later r.now_is r.shadow in
@@ -398,7 +399,7 @@ module _ (w : World) (is_world : IsUntimedWorld w) (ticket : TicketConf) (settin
       late.whole ∙ ap (λ (es : List WorldEntry). es ++ late.after) later.entries ∙ append_both early.before between late.after in
       later_host (cluster w ticket setting) (cast w ticket setting) r.entries q.entries
       (record { clocks = has_clocks w is_world.rising_clocks ticket setting begins_free; is_cast = is_cast; hosted_early = r.hosted_all; hosted_late = q.hosted_all })
-      timed (all_boots_second r.entries (λ v h. left_second all [] early.before early.after early.whole v (r.started v h)))
+      timed on (all_boots_second r.entries (λ v h. left_second all [] early.before early.after early.whole v (r.started v h)))
       (all_boots_second q.entries (λ v h. left_second all early.before between late.after whole v (q.started v h)))
       s t ne kept other first second is_first is_second
       (holds_so early s hosts r.now_is r.shadow kept by_s) (holds_so late t last q.now_is q.shadow other by_t)
@@ -480,13 +481,14 @@ module _ (w : World) (is_world : IsUntimedWorld w) (ticket : TicketConf) (settin
       by_tree (Some (Does ask go)) is g = of_may k g
 
   pub terms_hold : (early late : Moment w) (between : List WorldEntry) → IsLater w early late between → (s term : ℕ) → s < members_of w
+      → (is_site_at w.members s ≡ true) ⊎ (setting.goes_on ≡ true)
       → ((k : Record) → Holds (may_at w ticket s early) k → term ≤ k.term)
       → (k : Record) → Holds (may_at w ticket s late) k → term ≤ k.term
-  terms_hold early late between later s term below least k h =
+  terms_hold early late between later s term below on least k h =
       let r = reached early in
       let hosts : Hosts = after_hosts w is_world ticket setting Opening r.entries in
       let q = reached_later early late between hosts later r.now_is r.shadow in
       let last : Hosts = after_hosts w is_world ticket setting hosts q.entries in
       host_terms (cluster w ticket setting) (cast w ticket setting) r.entries q.entries
       (record { clocks = has_clocks w is_world.rising_clocks ticket setting begins_free; is_cast = is_cast; hosted_early = r.hosted_all; hosted_late = q.hosted_all })
-      s term below (at_host early s term below least) k (covers late s below last q.shadow k h)
+      s term below on (at_host early s term below least) k (covers late s below last q.shadow k h)

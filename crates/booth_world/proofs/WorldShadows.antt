@@ -40,7 +40,7 @@ use Rattle.booth_world.proofs.CoreRuns.{runs_of, held, all_released}
 use Rattle.booth_world.proofs.HostSteps.{HostsHold, follow_all, opens_hosts, host_held}
 use Rattle.booth_world.proofs.WorldSteps.{Frees, Reads, Setting, Seats, same_bytes, cluster, setup_at, cast}
 use Rattle.booth_world.proofs.NodeTurns.{IsPlacedAt}
-use Rattle.booth_world.proofs.Configured.{names_apart, no_position, setting_of}
+use Rattle.booth_world.proofs.Configured.{names_apart, no_position, going_on, setting_of}
 use Rattle.booth_world.proofs.Lists.{some_same}
 use Rattle.booth_world.proofs.WorldEntries.{has_clocks}
 use Rattle.booth_world.proofs.WorldHosts.{has_here, no_stand, after_hosts, may_of, IsAt, Shadows}
@@ -93,7 +93,7 @@ module _ (w : World) (is_world : IsUntimedWorld w) (ticket : TicketConf) (settin
       → CoresHold (cluster w ticket setting) (cast w ticket setting) cores state
       → (m : ℕ) → m < members_of w → (node : NodeConfig) (resting : State) → RestsIn (stand_after m moment.before) node resting
       → (place : ℕ) (own : TicketConf) → slice_get node.config.tickets place ≡ Some own → own.name ≡ ticket.name
-      → Knows w ticket m node place own resting state
+      → Knows w setting.goes_on ticket m node place own resting state
   knows_at cores state hold core_hold m below node resting rests place own there named =
       by_stand (stand_after m moment.before) (shadow.each m below).at rests
     where
@@ -110,7 +110,7 @@ module _ (w : World) (is_world : IsUntimedWorld w) (ticket : TicketConf) (settin
       by_view : (n : NodeConfig) (left : State) → slice_get n.config.tickets place ≡ Some own → (seats : Seats w ticket setting m session n)
           → (view : View) → (hosts.place m).tree ≡ Some (Ends view)
           → IsPlacedAt (setup_at w ticket setting m session) seats.place view left.tickets → left.last_reading ≡ (hosts.place m).reading
-          → Knows w ticket m n place own left state
+          → Knows w setting.goes_on ticket m n place own left state
       by_view n left at_place seats view is at reading =
           let idle = ((hold.each m below).stands_at (Ends view) is).0 in
           let one : seats.place ≡ place =
@@ -131,10 +131,10 @@ module _ (w : World) (is_world : IsUntimedWorld w) (ticket : TicketConf) (settin
           }
 
       moved : (n : NodeConfig) (left : State) → (n ≡ node) × (left ≡ resting)
-          → (slice_get n.config.tickets place ≡ Some own → Knows w ticket m n place own left state) → Knows w ticket m node place own resting state
+          → (slice_get n.config.tickets place ≡ Some own → Knows w setting.goes_on ticket m n place own left state) → Knows w setting.goes_on ticket m node place own resting state
       moved n left same k =
-          subst (λ (s : State). Knows w ticket m node place own s state) same.1
-          (subst (λ (c : NodeConfig). Knows w ticket m c place own left state) same.0
+          subst (λ (s : State). Knows w setting.goes_on ticket m node place own s state) same.1
+          (subst (λ (c : NodeConfig). Knows w setting.goes_on ticket m c place own left state) same.0
           (k (subst (λ (c : NodeConfig). slice_get c.config.tickets place ≡ Some own) (sym same.0) there)))
 
       -- a session without the ticket has no such place
@@ -143,7 +143,7 @@ module _ (w : World) (is_world : IsUntimedWorld w) (ticket : TicketConf) (settin
           no_position (is_called ticket.name) n.config.tickets place own none at_place (same_bytes ticket.name own.name (sym named))
 
       by_stand : (stand : Stand) → IsAt w is_world ticket setting m stand last (hosts.place m) hosts.sent
-          → RestsIn stand node resting → Knows w ticket m node place own resting state
+          → RestsIn stand node resting → Knows w setting.goes_on ticket m node place own resting state
       by_stand (Doing n (Ends left)) (inl x) r =
           moved n left r (λ at_place. by_view n left at_place x.0.0 x.0.5.view
           (x.0.3 ∙ ap (λ (t : TurnTree). Some t) x.0.5.ended) x.0.5.at x.0.5.moment_is)
@@ -182,8 +182,8 @@ read_in w is_world ticket setting before m reading time k t same_m same_t is at 
           (ap (λ (j : ℕ). clock_at w j left.0.time) (sym left.2.0) ∙ ap (λ (n : ℕ). clock_at w k n) (sym left.2.1) ∙ sym is) left.2.2;
     }
 
--- The shadow of a moment, by hosts, cores and steps that stand as its entries leave them. Each release of the cores is an
--- entry's, and so is each reading that a mark is of.
+-- The shadow of a moment, by hosts, cores and steps that stand as its entries leave them. Each release of the cores is
+-- an entry's, and so is each reading that a mark is of.
 abbrev pub shadow_by : (w : World) (is_world : IsUntimedWorld w) (ticket : TicketConf) (setting : Setting w ticket) (moment : Moment w)
     (hosts : Hosts) (cores : Cores) (steps : List WorldStep) (P : ℕ → ℕ → Type 0)
     → hosts.now ≡ moment.time → Shadows w is_world ticket setting moment.before hosts
@@ -193,7 +193,7 @@ abbrev pub shadow_by : (w : World) (is_world : IsUntimedWorld w) (ticket : Ticke
     → ((z : Release) → Has cores.releases z → IsLeftIn w is_world ticket setting [] moment.before (Frees z))
     → AreRead (cluster w ticket setting) (cast w ticket setting) P cores
     → ((k t : ℕ) → P k t → IsLeftIn w is_world ticket setting [] moment.before (Reads k t))
-    → HasShadow w ticket moment
+    → HasShadow w setting.goes_on ticket moment
 shadow_by w is_world ticket setting moment hosts cores steps P now_is shadow hold run holds released are read = record {
   steps = steps;
   run = run;
@@ -233,8 +233,8 @@ shadow_by w is_world ticket setting moment hosts cores steps P now_is shadow hol
 }
 
 pub worlds_have_shadows : WorldsHaveShadows
-worlds_have_shadows w is_world ticket automatic moment =
-    let setting = setting_of w is_world.form ticket automatic.0 automatic.1 in
+worlds_have_shadows w is_world going recs ticket automatic moment =
+    let setting = going_on w ticket going recs (setting_of w is_world.form ticket automatic.0 automatic.1) in
     let c = cluster w ticket setting in
     let k = cast w ticket setting in
     let r = reached w is_world ticket setting moment in

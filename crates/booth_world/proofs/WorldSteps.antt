@@ -17,7 +17,7 @@ use Rattle.booth_node.specs.Reaction.{Ask, Send, Keep, Start}
 use Rattle.booth_node.specs.Records.{may_after_keep}
 use Rattle.booth_node.specs.Session.{SessionEntry, Starts, Stand, Down, Doing, Hearing}
 use Rattle.booth_node.specs.State.{State}
-use Rattle.booth_node.specs.World.{World, AtEach, members_of, id_at, clock_at, IsNodeOf, StartsWithIt}
+use Rattle.booth_node.specs.World.{World, AtEach, members_of, id_at, clock_at, IsNodeOf, StartsWithIt, RecordsGoOn}
 use Rattle.booth_world.specs.Facts.{Release}
 use Rattle.booth_world.specs.States.{put, Cluster, reads}
 use Rattle.booth_world.specs.Rules.{MemberMessage}
@@ -35,7 +35,7 @@ use Rattle.booth_world.proofs.NodeTrees.{IsFew}
 use Rattle.booth_world.proofs.NodeTurns.{IsPlacedAt, Over}
 use Rattle.booth_world.proofs.HostRuns.{IsOf, of_none, of_both, says, AreSaid, all_said, at_ask}
 use Rattle.std.proofs.lemmas.Slice.Eq.{bytes_eq-Decides}
-use Rattle.booth_world.specs.Clusters.{cluster_of}
+use Rattle.booth_world.specs.Clusters.{cluster_going}
 
 -- ---- what entries leave behind
 
@@ -75,13 +75,16 @@ abbrev pub setup_for : World → TicketConf → ℕ → Session → Setup
 setup_for w ticket m session = setup_by ticket.name ticket.times w.members (id_at w m) m session.rank session.second
 
 -- What sound configurations give: each member's id is its own, the starts agree on the ticket, which is granted by
--- votes, and each member's setup, in any session, is one that the rules take. Numbers of jobs are below `most`.
+-- votes, and each member's setup, in any session, is one that the rules take. Numbers of jobs are below `most`. And
+-- whether each start of the world goes on.
 pub record Setting (w : World) (ticket : TicketConf) : Type 0 where
   pub most : ℕ
   pub enough : 2 ^ 64 ≤ most
   pub automatic : ticket.manual ≡ false
   pub ids : (m : ℕ) → m < members_of w → position (has_id (id_at w m)) w.members ≡ Some m
   pub same : AtEach w (λ before entry. StartsWithIt ticket entry.what)
+  pub goes_on : Bool
+  pub on : goes_on ≡ true → RecordsGoOn w
   pub sound : (m : ℕ) → m < members_of w → (session : Session) → IsSound (setup_for w ticket m session)
 
 pub same_bytes : (a b : List ℕ) → a ≡ b → bytes_eq a b ≡ true
@@ -99,7 +102,7 @@ other_bytes a b ne = by_test (bytes_eq a b) refl
 
 module _ (w : World) (ticket : TicketConf) (setting : Setting w ticket) where
   abbrev pub cluster : Cluster
-  cluster = cluster_of w ticket
+  cluster = cluster_going setting.goes_on w ticket
 
   abbrev pub setup_at : ℕ → Session → Setup
   setup_at m session = setup_for w ticket m session

@@ -9,7 +9,8 @@ use Rattle.booth_raft.specs.Facts.{ViewFacts}
 use Rattle.booth_raft.specs.Members.{is_leader}
 use Rattle.booth_raft.specs.RoundsAndAnswers.{MayAnswer}
 use Rattle.booth_raft.specs.Sound.{IsSound}
-use Rattle.booth_world.specs.Facts.{Has, Facts}
+use Rattle.booth_world.specs.Reading.{MayBeRead, IsLaterOrKept}
+use Rattle.booth_world.specs.Facts.{Facts}
 use Rattle.booth_world.specs.States.{MemberState, WorldState, opening, Cluster, HasClocks}
 use Rattle.booth_world.specs.Rounds.{MayPromise}
 use Rattle.booth_world.specs.Steps.{MemberStep, WorldStep, IsRun, after_steps, world_of}
@@ -113,8 +114,8 @@ MayCall c w member RenewsLease = IsTrue (is_leader member.view.role)
 MayCall c w member (GivesBack reason) = IsTrue member.setup.site
 MayCall c w member call = Unit {0}
 
--- A member that is down starts with a record that it may have written. Its session may be of either version, but not
--- of version 1 after one of version 2.
+-- A member that is down starts with a record that it may have written, or with a silent record. Its session may be of
+-- either version, but not of version 1 after one of version 2.
 abbrev pub StartsAreSteps : Rules → Type 0
 StartsAreSteps rules =
     (c : Cluster) → HasClocks c → (steps : List WorldStep) → IsRun c (opening c) steps
@@ -122,7 +123,8 @@ StartsAreSteps rules =
     → AreIds c.members id_of → m < c.members → IsSeated c id_of m second setup
     → ((world_of c steps).member m).up ≡ false
     → (((world_of c steps).member m).second ≡ true → second ≡ true)
-    → (kept : Record) → Has (records_in id_of ((world_of c steps).member m).may) kept
+    → (kept : Record) → MayBeRead (c.is_site m) (records_in id_of ((world_of c steps).member m).may) kept
+    → (c.goes_on ≡ true → IsLaterOrKept (records_in id_of ((world_of c steps).member m).may) kept)
     → GivesIn second c id_of (world_of c steps) m (given_by_start rules (world_of c steps) m setup kept)
 
 -- Each start, each call and each result of a write gives steps. The result of a write may come later than its call,

@@ -1,5 +1,5 @@
 -- The cluster of one automatic ticket of a world.
-use Rattle.std.specs.Prelude.{ℕ, Option, Some, None, position, unwrap_or, if◌then◌else◌}
+use Rattle.std.specs.Prelude.{ℕ, Bool, false, Option, Some, None, position, unwrap_or, if◌then◌else◌}
 use Rattle.booth_base.specs.declared.address.MemberId.{MemberId}
 use Rattle.booth_conf.specs.Config.{has_id}
 use Rattle.booth_conf.specs.declared.tickets.TicketConf.{TicketConf}
@@ -33,9 +33,10 @@ kept_at w kept = record {
       else None;
 }
 
--- The cluster of a ticket, from the world's members, clocks and configuration.
-abbrev pub cluster_of : World → TicketConf → Cluster
-cluster_of w ticket = record {
+-- The cluster of a ticket, from the world's members, clocks and configuration. If `going` is true, each of its starts
+-- goes on from a record that its member may have written, or in a later term.
+abbrev pub cluster_going : Bool → World → TicketConf → Cluster
+cluster_going going w ticket = record {
   members = members_of w;
   is_site = is_site_at w.members;
   times = ticket.times;
@@ -43,4 +44,9 @@ cluster_of w ticket = record {
   span = w.span;
   clock = w.clock;
   begins = λ m. record { second = (w.begins m).second; kept = kept_at w (begins_with w m ticket.name) };
+  goes_on = going;
 }
+
+-- The same cluster, whose starts may read each silent record.
+abbrev pub cluster_of : World → TicketConf → Cluster
+cluster_of w ticket = cluster_going false w ticket

@@ -77,12 +77,12 @@ CoresAreApart =
     ⊎ ((release : Release) × IsReleaseIn c cast (early_cores c cast early) late release
     × GivesBackLease s k.lease release)
 
--- If each record that a member may have written has at least this term, then so has each record that it may have
--- written later.
+-- If each record that a site may have written has at least this term, then so has each record that it may have written
+-- later. The same holds for an arbitrator if each start goes on.
 abbrev pub CoreTermsNeverFall : Type 0
 CoreTermsNeverFall =
     (c : Cluster) (cast : Cast) (early late : List CoreEntry) → CoreCourse c cast early late
-    → (s term : ℕ) → s < c.members
+    → (s term : ℕ) → s < c.members → (c.is_site s ≡ true) ⊎ (c.goes_on ≡ true)
     → ((k : Record) → Has ((early_cores c cast early).place s).may k → term ≤ k.term)
     → (k : Record) → Has ((late_cores c cast early late).place s).may k → term ≤ k.term
 
@@ -97,11 +97,11 @@ abbrev pub AreSecondStarts : List CoreEntry → Type 0
 AreSecondStarts [] = Unit {0}
 AreSecondStarts (entry ∷ entries) = IsSecondStart entry × AreSecondStarts entries
 
--- If each start is of version 2, and two members hold by leases, one after the other, the later lease has the greater
--- term.
+-- If each start is of version 2 and goes on, and two members hold by leases, one after the other, the later lease has
+-- the greater term.
 abbrev pub LaterCoreHasLaterTerm : Type 0
 LaterCoreHasLaterTerm =
-    (c : Cluster) (cast : Cast) (early late : List CoreEntry) → CoreCourse c cast early late → IsTimed c
+    (c : Cluster) (cast : Cast) (early late : List CoreEntry) → CoreCourse c cast early late → IsTimed c → c.goes_on ≡ true
     → AreSecondStarts early → AreSecondStarts late
     → (s t : ℕ) → s ≢ t → (k n : Record) (first second : Lease)
     → k.lease ≡ Some first → n.lease ≡ Some second

@@ -15,6 +15,7 @@ use Rattle.booth_raft.specs.Sound.{IsSound}
 use Rattle.booth_world.specs.Facts.{Has, Release}
 use Rattle.booth_world.specs.States.{put, Cluster, reads}
 use Rattle.booth_world.specs.Agreement.{AreIds, IsSeated, record_in}
+use Rattle.booth_world.specs.Reading.{MayBeRead, IsLaterOrKept}
 use Rattle.booth_world.specs.Rules.{MemberMessage, CoreCall, Asks, Hears, MakesNote, RenewsLease, GivesBack, lease_rules}
 use Rattle.booth_world.specs.Gives.{Mark, Given, given_by, may_answered, releases_answered}
 
@@ -111,8 +112,8 @@ MayCallCore cast cores m view (Hears message) =
 MayCallCore cast cores m view call = MayCallAlone (setup_in cast cores m) view call
 
 -- The condition of an entry. While a write waits, the member does not call its core, and in version 2 it does not
--- read its clock either. A start reads one of the records that may have been written, and is not of version 1 after
--- one of version 2.
+-- read its clock either. A start reads one of the records that may have been written, or a silent record, and is not of
+-- version 1 after one of version 2.
 abbrev pub MayEnter : Cluster → Cast → Cores → CoreEntry → Type 0
 MayEnter c cast cores (TimePasses time) = (cores.now ≤ time) × (time < c.span)
 MayEnter c cast cores (ReadsTime m time) =
@@ -129,8 +130,9 @@ MayEnter c cast cores (HasAnswer m kept ok) =
 MayEnter c cast cores (Stops m) =
     (m < c.members) × IsSomeAnd (cores.place m).view (λ view. Unit {0})
 MayEnter c cast cores (StartsWith m session kept) =
-    (m < c.members) × ((cores.place m).view ≡ None) × Has (cores.place m).may kept
+    (m < c.members) × ((cores.place m).view ≡ None) × MayBeRead (c.is_site m) (cores.place m).may kept
     × ((cores.place m).session.second ≡ true → session.second ≡ true)
+    × (c.goes_on ≡ true → IsLaterOrKept (cores.place m).may kept)
 
 -- ---- the state after an entry
 

@@ -36,6 +36,7 @@ three = record {
   span = 8;
   clock = clock_of;
   begins = λ m. begins_bare;
+  goes_on = true;
 }
 
 -- ---- the steps of the members
@@ -123,7 +124,7 @@ crashed_and_started =
 
 -- ---- a member whose view agrees with its state
 
--- The id of the member at a place is the place's number.
+-- The id of the member with this index is the place's number.
 abbrev pub id_of_place : ℕ → MemberId
 id_of_place m = record { 0 = m }
 

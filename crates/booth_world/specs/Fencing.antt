@@ -1,6 +1,6 @@
--- The terms of leases distinguish them, whatever clocks do. No definition here has a premise on a clock, not even
--- that it never falls.
-use Rattle.std.specs.Prelude.{◌≡◌, ◌≢◌, ◌⊎◌, ◌++◌, ℕ, ◌<◌, ◌≤◌, false, Some, List}
+-- The terms of leases distinguish them, whatever clocks do, if each start goes on. No definition here has a premise on
+-- a clock, not even that it never falls.
+use Rattle.std.specs.Prelude.{◌≡◌, ◌≢◌, ◌⊎◌, ◌++◌, ℕ, ◌<◌, ◌≤◌, true, false, Some, List}
 use Rattle.booth_conf.specs.declared.tickets.TicketConf.{TicketConf}
 use Rattle.booth_rec.specs.declared.record.Lease.{Lease}
 use Rattle.booth_rec.specs.declared.record.Record.{Record}
@@ -20,10 +20,11 @@ pub record HasGained (c : Cluster) (w : WorldState) (s : ℕ) (lease : Lease) : 
   pub has : kept.lease ≡ Some lease
   pub fresh : (c.begins s).kept.lease ≢ Some lease
 
--- If each start is of version 2, two gained leases with the same term belong to one member.
+-- If each start is of version 2 and goes on, two gained leases with the same term belong to one member.
 abbrev pub TermsAreOfOneMember : Type 0
 TermsAreOfOneMember =
-    (c : Cluster) (early late : List WorldStep) → IsRun c (opening c) (early ++ late) → AreSecond (early ++ late)
+    (c : Cluster) → c.goes_on ≡ true
+    → (early late : List WorldStep) → IsRun c (opening c) (early ++ late) → AreSecond (early ++ late)
     → (s t : ℕ) (first second : Lease)
     → HasGained c (world_of c early) s first → HasGained c (world_of c (early ++ late)) t second
     → first.term ≡ second.term → s ≡ t
@@ -36,7 +37,8 @@ IsBelow w s term = (k : KeptRecord) → Has (w.member s).may k → k.term < term
 -- gained.
 abbrev pub LaterAskersHaveLaterTerms : Type 0
 LaterAskersHaveLaterTerms =
-    (c : Cluster) (early late : List WorldStep) → IsRun c (opening c) (early ++ late) → AreSecond (early ++ late)
+    (c : Cluster) → c.goes_on ≡ true
+    → (early late : List WorldStep) → IsRun c (opening c) (early ++ late) → AreSecond (early ++ late)
     → (s t : ℕ) (first second : Lease)
     → HasGained c (world_of c early) s first → HasGained c (world_of c (early ++ late)) t second
     → IsBelow (world_of c early) t second.term
@@ -46,7 +48,8 @@ LaterAskersHaveLaterTerms =
 -- term. In the same term, both leases belong to the same site.
 abbrev pub LaterRoundsHaveLaterTerms : Type 0
 LaterRoundsHaveLaterTerms =
-    (c : Cluster) (early late : List WorldStep) → IsRun c (opening c) (early ++ late) → AreSecond (early ++ late)
+    (c : Cluster) → c.goes_on ≡ true
+    → (early late : List WorldStep) → IsRun c (opening c) (early ++ late) → AreSecond (early ++ late)
     → (g h : Gain) → Has (world_of c early).facts.leases g → Has (world_of c (early ++ late)).facts.leases h
     → (Has (world_of c early).facts.rounds h.round → ⊥)
     → (g.round.term ≤ h.round.term) × (g.round.term ≡ h.round.term → g.round.site ≡ h.round.site)
@@ -59,7 +62,8 @@ HasNot w s lease = (k : KeptRecord) → Has (w.member s).may k → k.lease ≢ S
 -- leases of one term belong to one run of its daemon.
 abbrev pub LivesHaveTheirTerms : Type 0
 LivesHaveTheirTerms =
-    (c : Cluster) (early late : List WorldStep) → IsRun c (opening c) (early ++ late) → AreSecond (early ++ late)
+    (c : Cluster) → c.goes_on ≡ true
+    → (early late : List WorldStep) → IsRun c (opening c) (early ++ late) → AreSecond (early ++ late)
     → (s : ℕ) (first second : Lease) → ((world_of c early).member s).up ≡ false
     → HasGained c (world_of c early) s first → HasGained c (world_of c (early ++ late)) s second
     → HasNot (world_of c early) s second

@@ -90,12 +90,12 @@ HostsAreApart =
     ⊎ ((release : Release) × IsHostReleaseIn c cast (early_hosts c cast early) late release
     × GivesBackLease s k.lease release)
 
--- If each record that a member's writes may have left has at least this term, then so has each record that they may
--- have left later.
+-- If each record that a site's writes may have left has at least this term, then so has each record that they may have
+-- left later. The same holds for an arbitrator if each start goes on.
 abbrev pub HostTermsNeverFall : Type 0
 HostTermsNeverFall =
     (c : Cluster) (cast : Cast) (early late : List HostEntry) → HostCourse c cast early late
-    → (s term : ℕ) → s < c.members
+    → (s term : ℕ) → s < c.members → (c.is_site s ≡ true) ⊎ (c.goes_on ≡ true)
     → ((k : Record) → Has (host_may (early_hosts c cast early) s) k → term ≤ k.term)
     → (k : Record) → Has (host_may (late_hosts c cast early late) s) k → term ≤ k.term
 
@@ -110,11 +110,11 @@ abbrev pub AreSecondBoots : List HostEntry → Type 0
 AreSecondBoots [] = Unit {0}
 AreSecondBoots (entry ∷ entries) = IsSecondBoot entry × AreSecondBoots entries
 
--- If each start is of version 2, and two members hold by leases, one after the other, the later lease has the greater
--- term.
+-- If each start is of version 2 and goes on, and two members hold by leases, one after the other, the later lease has
+-- the greater term.
 abbrev pub LaterHostHasLaterTerm : Type 0
 LaterHostHasLaterTerm =
-    (c : Cluster) (cast : Cast) (early late : List HostEntry) → HostCourse c cast early late → IsTimed c
+    (c : Cluster) (cast : Cast) (early late : List HostEntry) → HostCourse c cast early late → IsTimed c → c.goes_on ≡ true
     → AreSecondBoots early → AreSecondBoots late
     → (s t : ℕ) → s ≢ t → (k n : Record) (first second : Lease)
     → k.lease ≡ Some first → n.lease ≡ Some second

@@ -9,6 +9,7 @@ use Rattle.booth_raft.specs.declared.view.View.{View}
 use Rattle.booth_world.specs.Facts.{Has}
 use Rattle.booth_world.specs.States.{put, Cluster, reads}
 use Rattle.booth_world.specs.Agreement.{record_in}
+use Rattle.booth_world.specs.Reading.{MayBeRead, IsLaterOrKept}
 use Rattle.booth_world.specs.Rules.{MemberMessage, lease_rules}
 use Rattle.booth_world.specs.Cores.{Session, opening_session, Cast}
 use Rattle.booth_world.specs.Turns.{TicketAsk, Keeps, Sends, TurnTree, Plan, turn_tree, MayTurn}
@@ -78,8 +79,8 @@ abbrev pub MayCome : Cast → Hosts → MemberMessage → Type 0
 MayCome cast hosts message =
     (Has hosts.sent message) × (message.head.from ≡ cast.id_of message.sender)
 
--- The condition of an entry. A start reads the record of the last write that was done, or of a later one that failed
--- or was interrupted. It is not of version 1 after one of version 2.
+-- The condition of an entry. A start reads the record of the last write that was done, or the record of a later write
+-- that failed or was interrupted, or a silent record. It is not of version 1 after one of version 2.
 abbrev pub MayHost : Cluster → Cast → Hosts → HostEntry → Type 0
 MayHost c cast hosts (LetsPass time) = (hosts.now ≤ time) × (time < c.span)
 MayHost c cast hosts (BeginsTurn m time came plan) =
@@ -92,8 +93,9 @@ MayHost c cast hosts (Halts m) =
     (m < c.members) × IsSomeAnd (hosts.place m).tree (λ tree. Unit {0})
 MayHost c cast hosts (Boots m time session kept) =
     (m < c.members) × (hosts.now ≤ time) × (time < c.span)
-    × ((hosts.place m).tree ≡ None) × Has (hosts.place m).may kept
+    × ((hosts.place m).tree ≡ None) × MayBeRead (c.is_site m) (hosts.place m).may kept
     × ((hosts.place m).session.second ≡ true → session.second ≡ true)
+    × (c.goes_on ≡ true → IsLaterOrKept (hosts.place m).may kept)
 
 -- ---- the state after an entry
 

@@ -15,7 +15,7 @@ pub record LastNumbers : Type 0 where
   pub round : (setup : Setup) (view : View) (round : Round) (now : ℕ) → view.round ≡ Some round
       → round.number ≡ 4294967295 → needs_term setup view ≡ false
       → renew setup view now ≡ quiet (record view { due = Some (own_end view) })
-  -- After the last job number but one comes the last, and then the first again.
+  -- The second-to-last job number is followed by the last one, and the last one by the first.
   pub job : number_after 18446744073709551614 ≡ 18446744073709551615
   pub job_again : number_after 18446744073709551615 ≡ 1
   -- A counter stays at its greatest value.

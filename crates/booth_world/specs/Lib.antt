@@ -9,6 +9,7 @@ pub mod Held
 pub mod MemberRuns
 pub mod Messages
 pub mod Agreement
+pub mod Reading
 pub mod Clusters
 pub mod Rules
 pub mod Gives

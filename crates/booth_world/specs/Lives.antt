@@ -1,6 +1,6 @@
 -- The kinds of step by which a member learns a term, crashes and starts, and by which time passes, with the condition
 -- and the effect of each.
-use Rattle.std.specs.Prelude.{◌≡◌, ℕ, ◌+◌, ◌<◌, ◌≤◌, Bool, true, false, Option, Some, None, [], ◌∷◌}
+use Rattle.std.specs.Prelude.{◌≡◌, ◌⊎◌, ℕ, ◌+◌, ◌<◌, ◌≤◌, Bool, true, false, Option, Some, None, List, [], ◌∷◌}
 use Rattle.booth_world.specs.Facts.{Has}
 use Rattle.booth_world.specs.States.{Pledge, KeptRecord, MemberState, WorldState, Cluster, promise_time, reads}
 
@@ -21,14 +21,31 @@ abbrev pub crashing : MemberState → MemberState
 crashing x = record x { up = false }
 
 -- ---- a start
--- A member that is down starts with a record that it may have written, in a session of either version; but after a
--- session of version 2 it stays in version 2. With a record of version 2 it has that record's pledge, and abstains no
--- longer than the record states. With any other record it does not know what it promised, so it answers no round for
--- the time of a whole promise.
+-- A member that is down starts with a record that it may have written, or with a silent record, in a session of either
+-- version; but after a session of version 2 it stays in version 2. With a record of version 2 it has that record's
+-- pledge, and abstains no longer than the record states. With any other record it does not know what it promised, so it
+-- answers no round for the time of a whole promise.
 
-pub record MayStart (x : MemberState) (kept : KeptRecord) (second : Bool) : Type 0 where
+-- A silent record states no promise and has no lease. An arbitrator's may have any term, so a missing record is one
+-- too. A site's has at least the term of a record that the member may have written. In a smaller term the site may have
+-- opened a round or released a lease before, and late messages of that would count again.
+pub record IsSilent (site : Bool) (may : List KeptRecord) (kept : KeptRecord) : Type 0 where
+  pub unpledged : kept.pledge ≡ None
+  pub free : kept.lease ≡ None
+  pub reaches : site ≡ true → (k : KeptRecord) × Has may k × (k.term ≤ kept.term)
+
+-- A start may read a record that its member may have written, or a silent record.
+abbrev pub MayRead : Bool → List KeptRecord → KeptRecord → Type 0
+MayRead site may kept = Has may kept ⊎ IsSilent site may kept
+
+-- The member may have written the record, or has a record that it may have written with a smaller term.
+abbrev pub GoesOn : List KeptRecord → KeptRecord → Type 0
+GoesOn may kept = Has may kept ⊎ ((k : KeptRecord) × Has may k × (k.term < kept.term))
+
+pub record MayStart (c : Cluster) (m : ℕ) (x : MemberState) (kept : KeptRecord) (second : Bool) : Type 0 where
   pub down : x.up ≡ false
-  pub fact : Has x.may kept
+  pub read : MayRead (c.is_site m) x.may kept
+  pub on : c.goes_on ≡ true → GoesOn x.may kept
   pub stays : x.second ≡ true → second ≡ true
 
 -- The pledge after a start at this reading, from the record's pledge.

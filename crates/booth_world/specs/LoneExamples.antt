@@ -21,6 +21,7 @@ lone = record {
   span = 8;
   clock = λ m. exact;
   begins = λ m. begins_bare;
+  goes_on = true;
 }
 
 abbrev pub lone_cast : Name → Cast

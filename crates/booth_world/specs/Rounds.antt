@@ -42,12 +42,11 @@ renewing m x before = record x { round = Some (new_round m x (before.number + 1)
 abbrev pub with_round : Facts → Round → Facts
 with_round f round = record f { rounds = round ∷ f.rounds }
 
--- ---- a promise
--- A member makes a promise to a site for a term if it may answer a round of that site in that term, whatever lease it
--- may have. It may answer if it does not abstain and no promise to another site is live. In addition, the term is new
--- to it, or it is its own term and it has voted for no other site in it. From then on the member is in that term and
--- has voted for that site, and the promise lasts for the time of a whole promise. A round of its own stays open only
--- if it promises itself within its term.
+-- ---- a promise A member makes a promise to a site for a term if it may answer a round of that site in that term,
+-- whatever lease it may have. It may answer if it does not abstain and no promise to another site is live. In addition,
+-- the term is new to it, or it is its own term and it has voted for no other site in it. From then on the member is in
+-- that term and has voted for that site, and the promise lasts for the time of a whole promise. If the member has
+-- opened a round, it stays open only if the promise is to the member itself, for the term that it is in.
 
 pub record MayPromise (c : Cluster) (x : MemberState) (site term : ℕ) : Type 0 where
   pub up : x.up ≡ true

@@ -18,9 +18,9 @@ use Rattle.booth_node.specs.Reaction.{Ask, Send, Keep, Start}
 use Rattle.booth_node.specs.Records.{Has}
 use Rattle.booth_node.specs.Session.{SessionEntry, Starts, Makes, IsCut, Stand, Down, Doing, Hearing, after_call, after_entry}
 use Rattle.booth_node.specs.State.{State}
-use Rattle.booth_node.specs.World.{WorldEntry, World, members_of, id_at, entries_of, IsSend, stand_after, IsUntimedWorld}
+use Rattle.booth_node.specs.World.{WorldEntry, World, members_of, id_at, entries_of, IsSend, stand_after, IsUntimedWorld, RecordsGoOn}
 use Rattle.booth_node.specs.Held.{Moment, IsAutomatic, may_at, Holds}
-use Rattle.booth_world.specs.Clusters.{cluster_of}
+use Rattle.booth_world.specs.Clusters.{cluster_going}
 use Rattle.booth_world.specs.Agreement.{records_in, Agrees}
 use Rattle.booth_world.specs.Facts.{Round, Answer, Release, Has as HasFact}
 use Rattle.booth_world.specs.Held.{Held}
@@ -138,15 +138,15 @@ records_of w state m = records_in (id_at w) (state.member m).may
 -- The node's knowledge about the ticket at its place in the configuration agrees with the member of the steps. Its
 -- rules are of the member's version, its view agrees with the member, no write waits, and the last reading is the
 -- member's.
-pub record Knows (w : World) (ticket : TicketConf) (m : ℕ) (node : NodeConfig) (place : ℕ) (own : TicketConf)
-    (resting : State) (state : WorldState) : Type 0 where
+pub record Knows (w : World) (going : Bool) (ticket : TicketConf) (m : ℕ) (node : NodeConfig) (place : ℕ)
+    (own : TicketConf) (resting : State) (state : WorldState) : Type 0 where
   pub view : View
   pub known : slice_get resting.tickets place
       ≡ Some (record { setup = setup_of node place own; known = Automatic view })
   pub version : node.second ≡ (state.member m).second
   pub none_waits : view.waiting ≡ None
   pub reading : resting.last_reading ≡ (state.member m).reading
-  pub agrees : Agrees (cluster_of w ticket) (id_at w) state.facts m view (state.member m)
+  pub agrees : Agrees (cluster_going going w ticket) (id_at w) state.facts m view (state.member m)
 
 -- The shadow of this moment: steps from the opening state up to it. After these steps the following holds. Each
 -- member's last session is of the version of its last start that has the ticket. The records that a member may have
@@ -155,37 +155,37 @@ pub record Knows (w : World) (ticket : TicketConf) (m : ℕ) (node : NodeConfig)
 -- which the member's turn informs the others. Each round was opened, and each answer given, at a reading that an
 -- entry of the same member took. Each message that an entry sent states a fact: a round was opened, a round was
 -- answered, or a term was released. A member that holds the ticket according to the entries holds it in the state
--- after these steps.
-pub record HasShadow (w : World) (ticket : TicketConf) (moment : Moment w) : Type 0 where
+-- after these steps. If `going` is true, each start among the steps goes on.
+pub record HasShadow (w : World) (going : Bool) (ticket : TicketConf) (moment : Moment w) : Type 0 where
   pub steps : List WorldStep
-  pub run : IsRun (cluster_of w ticket) (opening (cluster_of w ticket)) steps
-  pub now : (world_of (cluster_of w ticket) steps).now ≡ moment.time
+  pub run : IsRun (cluster_going going w ticket) (opening (cluster_going going w ticket)) steps
+  pub now : (world_of (cluster_going going w ticket) steps).now ≡ moment.time
   pub versions : (m : ℕ) → m < members_of w
-      → ((world_of (cluster_of w ticket) steps).member m).second ≡ is_second_at w ticket.name m moment.before
+      → ((world_of (cluster_going going w ticket) steps).member m).second ≡ is_second_at w ticket.name m moment.before
   pub records : (m : ℕ) → m < members_of w → (kept : Record) → Has (may_at w ticket m moment) kept
-      → Has (records_of w (world_of (cluster_of w ticket) steps) m) kept
+      → Has (records_of w (world_of (cluster_going going w ticket) steps) m) kept
   pub no_more : (m : ℕ) → m < members_of w → (kept : Record)
-      → Has (records_of w (world_of (cluster_of w ticket) steps) m) kept
+      → Has (records_of w (world_of (cluster_going going w ticket) steps) m) kept
       → Has (may_at w ticket m moment) kept ⊎ IsComing ticket.name (entries_of m moment.before) kept
   pub knows : (m : ℕ) → m < members_of w → (node : NodeConfig) (resting : State)
       → RestsIn (stand_after m moment.before) node resting
       → (place : ℕ) (own : TicketConf) → slice_get node.config.tickets place ≡ Some own → own.name ≡ ticket.name
-      → Knows w ticket m node place own resting (world_of (cluster_of w ticket) steps)
-  pub releases : (release : Release) → HasFact (world_of (cluster_of w ticket) steps).facts.releases release
+      → Knows w going ticket m node place own resting (world_of (cluster_going going w ticket) steps)
+  pub releases : (release : Release) → HasFact (world_of (cluster_going going w ticket) steps).facts.releases release
       → AtSome [] moment.before
       (λ before entry.
       GivesTermBack w ticket.name entry.member entry.time (stand_after entry.member (before ++ entry ∷ [])) entry.what
       release)
-  pub rounds : (round : Round) → HasFact (world_of (cluster_of w ticket) steps).facts.rounds round
+  pub rounds : (round : Round) → HasFact (world_of (cluster_going going w ticket) steps).facts.rounds round
       → IsReadIn moment.before round.site round.opened round.at
-  pub answers : (answer : Answer) → HasFact (world_of (cluster_of w ticket) steps).facts.answers answer
+  pub answers : (answer : Answer) → HasFact (world_of (cluster_going going w ticket) steps).facts.answers answer
       → IsReadIn moment.before answer.member answer.reading answer.at
   pub said : (m : ℕ) (message : PlainMessage) (part : TicketPart) → IsSentIn ticket.name moment.before m message part
-      → IsFact (id_at w) (world_of (cluster_of w ticket) steps).facts m message.head part message.head.cmd
+      → IsFact (id_at w) (world_of (cluster_going going w ticket) steps).facts m message.head part message.head.cmd
   pub held : (m : ℕ) → Holds w ticket m moment
-      → Held (cluster_of w ticket) (world_of (cluster_of w ticket) steps) m
+      → Held (cluster_going going w ticket) (world_of (cluster_going going w ticket) steps) m
 
 abbrev pub WorldsHaveShadows : Type 0
 WorldsHaveShadows =
-    (w : World) → IsUntimedWorld w → (ticket : TicketConf) → IsAutomatic w ticket
-    → (moment : Moment w) → HasShadow w ticket moment
+    (w : World) → IsUntimedWorld w → (going : Bool) → (going ≡ true → RecordsGoOn w)
+    → (ticket : TicketConf) → IsAutomatic w ticket → (moment : Moment w) → HasShadow w going ticket moment

@@ -1,5 +1,5 @@
--- The parts of a member's agreement with its view that remain while others make steps, while time passes, and while
--- it reads its clock; and runs one after another.
+-- What remains of a member's agreement with its view while others make steps, while time passes, and while it reads its
+-- clock. Also: runs that follow one another.
 use Rattle.std.specs.Prelude.{Bool, true, ◌≡◌, ◌≢◌, ◌++◌, ℕ, ◌<◌, List, [], ◌∷◌, None}
 use Rattle.booth_base.specs.declared.address.MemberId.{MemberId}
 use Rattle.booth_wire.specs.declared.command.Cmd.{Cmd}
@@ -74,7 +74,7 @@ pub record RunsAppend : Type 0 where
   pub second : (c : Cluster) (w : WorldState) (early late : List WorldStep)
       → IsRun c w (early ++ late) → IsRun c (after_steps c w early) late
 
--- None of the steps is one of this member.
+-- No step is a step of this member.
 abbrev pub AreOthers : ℕ → List WorldStep → Type 0
 AreOthers m [] = Unit {0}
 AreOthers m (step ∷ steps) = IsOthers m step × AreOthers m steps

@@ -53,7 +53,8 @@ begins_bare = record { second = false; kept = none_kept }
 
 -- The cluster of one automatic ticket. Its members are the places below `members`. Sites can hold the ticket, and
 -- arbitrators only answer. A member has one clock through all its restarts. `span` is the length of the clocks, and
--- `ticks` is the number of their true times in a millisecond.
+-- `ticks` is the number of their true times in a millisecond. If `goes_on` is true, each start goes on from a record
+-- that its member may have written, or in a later term than the term of such a record.
 pub record Cluster : Type 0 where
   pub members : ℕ
   pub is_site : ℕ → Bool
@@ -62,6 +63,7 @@ pub record Cluster : Type 0 where
   pub span : ℕ
   pub clock : ℕ → List ℕ
   pub begins : ℕ → TicketBeginning
+  pub goes_on : Bool
 
 -- The reading of a member's clock at a true time.
 abbrev pub reads : Cluster → ℕ → ℕ → ℕ

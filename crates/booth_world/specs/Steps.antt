@@ -40,7 +40,7 @@ May c f m x Releases = MayRelease c m x
 May c f m x (Clears release) = MayClear f x release
 May c f m x (Learns term) = MayLearn x term
 May c f m x Crashes = x.up ≡ true
-May c f m x (Starts kept second) = MayStart x kept second
+May c f m x (Starts kept second) = MayStart c m x kept second
 May c f m x ReadsClock = Unit {0}
 
 -- The state of the member after its step.

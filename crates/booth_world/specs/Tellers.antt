@@ -72,7 +72,7 @@ abbrev pub JobTells : List ℕ → Job → Claim → Type 0
 JobTells name job (EndsIn second) = (job.ticket ≡ name) × (job.expires ≡ second) × (0 < second)
 JobTells name job claim = ⊥
 
--- None of these bytes is this one.
+-- This byte is not among these bytes.
 abbrev pub HasNone : ℕ → List ℕ → Type 0
 HasNone b [] = Unit {0}
 HasNone b (x ∷ xs) = (x ≢ b) × HasNone b xs
@@ -118,7 +118,7 @@ SendTells name me address what claim =
 abbrev pub StartTells : List ℕ → SessionEntry → Claim → Type 0
 StartTells name what claim = (job : Job) × IsStart what job × JobTells name job claim
 
--- The address of the member at a place.
+-- The address of the member with this index.
 abbrev pub address_at : World → ℕ → Address
 address_at w m = address_in (slice_get w.members m)
 

@@ -15,7 +15,7 @@ use Rattle.booth_ticket.specs.Ticket.{Automatic}
 use Rattle.booth_node.specs.declared.node_config.NodeConfig.{NodeConfig}
 use Rattle.booth_node.specs.Opening.{setup_of}
 use Rattle.booth_node.specs.State.{State}
-use Rattle.booth_node.specs.World.{WorldEntry, World, members_of, id_at, stand_after, IsSend, IsSecondWorld, IsUntimedWorld}
+use Rattle.booth_node.specs.World.{WorldEntry, World, members_of, id_at, stand_after, IsSend, IsSecondWorld, IsUntimedWorld, RecordsGoOn}
 use Rattle.booth_node.specs.Held.{Moment, IsAutomatic}
 use Rattle.booth_world.specs.Shadows.{RestsIn}
 use Rattle.booth_world.specs.Tellers.{IsNext}
@@ -113,7 +113,7 @@ pub record HasFencingTerms (w : World) : Type 0 where
   pub tellers : TellersOfOneTermIn w
   pub later_tellers : LaterTellersHaveLaterTermsIn w
 
--- The terms of leases are fencing tokens in each world whose sessions are all of version 2, however its clocks drift,
--- stand still and step forward.
+-- The terms of leases are fencing tokens in each world whose sessions are all of version 2 and go on, however its
+-- clocks drift, stand still and step forward.
 abbrev pub WorldsHaveFencingTerms : Type 0
-WorldsHaveFencingTerms = (w : World) → IsUntimedWorld w → IsSecondWorld w → HasFencingTerms w
+WorldsHaveFencingTerms = (w : World) → IsUntimedWorld w → IsSecondWorld w → RecordsGoOn w → HasFencingTerms w

@@ -1,5 +1,5 @@
 -- The three laws (one holder, holders apart, terms never fall), for each ticket of each world of entries.
-use Rattle.std.specs.Prelude.{◌≡◌, ◌≢◌, ◌⊎◌, ◌++◌, ℕ, ◌<◌, ◌≤◌, List, [], ◌∷◌, map, Ok, Some, None}
+use Rattle.std.specs.Prelude.{◌≡◌, ◌≢◌, ◌⊎◌, ◌++◌, ℕ, ◌<◌, ◌≤◌, List, [], ◌∷◌, map, true, Ok, Some, None}
 use Rattle.std.specs.Option.{ForSome}
 use Rattle.booth_conf.specs.declared.tickets.TicketConf.{TicketConf}
 use Rattle.booth_rec.specs.declared.record.Lease.{Lease}
@@ -9,10 +9,11 @@ use Rattle.booth_host.specs.declared.entry.Entry.{Entry}
 use Rattle.booth_host.specs.declared.entry.Entry.TheVariants as calls
 use Rattle.booth_node.specs.declared.node_config.NodeConfig.{NodeConfig}
 use Rattle.booth_node.specs.Log.{IsNodeLog, IsStoppedLog}
+use Rattle.booth_node.specs.Opening.{is_site_at}
 use Rattle.booth_node.specs.State.{State}
 use Rattle.booth_node.specs.Session.{SessionEntry, Makes, Stand, Doing, AreSessions, after_entries}
 use Rattle.booth_node.specs.Records.{Has}
-use Rattle.booth_node.specs.World.{WorldEntry, World, members_of, stand_after, IsOneTicket, IsWorld, IsSecondWorld, IsUntimedWorld}
+use Rattle.booth_node.specs.World.{WorldEntry, World, members_of, stand_after, IsOneTicket, IsWorld, IsSecondWorld, IsUntimedWorld, RecordsGoOn}
 use Rattle.booth_node.specs.Held.{Moment, IsAutomatic, may_at, HoldsBy, Holds}
 use Rattle.booth_world.specs.Clusters.{cluster_of}
 use Rattle.booth_world.specs.Held.{IsApartFrom}
@@ -62,13 +63,13 @@ WorldsAreApart =
     → HoldsBy w ticket s early kept → Holds w ticket t late
     → IsApartFrom (cluster_of w ticket) s kept early.time late.time ⊎ ReleasedIn w ticket s kept early.before between
 
--- If each record that a member may have written for a ticket has at least this term, then so has each record that it
--- may have written later.
+-- If each record that a site may have written for a ticket has at least this term, then so has each record that it may
+-- have written later. The same holds for an arbitrator if each start goes on.
 abbrev pub TermsNeverFallIn : World → Type 0
 TermsNeverFallIn w =
     (ticket : TicketConf) → IsOneTicket w ticket
     → (early late : Moment w) (between : List WorldEntry) → IsLater w early late between
-    → (s term : ℕ) → s < members_of w
+    → (s term : ℕ) → s < members_of w → (is_site_at w.members s ≡ true) ⊎ RecordsGoOn w
     → ((kept : Record) → Has (may_at w ticket s early) kept → term ≤ kept.term)
     → (kept : Record) → Has (may_at w ticket s late) kept → term ≤ kept.term
 
@@ -84,9 +85,9 @@ LaterTermsIn w =
     → kept.lease ≡ Some first → other.lease ≡ Some second
     → HoldsBy w ticket s early kept → HoldsBy w ticket t late other → first.term < second.term
 
--- Later holders have greater terms in each world whose sessions are all of version 2.
+-- Later holders have greater terms in each world whose sessions are all of version 2 and go on.
 abbrev pub LaterHoldersHaveLaterTerms : Type 0
-LaterHoldersHaveLaterTerms = (w : World) → IsWorld w → IsSecondWorld w → LaterTermsIn w
+LaterHoldersHaveLaterTerms = (w : World) → IsWorld w → IsSecondWorld w → RecordsGoOn w → LaterTermsIn w
 
 -- ---- logs of nodes
 

@@ -1,5 +1,7 @@
+use Rattle.std.proofs.Common.{false}
 use Rattle.booth_world.proofs.WorldShadows.{worlds_have_shadows}
 use Rattle.booth_world.proofs.Untimed.{untimed}
+use Rattle.booth_world.proofs.Stays.{not_up}
 use Rattle.booth_examples.specs.TakeOverExample.{taken_over}
 use Rattle.booth_examples.specs.WorldExamples.{web}
 use Rattle.booth_examples.proofs.WorldRuns.{taken_over_is_world, first_holds_it, second_takes_it}
@@ -16,7 +18,7 @@ pub returns-clause-second : goal.returns-clause-second
 returns-clause-second c = second_takes_it
 
 pub returns-clause-shadows : goal.returns-clause-shadows
-returns-clause-shadows c = worlds_have_shadows taken_over (untimed taken_over taken_over_is_world) web first_holds_it.automatic
+returns-clause-shadows c = worlds_have_shadows taken_over (untimed taken_over taken_over_is_world) false (λ e. absurd (not_up e)) web first_holds_it.automatic
 
 pub returns-clause-first_tells : goal.returns-clause-first_tells
 returns-clause-first_tells c = first_tells_it
