@@ -47,7 +47,7 @@ conditions config ring me now bytes l =
     ∷ (names_no_leader config l.head (part_of_member l), faults.Leader)
     ∷ []
 
--- the first of all eight faults: before the seven stands the fault of bytes that are not a frame
+-- the first of all eight faults: the fault of bytes that are not a frame comes before the other seven
 abbrev pub first_fault : ConfigSays → Option Ring → MemberId → ℕ → List ℕ → Option DropFault
 first_fault config ring me now bytes = elim (decoded bytes) [
   | Ok l ↦ first_of (conditions config ring me now bytes l)
@@ -77,7 +77,8 @@ pub record IsMemberCommand (config : ConfigSays) (l : PlainMessage) : Type 0 whe
 abbrev pub HasKey : Ring → List ℕ → Type 0
 HasKey ring key = (ring.first ≡ key) ⊎ (ring.old ≡ Some key)
 
--- One ring accepts what the other seals: it has the key by which the other seals, or has no keys.
+-- One ring accepts the frames that the other one seals: it has the key with which the other one seals, or it has no
+-- keys.
 abbrev pub IsTrusted : Option Ring → Option Ring → Type 0
 IsTrusted None other = other ≡ None
 IsTrusted (Some ring) None = Unit {0}
@@ -94,8 +95,8 @@ SealedIsAccepted =
 
 -- ---- the change of a key, member by member
 
--- A member has the old key alone; then also the new one; then it seals by the new one, and still has the old one;
--- then it has the new one alone.
+-- The steps of a change: a member has only the old key; it also has the new one; it seals with the new one, and still
+-- has the old one; it has only the new one.
 pub data Stage : Type 0 where
   Old : Stage
   Learning : Stage

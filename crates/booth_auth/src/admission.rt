@@ -28,13 +28,13 @@ pub enum DropFault {
     BadMac,
     #[error("the sender's clock is too far behind")]
     TooOld,
-    #[error("nobody may send this command from there")]
+    #[error("this sender may not send this command")]
     Stranger,
-    #[error("it is this member's own")]
+    #[error("the sender's id is this member's own")]
     Own,
     #[error("the ticket is not in the configuration")]
     Ticket,
-    #[error("the leader may not be the leader")]
+    #[error("the message names a holder that is not a site")]
     Leader,
 }
 

@@ -21,7 +21,7 @@ answer_lines (Some answer) = answer_text answer ∷ []
 abbrev pub lines_saying : Said → List (List ℕ)
 lines_saying said = call_text said.call ∷ answer_lines said.answer
 
--- An answer is one that its call may have. A call without an answer is the last, or the next is a reading of the
+-- Each answer is a possible answer to its call. A call without an answer is the last, or the next is a reading of the
 -- clock, which begins a start.
 abbrev pub IsAnswered : Call → Option Answer → List Said → Type 0
 IsAnswered call (Some answer) more = IsAnswerTo call answer × IsAnswer answer

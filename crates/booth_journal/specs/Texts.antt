@@ -65,6 +65,6 @@ HasFault text faults.OutOfMemory = Unit {0}
 abbrev pub JournalsHaveNoFault : Type 0
 JournalsHaveNoFault = (text : List ℕ) (n : ℕ) → IsJournal text → IsFirstFault text n → ⊥
 
--- a text has one first fault
+-- a text has at most one first fault
 abbrev pub TextsHaveOneFault : Type 0
 TextsHaveOneFault = (text : List ℕ) (m n : ℕ) → IsFirstFault text m → IsFirstFault text n → m ≡ n

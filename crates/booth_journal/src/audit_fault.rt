@@ -7,7 +7,7 @@ pub enum AuditFault {
     /// This line cannot be read as a line of a journal.
     #[error("line {line} of journal {journal} is none of a journal")]
     Line { journal: u32, line: u64 },
-    /// The journal is not that of one member, or its member has an earlier one.
+    /// The journal belongs to no member or to several members, or its member has an earlier journal.
     #[error("journal {journal} is not that of one more member")]
     Member { journal: u32 },
     /// This line has another call than the rules demanded.

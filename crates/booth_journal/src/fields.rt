@@ -170,7 +170,7 @@ fn bytes_of(alloc: Global, text: &[u8]) -> Result<ByteText, LineFault>
     Ok(ByteText::from_vec(octets(alloc, text)?))
 }
 
-/// Returns the record whose bytes have this spelling.
+/// Returns the record whose bytes are written as this text.
 pub(crate) fn record_of(alloc: Global, text: &[u8]) -> Result<Record, LineFault>
     ensures { ReadsAs (SpellsRecord text.now) result }
 {

@@ -53,7 +53,7 @@ pub fn look(text: &[u8]) -> Option<Looked<'_>>
     }
 }
 
-/// Returns whether a line is that of a call which opens a socket.
+/// Returns whether a line is the line of a call that opens a socket.
 pub fn is_open(text: &[u8]) -> bool
     ensures { (call : Call) → text.now ≡ call_text call → result ≡ is_open call }
 {

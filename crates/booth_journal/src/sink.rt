@@ -7,7 +7,7 @@ use booth_host::Failed;
 
 /// A sink for the bytes of a journal.
 pub trait Sink {
-    /// All bytes that it has, if they are recorded.
+    /// All its bytes, if they are recorded.
     ghost held: { Self → Option (List ℕ) };
 
     /// How often an append has failed. It never falls, and stays at the greatest u64.

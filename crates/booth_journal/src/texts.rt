@@ -13,7 +13,7 @@ use thiserror::Error;
 /// Why a text could not be read as a journal.
 #[derive(Clone, Copy, Debug, Drop, Error)]
 pub enum TextFault {
-    /// This line, counted from 1, is none of a journal after the lines before it.
+    /// This line, counted from 1, cannot follow the lines before it in a journal.
     #[error("line {0} is none of a journal")]
     Line(u64),
     #[error("there is no memory for what a line says")]
@@ -34,7 +34,7 @@ fn follow(alloc: Global, asked: Option<Call>, text: &[u8]) -> Result<Option<Call
     Ok(None)
 }
 
-/// Reads each line of a text as that of a journal.
+/// Reads each line of a text as a line of a journal.
 pub fn read_lines(alloc: Global, text: &[u8]) -> Result<(), TextFault>
     ensures journal { OnOk result (IsJournal text.now) }
     ensures fault { IfErr result (HasFault text.now) }

@@ -53,7 +53,7 @@ pub record Parts : Type 0 where
   pub frames : List (List ℕ)
   pub tail : List ℕ
 
--- a whole frame stands at the front
+-- there is a whole frame at the front
 abbrev pub begins_whole : List ℕ → Bool
 begins_whole bytes = nat_le 28 (length bytes) && (nat_le 48 (length_said bytes)
     && (nat_le (length_said bytes) FRAME_BYTES && nat_le (length_said bytes) (length bytes)))

@@ -16,8 +16,8 @@ fresh = record { rest = []; broken = false }
 abbrev pub IsHeld : Held → Type 0
 IsHeld held = (held.broken ≡ false → IsRest held.rest) × (held.broken ≡ true → IsBroken held.rest)
 
--- A call, by its result. The bytes that the cutter holds and those that it takes are the start of a frame, a frame,
--- or broken, which the first 28 bytes show. A broken cutter takes nothing more.
+-- A call, by its result. Together the bytes that the cutter has and the bytes that it takes are the start of a frame, a
+-- frame, or broken; the first 28 bytes decide this. A broken cutter takes nothing more.
 abbrev pub FeedsAs : Held → List ℕ → ℕ → Got → List ℕ → List ℕ → Held → Type 0
 FeedsAs old piece taken Nothing before frame new =
     (old.broken ≡ false) × (taken ≡ length piece) × IsRest (old.rest ++ piece)

@@ -44,7 +44,7 @@ abbrev pub both : Result (Unit {0}) Failed → Result (Unit {0}) Failed → Resu
 both (Ok done) second = second
 both (Err fault) second = Err fault
 
--- the host inside and the links are opened at one place
+-- the host inside and the links are opened at the same place
 pub record OpensBoth (place : Place) (answer : Result (Unit {0}) Failed) (links linked : Option (List LinkCall))
     (host hosted : Option (List Entry)) : Type 0 where
   pub first : Result (Unit {0}) Failed
@@ -55,13 +55,13 @@ pub record OpensBoth (place : Place) (answer : Result (Unit {0}) Failed) (links 
 
 -- ---- next
 
--- the answer of a poll that failed, or else of the host inside
+-- the answer of a failed poll, or else of the host inside
 abbrev pub AnswersElse : ℕ → Result LinkEvent Failed → List Entry → Result Arrival Failed → List ℕ → Type 0
 AnswersElse wait (Err fault) entries answer bytes = (answer ≡ Err fault) × (entries ≡ [])
 AnswersElse wait (Ok event) entries answer bytes = entries ≡ Next wait answer bytes ∷ []
 
 -- A whole frame is returned without a call. Otherwise there is one poll, and a frame that is then whole is returned.
--- Otherwise the answer is that of the poll or of the host inside, and broken links are closed.
+-- Otherwise the poll or the host inside answers, and broken links are closed.
 pub data IsNext (old : List (Option OpenLink)) (wait : ℕ) (calls : List LinkCall) (entries : List Entry)
     (answer : Result Arrival Failed) (bytes : List ℕ) (new : List (Option OpenLink)) : Type 0 where
   Ready : (peer : Peer) → Gives old peer bytes new → answer ≡ Ok (Datagram peer) → calls ≡ [] → entries ≡ []

@@ -20,7 +20,7 @@ pub enum LinkCall {
         answer: Result<LinkEvent, Failed>,
         bytes: ByteText,
     },
-    /// The answer says how many of the bytes were written, counted from the first.
+    /// The answer is the number of written bytes, counted from the first one.
     Write {
         link: u32,
         bytes: ByteText,

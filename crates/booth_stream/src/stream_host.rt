@@ -152,7 +152,7 @@ impl<H: Host, L: Links> Host for StreamHost<H, L> {
     }
 
     /// Returns the next whole frame of a link, before or after one poll of the links. Otherwise returns the answer of
-    /// that poll if it failed, or that of the host inside.
+    /// this poll if it failed, or else the answer of the host inside.
     fn next(&mut self, wait_ms: u64, into: &mut Datagram) -> Result<Arrival, Failed>
         ensures past { GrewBy (told_past self.old.told) (told_past self.new.told)
             (Entry.Next wait_ms result into.new ∷ []) }

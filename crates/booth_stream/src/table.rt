@@ -16,7 +16,7 @@ use booth_base::Peer;
 use booth_host::{Datagram, Failed};
 use std::alloc::{AllocError, Global};
 
-/// What is known about all places together. A turn in which no link has an event looks at no place.
+/// Facts about all seats together, so that a turn without an event examines no seat.
 #[derive(Clone, Copy)]
 pub(crate) enum Known {
     /// No link is open.
