@@ -1,4 +1,4 @@
-//! The listener of a place, and peers as the system has them.
+//! The listener at a place, and the conversion of peers to and from the system's socket addresses.
 
 use booth_base::{Address, Peer};
 use booth_host::Place;

@@ -31,7 +31,7 @@ impl<H: Host> ClientHost<H> {
         }
     }
 
-    /// Prints on standard error what is known about why no member answered: how its TCP port took the repeated
+    /// Prints on standard error why no member answered, if this is known: how its TCP port answered the repeated
     /// request.
     pub fn say_silence(&self) {
         self.ways.say_silence();
@@ -47,7 +47,7 @@ impl<H: Host> Host for ClientHost<H> {
         self.host.open(place)
     }
 
-    /// What arrives over a link comes first. A wait ends early if a link is open.
+    /// `next` returns frames of the link before datagrams. It waits only briefly while a link is open.
     fn next(&mut self, wait_ms: u64, into: &mut Datagram) -> Result<Arrival, Failed> {
         if let Some(peer) = self.ways.receive(wait_ms, into) {
             return Ok(Arrival::Datagram(peer));

@@ -14,7 +14,7 @@ use std::time::Duration;
 /// How long a link may take to open, in milliseconds.
 const CONNECT_MS: u64 = 1_000;
 
-/// How many pieces one call reads: those of the longest frame, and one more.
+/// How many pieces one call reads: the pieces of the longest frame, and one more.
 const READS: u32 = 6;
 
 /// An open link, and the bytes that arrived over it.
@@ -26,7 +26,7 @@ pub(crate) struct ClientLink {
     events: Events,
     cutter: Cutter,
     piece: Vec<u8>,
-    /// Where the bytes of the piece begin that the cutter has not taken, and where they end.
+    /// The beginning and the end of the piece's bytes that the cutter has not taken.
     seen: usize,
     count: usize,
 }
@@ -151,7 +151,7 @@ impl ClientLink {
         Received::Nothing
     }
 
-    /// Waits for at most so many milliseconds, and puts the next frame into `into` if it is whole.
+    /// Waits for at most this many milliseconds. If the next frame is whole then, writes it to `into`.
     pub(crate) fn receive(&mut self, wait_ms: u64, into: &mut Datagram) -> Received {
         match self.next(into) {
             Received::Nothing => {

@@ -34,7 +34,7 @@ enum Accepting {
 pub(crate) struct Entrance {
     listener: Option<TcpListener>,
     accepting: Accepting,
-    /// The port of the place, which is that of all daemons.
+    /// The port of the place: all daemons have the same port.
     port: u16,
     pending: Pending,
 }
@@ -80,7 +80,7 @@ impl Entrance {
         Ok(())
     }
 
-    // Has the system report the next connection, or one that waits already.
+    // Has the system report the next connection, or a connection that waits already.
     fn watch(&mut self, registry: &Registry) -> io::Result<()> {
         self.accepting = Accepting::AtOnce;
         match &mut self.listener {

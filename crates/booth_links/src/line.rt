@@ -62,7 +62,8 @@ fn take(stream: &mut TcpStream, buffer: &mut [u8]) -> Heard {
     }
 }
 
-// Queues as many of the bytes after those that went to the system as fit, and returns how many were taken.
+// Queues the bytes that the system did not take, as far as they fit. Returns how many bytes the system and the queue
+// took together.
 #[tactic(auto, using(crate::proofs::QueueLemmas::some_given))]
 fn queue_rest(queue: &mut Queue, bytes: &[u8], given: usize) -> usize
     requires empty { queue.old ≡ [] }

@@ -1,6 +1,6 @@
-//! Pending peers: connections that were accepted and have no seat yet. A peer gets a seat once it has sent a whole frame.
-//! One that sends less is closed when many others came after it, or when it has waited for too long, and one that sends
-//! no frame is closed at once.
+//! Pending peers: connections that were accepted and have no seat yet. A peer gets a seat once it has sent a whole
+//! frame. A peer that sends less is closed when many others came after it, or when it has waited for too long. A peer
+//! that sends bytes of no frame is closed at once.
 ghost use Rattle.std.specs.Prelude.{◌≡◌, take};
 
 use crate::seats::IDLE_MS;
@@ -47,7 +47,7 @@ pub(crate) struct Pending {
     places: Vec<Option<PendingPeer>>,
     /// The place that is given out next.
     next: usize,
-    /// Whether a peer may be pending. If none is, no place is looked at.
+    /// Whether a peer may be pending. If not, the search for pending peers is skipped.
     is_used: bool,
     /// Whether a peer may have sent a whole frame.
     may_be_ready: bool,
@@ -59,7 +59,7 @@ pub(crate) struct Pending {
 /// What a peer has sent so far.
 #[derive(Clone, Copy)]
 enum Said {
-    /// A whole frame, or more bytes than are looked at.
+    /// A whole frame, or as many bytes as are read ahead.
     Enough,
     Less,
     /// Bytes with which no frame begins, or the end of the stream.

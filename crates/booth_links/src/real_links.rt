@@ -81,8 +81,8 @@ impl RealLinks {
         })
     }
 
-    /// Returns the file that is readable while these links have something, or a number below 0 if there is none. A
-    /// host waits for it together with its own.
+    /// Returns the file that is readable while these links have something, or a number below 0 if there is none. A host
+    /// waits for this file and its own files at the same time.
     pub fn ready_file(&self) -> RawFd
         ensures none { self.now.poll ≡ None → result ≡ negsuc 0 }
     {
@@ -154,7 +154,7 @@ impl RealLinks {
         }
     }
 
-    // Starts to listen at this place. Links go on.
+    // Starts to listen at this place. Links continue.
     fn listen_at(&mut self, place: &Place) -> io::Result<()>
         ensures { self.new.faults ≡ self.old.faults }
     {
@@ -175,7 +175,7 @@ impl RealLinks {
         self.seats.set(seat, None);
     }
 
-    // Returns the seat for one more peer: a free one, or that of the link that has been idle for longest.
+    // Returns the seat for one more peer: a free seat, or the seat of the link that has been idle for the longest time.
     fn seat_for_peer(&self) -> Option<usize> {
         match self.seats.free() {
             Some(seat) => Some(seat),
@@ -224,7 +224,7 @@ impl RealLinks {
         }
     }
 
-    // Starts a link at this seat, in place of the one that was there.
+    // Starts a link at this seat, in place of the old link.
     fn begin(&mut self, seat: usize, waiting: PendingPeer) -> io::Result<LinkEvent>
         ensures { self.new.faults ≡ self.old.faults }
     {
@@ -322,7 +322,7 @@ impl RealLinks {
         }
     }
 
-    // Handles the next report: new connections, the bytes of a pending peer, or those of a link.
+    // Handles the next report: new connections, the bytes of a pending peer, or the bytes of a link.
     fn next_report(&mut self, into: &mut Piece) -> io::Result<LinkEvent>
         ensures { self.new.faults ≡ self.old.faults }
     {

@@ -31,7 +31,8 @@ pub(crate) struct Reports {
     /// How many there are, and how many were handled.
     count: usize,
     seen: usize,
-    /// Whether there is something, as far as a host knows that waits for the links' file; none if no host does.
+    /// What the host that waits for the links' file knows: whether the links have something. None if no host waits for
+    /// it.
     known: Option<Rc<Cell<bool>>>,
 }
 

@@ -95,8 +95,8 @@ impl Seats {
         self.moments.iter().position(|moment| moment.is_none())
     }
 
-    /// Returns the first link that has been idle for at least this long, while none has been idle for longer. A link
-    /// that is not idle yet does not leave, for any limit.
+    /// Returns the first of the links that have been idle for longest, if that is at least this long. A link that is
+    /// not idle yet is not returned, for any limit.
     pub(crate) fn over(&self, now: u64, limit: u64) -> Option<usize>
         ensures { result ≡ position (has_to_leave self.now now limit) self.now }
     {

@@ -21,7 +21,7 @@ const LOOK_MS: u64 = 20;
 pub enum Transport {
     /// As datagrams.
     Udp,
-    /// Over TCP, and as datagrams to a member that takes no link.
+    /// Over TCP, and as datagrams to a member that accepts no link.
     Tcp,
     /// As datagrams; a request that is not answered within a second is repeated over TCP, and later ones of the same
     /// run go there.
@@ -94,7 +94,7 @@ impl Ways {
         }
     }
 
-    // Writes these bytes to the link, which has ended if it does not take them.
+    // Writes these bytes to the link. If the link does not take them, it has ended.
     fn write(&mut self, bytes: &[u8]) -> io::Result<()> {
         let written = match &mut self.link {
             Some(link) => link.write(bytes),

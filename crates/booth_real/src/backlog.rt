@@ -28,7 +28,7 @@ pub(crate) const SOCKETS: usize = MEMBERS + 1;
 /// The least room that a datagram takes up: an equal part of the capacity for each of the most datagrams.
 pub(crate) const LEAST_ROOM: usize = 256;
 
-/// A quarter of the capacity: once so many bytes were returned, their room is freed.
+/// A quarter of the capacity: when this many bytes were returned, their room is freed.
 const GIVEN_BYTES: usize = 1_048_576;
 
 /// One datagram that waits: its sender, how many bytes it has, and the place of the socket that it came from.

@@ -41,7 +41,7 @@ fn clock_of(file: &File) -> io::Result<KeptClock> {
     let count = fill(file, 0, &mut bytes)?;
     match bytes.get(..count).and_then(KeptClock::decode) {
         Some(kept) => Ok(kept),
-        None => Err(Error::new(ErrorKind::InvalidData, "booth.clock keeps no clock")),
+        None => Err(Error::new(ErrorKind::InvalidData, "booth.clock has no valid content")),
     }
 }
 

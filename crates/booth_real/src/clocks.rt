@@ -271,7 +271,7 @@ impl Clocks {
             Some(kept) if kept.boot == boot => self.await_clock(rt, directory),
             Some(_) | None => Err(Error::new(
                 ErrorKind::NotFound,
-                "no daemon kept its clock there since the boot",
+                "no daemon wrote its clock there since the boot",
             )),
         }
     }

@@ -44,7 +44,7 @@ fn is_taken(file: &File) -> io::Result<bool> {
     }
 }
 
-/// Takes the lock of an open file. Fails with these words if another process holds it.
+/// Takes the lock of an open file. Fails with this text if another process holds it.
 pub(crate) fn require_lock(file: &File, words: &str) -> io::Result<()> {
     if is_taken(file)? {
         Ok(())

@@ -14,7 +14,7 @@ use std::cell::Cell;
 use std::net::{IpAddr, SocketAddr, UdpSocket};
 use std::os::fd::AsRawFd;
 
-/// How many datagrams are read from one socket before the next socket is read.
+/// How many datagrams of members are read before one of a stranger is read.
 const IN_A_ROW: u32 = 16;
 
 /// The values of an option that can be on or off.
@@ -27,17 +27,17 @@ const V4_BYTES: u32 = 16;
 
 const V6_BYTES: u32 = 28;
 
-/// Which of several sockets is read next.
+/// Whose socket is read next. Place 0 is the first socket, which strangers send to; members have the places after it.
 #[derive(Drop)]
 pub(crate) struct Reading {
-    /// The place of that socket.
+    /// The place of the member whose socket was read last.
     place: Cell<usize>,
-    /// How many datagrams were read from it in a row.
+    /// How many datagrams of members were read since the first socket was read last.
     count: Cell<u32>,
 }
 
 impl Reading {
-    /// Returns a reading that begins with the first socket.
+    /// Returns a reading that begins with the first member.
     pub(crate) fn new() -> Reading {
         Reading {
             place: Cell::new(0),
@@ -45,30 +45,26 @@ impl Reading {
         }
     }
 
-    /// Returns the place of the socket that is read next.
-    pub(crate) fn place(&self) -> usize {
-        self.place.get()
-    }
-
-    /// Continues with the socket at this place.
-    pub(crate) fn begin(&self, place: usize) {
-        self.place.set(place);
-        self.count.set(0);
-    }
-
-    /// Continues with the next socket; there are this many.
-    pub(crate) fn pass(&self, count: usize) {
-        let next = self.place.get().saturating_add(1);
-        self.begin(if next < count { next } else { 0 });
-    }
-
-    /// Notes that a datagram was read. After sixteen of one socket it continues with the next one; there are this many.
-    pub(crate) fn note(&self, count: usize) {
-        let read = self.count.get().saturating_add(1);
-        self.count.set(read);
-        if read >= IN_A_ROW {
-            self.pass(count);
+    /// Returns the place of the next member, or nothing if so many datagrams of members were read that it is the turn
+    /// of strangers. There are this many sockets.
+    pub(crate) fn next_member(&self, sockets: usize) -> Option<usize> {
+        if self.count.get() >= IN_A_ROW {
+            return None;
         }
+        let next = self.place.get().saturating_add(1);
+        let next = if next < sockets { next } else { 1 };
+        self.place.set(next);
+        Some(next)
+    }
+
+    /// Notes that a member's datagram was read.
+    pub(crate) fn note(&self) {
+        self.count.set(self.count.get().saturating_add(1));
+    }
+
+    /// Notes that the first socket is read.
+    pub(crate) fn note_stranger(&self) {
+        self.count.set(0);
     }
 }
 

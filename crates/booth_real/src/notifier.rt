@@ -136,7 +136,7 @@ impl Manager {
 
 // Returns the line about a message that could not be sent.
 fn untold_line(error: &Error) -> Line {
-    let mut line = line_of(&[b"cannot tell the service manager"]);
+    let mut line = line_of(&[b"cannot notify the service manager"]);
     let _ = write!(line, ": {error}");
     line
 }

@@ -75,7 +75,7 @@ pub(crate) fn is_directory(rt: &HostRuntime, handler: &PathText) -> io::Result<b
     Ok(fs::metadata(rt, path_of(handler)?)?.is_dir())
 }
 
-// Returns whether this name comes after that of a program, if there is one.
+// Returns whether this name is after the name of the last program in the order of bytes, if there was one.
 fn is_behind(name: &str, program: Option<&FileName>) -> bool {
     match program {
         Some(program) => program.as_bytes() < name.as_bytes(),

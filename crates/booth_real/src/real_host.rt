@@ -269,7 +269,7 @@ impl RealHost {
         Some(Arrival::Handler { job, status })
     }
 
-    // Logs that a receive failed, at a place with records. Clients report what they miss themselves.
+    // Logs that a receive failed, at a place with records. A client itself reports that it got no answer.
     fn tell_unreceived(&mut self, error: &io::Error)
         ensures faults { self.new.faults ≡ self.old.faults }
         ensures mail { self.new.mail ≡ self.old.mail }

@@ -167,8 +167,8 @@ fn longer(one: Option<u64>, other: Option<u64>) -> Option<u64> {
 
 impl Records {
     /// Opens the directory at this path with its locks, and creates it in the directory above if it is missing. Fails
-    /// if another process holds one of the locks. Each write in it fails that takes longer than the limit, in
-    /// milliseconds, if there is one.
+    /// if another process holds one of the locks. If there is a limit, in milliseconds, a write in it fails if it takes
+    /// longer.
     pub(crate) fn open(
         rt: &HostRuntime,
         alloc: Global,
@@ -328,7 +328,7 @@ impl Records {
                 self.note_synced(number);
                 Ok(())
             }
-            Err(PutFault::Spent) => Err(damaged("the last number is used")),
+            Err(PutFault::Spent) => Err(damaged("the greatest number of a slot is used already")),
             Err(PutFault::Disk | PutFault::Again) => Err(self.failure(slots.disk())),
         }
     }

@@ -9,7 +9,7 @@ ghost use Rattle.booth_real.specs.declared.socket.Takes.{Takes};
 use crate::backlog::{BACKLOG_DATAGRAMS, Backlog, SOCKETS};
 use crate::member_sockets::{Reading, member_sockets};
 use crate::socket_room::{ROOM, ask_to_receive, ask_to_send};
-use crate::wake::{Wake, asked, ready_from};
+use crate::wake::{Wake, asked};
 use booth_base::{Address, Peer};
 use booth_host::{Arrival, Datagram, Place};
 use libc::net::poll;
@@ -32,8 +32,7 @@ enum Reach {
     V4,
     /// IPv6 peers.
     V6,
-    /// Peers of both families: an IPv6 socket, which writes an IPv4 address as `::ffff:a.b.c.d` (RFC 4291, section
-    /// 2.5.5.2).
+    /// Peers of both families: an IPv6 socket, which writes IPv4 addresses as `::ffff:a.b.c.d` (RFC 4291, 2.5.5.2).
     Both,
 }
 
@@ -286,12 +285,8 @@ impl Socket {
         if watched[0].revents != 0 {
             wake.note();
         }
-        let ready = ready_from(&watched[1..end], self.reading.place());
-        if let Some(place) = ready {
-            self.reading.begin(place);
-        }
         // (what poll does not report, a receive does)
-        let is_there = count < 0 || ready.is_some();
+        let is_there = count < 0 || watched[1..end].iter().any(|one| one.revents != 0);
         if is_there {
             wake.go_ahead();
         } else {
@@ -401,16 +396,12 @@ impl Socket {
         }
     }
 
-    // Reads what has arrived at the socket that is read next, through the buffer, and returns it. Returns `Quiet` if
-    // nothing acceptable has arrived, or if a signal interrupted the call. After several datagrams of one socket, or if
-    // it has none, it continues with the next socket.
-    fn take(&self, buffer: &mut [u8], into: &mut Datagram) -> io::Result<Arrival>
+    // Reads what has arrived at the socket at this place. Returns `Quiet` if nothing acceptable has, or after a signal.
+    fn take_at(&self, place: usize, buffer: &mut [u8], into: &mut Datagram) -> io::Result<Arrival>
         ensures { IfOk result (λ arrival. BringsTo (Some self.now.takes) arrival) }
     {
-        let place = self.reading.place();
         match self.at(place).recv_from(buffer) {
             Ok((count, from)) => {
-                self.reading.note(self.count());
                 let from = self.peer_at(from);
                 if !self.takes.hears(&from) {
                     return Ok(Arrival::Quiet);
@@ -418,11 +409,29 @@ impl Socket {
                 into.set(&buffer[..count]);
                 Ok(Arrival::Datagram(from))
             }
-            Err(error) => {
-                self.reading.pass(self.count());
-                self.unreceived(place, error)
+            Err(error) => self.unreceived(place, error),
+        }
+    }
+
+    // Reads what has arrived, and returns it. Members come first, each in its turn: what a client sent because of a
+    // member's message must not be read before that message. After several of members it reads one of a stranger.
+    fn take(&self, buffer: &mut [u8], into: &mut Datagram) -> io::Result<Arrival>
+        ensures { IfOk result (λ arrival. BringsTo (Some self.now.takes) arrival) }
+    {
+        for _ in 1..self.count() {
+            let Some(place) = self.reading.next_member(self.count()) else {
+                break;
+            };
+            match self.take_at(place, buffer, into) {
+                Ok(Arrival::Quiet) => {}
+                answer => {
+                    self.reading.note();
+                    return answer;
+                }
             }
         }
+        self.reading.note_stranger();
+        self.take_at(0, buffer, into)
     }
 
     /// Checks without a wait whether the other file can be read, and notes the result; it skips the check if one was
@@ -455,10 +464,9 @@ impl Socket {
         Ok(())
     }
 
-    /// Moves the system's datagrams for these sockets into the backlog, without a wait: of each socket a few, as long
-    /// as its part of the backlog has room. The rest stays with the system. If each member has a socket, everything
-    /// that strangers sent stays there too, so that it never waits ahead of what a member sent. Fails if a receive
-    /// fails. A client's socket moves nothing.
+    /// Moves the system's datagrams for these sockets into the backlog, without a wait: a few of each socket, as long
+    /// as its part of the backlog has room. If each member has a socket, all datagrams of strangers stay with the
+    /// system, so none waits ahead of a member's. A client's socket moves nothing. Fails if a receive fails.
     #[tactic(auto, using(crate::proofs::WaitingLemmas::as_many))]
     pub(crate) fn drain(&self, buffer: &mut [u8], backlog: &mut Backlog) -> io::Result<()>
         requires { length buffer.old ≡ DATAGRAM_BYTES }
@@ -475,8 +483,7 @@ impl Socket {
         Ok(())
     }
 
-    /// Sends these bytes. Fails if there is no room, and for a peer of the other family if the system has no socket
-    /// of that family.
+    /// Sends these bytes. Fails if there is no room, or if the system has no socket of the peer's family.
     pub(crate) fn send(&mut self, rt: &HostRuntime, to: &Peer, bytes: &[u8]) -> io::Result<()>
         ensures sent { OnOk result (self.new.takes ≡ turned self.old.takes to.now) }
         ensures unsent { OnErr result

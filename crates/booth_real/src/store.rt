@@ -20,7 +20,7 @@ pub(crate) struct Store {
 }
 
 impl Store {
-    /// Returns a store without an open directory, which tells the time by the wall clock.
+    /// Returns a store without an open directory. Its `now` reports the wall clock.
     pub(crate) fn new() -> Store {
         Store {
             records: None,
@@ -44,7 +44,7 @@ impl Store {
         self.records.is_some()
     }
 
-    /// Makes the host tell the time by the clock of this directory even before the directory is opened.
+    /// Makes `now` report the clock of this directory even before the directory is opened.
     pub(crate) fn await_clock(&mut self, rt: &HostRuntime, directory: &PathText) -> io::Result<()> {
         self.clocks.await_clock(rt, directory)
     }

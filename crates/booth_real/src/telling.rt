@@ -200,10 +200,13 @@ impl Telling {
     pub(crate) fn clock_keep(&mut self, answer: &io::Result<()>) {
         match answer {
             Err(error) if !self.is_clock_unkept => {
-                self.failed(&[b"cannot keep what the clock has reached"], error);
+                self.failed(
+                    &[b"cannot write the time that the clock has reached"],
+                    error,
+                );
             }
             Ok(()) if self.is_clock_unkept => {
-                self.mended(&[b"what the clock has reached is kept again"]);
+                self.mended(&[b"the time that the clock has reached is written again"]);
             }
             Err(_) | Ok(()) => {}
         }
@@ -225,7 +228,7 @@ impl Telling {
 
     /// Logs that no clock of a records directory is available.
     pub(crate) fn no_clock(&mut self, error: &io::Error) {
-        self.failed(&[b"cannot tell the time of the records"], error);
+        self.failed(&[b"cannot read the clock of the records"], error);
     }
 
     /// Logs that no record can be written in this directory.
@@ -290,7 +293,7 @@ impl Telling {
     /// Logs that more datagrams keep arriving than there is room for.
     pub(crate) fn full(&mut self) {
         if let Some(passed) = self.fulls.due(now()) {
-            let line = line_of(&[b"more datagrams come than there is room for"]);
+            let line = line_of(&[b"more datagrams arrive than there is room for"]);
             self.goes_on(line, passed);
         }
     }

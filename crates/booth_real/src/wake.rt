@@ -31,16 +31,6 @@ pub(crate) fn asked(fd: RawFd) -> pollfd {
     }
 }
 
-/// Returns the first place at which a file can be read, at or after this place, or else before it.
-pub(crate) fn ready_from(watched: &[pollfd], place: usize) -> Option<usize> {
-    let place = place.min(watched.len());
-    let (before, from) = watched.split_at(place);
-    match from.iter().position(|one| one.revents != 0) {
-        Some(at) => Some(place.saturating_add(at)),
-        None => before.iter().position(|one| one.revents != 0),
-    }
-}
-
 impl Wake {
     /// Returns no file.
     pub(crate) fn nothing() -> Wake {
