@@ -31,13 +31,13 @@ from serving import built_program, end_by_signals, own_addresses
 from stories import PATIENCE, Wrong, grants, passed, require, slack
 
 TIMES = Times(expire=10)
-# with room between the margin and a renewal for a key that is read again
+# (the times leave room between the margin and a renewal for the time in which the key is read again)
 LONG_TIMES = Times(expire=20, renewal=8)
 # the margin is 5 s: a service is stopped up to 5 s after its lease was renewed, if no later end is armed
 HALF_TIMES = Times(expire=20, renewal=10)
-# the margin and the time of a kill that follow from the first ones
+# the default margin and kill time of the first times
 MARGIN, KILL = 2.5, 1.25
-# how long a service that was stopped is left so
+# how long a stopped service stays stopped, in seconds
 PAUSE = 5
 KEY, NEW_KEY = b"a-key-of-the-cluster", b"the-next-key-of-the-cluster"
 NAME = TICKET.decode()
@@ -51,12 +51,14 @@ def story(function):
 
 
 def times_of(function):
-    """The times of the cluster of a story."""
+    """Returns the times of the cluster of a story."""
     return {a_key_that_is_changed: LONG_TIMES, a_renewal_that_fails_once: HALF_TIMES}.get(function, TIMES)
 
 
 def begun(cluster, services):
-    """Members that answer at once, a follower at each site, and the ticket at the first, whose service is up."""
+    """Starts members that answer at once, a follower at each site, and the ticket at the first site, whose service
+    runs.
+    """
     one, two, _ = cluster.members
     cluster.remember()
     cluster.start()
@@ -69,13 +71,13 @@ def begun(cluster, services):
 
 
 def stops_in_time(services, site, until, margin=MARGIN):
-    """The site's service stops by itself, before its lease is over, and not before the margin of what was listed."""
+    """Checks that the site's service stops by itself before the end of its lease, and not before the margin begins."""
     require(services.await_down(site, until - now() + PATIENCE), "the service runs on")
     last = max(spell.last for spell in services.spells() if spell.site == site.address)
     _, listed = services.runs(site)[-1]
     require(last < until, f"the service wrote {last - until:.3f} s after the lease's end")
     require(listed <= until, f"a list told an end {listed - until:.3f} s after the lease's")
-    # (a line may be as old as the next one would be, and late on a busy machine)
+    # (the last line may be as old as the interval between lines, and late on a busy machine)
     require(listed - margin - 0.5 < last, f"the service stopped {listed - last:.3f} s before the end that was listed")
     return until - last
 
@@ -101,6 +103,19 @@ def key_and_a_holder_that_is_killed(cluster, services):
     time.sleep(2)
     require(not services.is_up(one), "it is started where the ticket is not held any more")
     passed("the first site's service stays stopped when its daemon is back")
+
+
+@story
+def ends_of_a_lease(cluster, services):
+    """a holder that renews its lease while nothing else happens"""
+    one, _ = begun(cluster, services)
+    armed = lambda: sum(word == "renew" for word, _ in services.runs(one))
+    before, renewals = armed(), 4
+    time.sleep(renewals * TIMES.renewal)
+    # (from answer to answer the end of one lease seems to be a millisecond later, and now and then a run is made for that)
+    runs = armed() - before
+    require(renewals - 1 <= runs <= renewals + 2, f"{runs} ends were armed in the time of {renewals} renewals")
+    passed(f"an end is armed for each renewal of the lease, and not for each answer: {runs} in the time of {renewals}")
 
 
 @story
@@ -198,6 +213,59 @@ def a_service_that_is_taken_over(cluster, services):
     left = stops_in_time(services, one, until)
     passed(f"one that hears no list stops what it has taken over {left:.2f} s before the lease's end")
     require(services.await_up(two, until - now() + PATIENCE), "the other site's service does not start")
+
+
+def restarted(cluster, services, member):
+    """Restarts the holder's daemon. Returns the term of the service's start, and a later one of the lease."""
+    first = services.started_with(member)
+    member.kill()
+    member.start(cluster.program, cluster.conf)
+    later = wait_for(lambda: member.record().term > first and member.record().term, TIMES.expire)
+    require(later, f"after a restart the lease has term {member.record().term}, and it had {first}")
+    return first, later
+
+
+@story
+def a_daemon_that_is_restarted(cluster, services):
+    """a holder's daemon that is restarted"""
+    one, _ = begun(cluster, services)
+    process = services.process(one)
+    first, later = restarted(cluster, services, one)
+    is_handed = lambda: any(int(term) >= later for _, _, _, term in services.run_lines(one))
+    require(wait_for(is_handed, TIMES.expire), f"no run is handed term {later}: {services.run_lines(one)}")
+    time.sleep(PAUSE)
+    require(services.process(one) == process, f"the service was not left running: {services.said()}")
+    require(services.words(one) == ["stop", "start"], f"it was run with {services.words(one)}")
+    passed(f"a service runs on with term {first} when its daemon is restarted, though its lease has term {later} then")
+
+
+@story
+def a_service_that_is_restarted_for_a_term(cluster, services):
+    """a holder's daemon that is restarted, with --restart-on-term"""
+    services.options = ("--restart-on-term",)
+    one, _ = begun(cluster, services)
+    first, later = restarted(cluster, services, one)
+    restarts = ["stop", "start", "stop", "start"]
+    is_restarted = wait_for(lambda: services.words(one)[:4] == restarts, PAUSE + PATIENCE)
+    require(is_restarted, f"it was run with {services.words(one)}")
+    require(services.started_with(one) >= later, f"term {later} is started with {services.started_with(one)}")
+    require(services.await_up(one, PATIENCE), "the service is not up")
+    time.sleep(TIMES.expire)
+    # (on a loaded machine a renewal may fail, and then the lease has one more term)
+    terms = services.terms(one)
+    require(terms == sorted(set(terms)), f"it was started with the terms {terms}")
+    restarts = services.words(one)
+    passed(f"a service that was started with term {first} is restarted for each later term: {terms[1:]}")
+    require(b"its lease has another term than at its start" in services.said(), f"no line tells why: {services.said()}")
+    services.kill(one)
+    services.follow(one, takes_over=True)
+    # (the answer with the term may arrive before the check has written its line, and then the check is ended)
+    adopted = [*restarts, "stop", "start"]
+    without_checks = lambda: [word for word in services.words(one) if word != "check"]
+    is_restarted = wait_for(lambda: without_checks()[: len(adopted)] == adopted, PAUSE + PATIENCE)
+    require(is_restarted, f"it was run with {services.words(one)}")
+    require(b"looks whether the service runs" in services.said(), f"it was not adopted: {services.said()}")
+    passed("the next follower does not know the term of its start, and restarts it too")
 
 
 @story
@@ -345,7 +413,7 @@ def words_are_refused(program, folder):
             is_told(text, *words.format(name=NAME, program="/bin/false").split())
         is_told("bad program", NAME, " ")
         is_told(f"cannot follow ticket {NAME}: no site has this address", NAME, "/bin/false", site="127.0.0.3")
-        unkept = "cannot tell the time of the records: no daemon kept its clock there since the boot"
+        unkept = "cannot read the clock of the records: no daemon wrote its clock there since the boot"
         keep_clock(records, boot=b"0" * 36)
         is_told(unkept, NAME, "/bin/false")
         os.remove(f"{records}/booth.clock")
@@ -368,7 +436,7 @@ def keep_clock(records, boot=None):
 
 
 def outcome(place, programs):
-    """Whether the story at this place passes, in a cluster of its own, and the lines that it printed."""
+    """Returns whether the story at this place passes, in a cluster of its own, and the lines that it printed."""
     function, printed, passes = stories[place], io.StringIO(), False
     with contextlib.redirect_stdout(printed), scratch("booth-follow-") as folder:
         try:
@@ -389,7 +457,7 @@ def outcome(place, programs):
 
 
 def checked(check, *arguments):
-    """Whether a check passes."""
+    """Runs a check. Returns whether it passes."""
     try:
         check(*arguments)
     except Wrong as why:
@@ -400,7 +468,7 @@ def checked(check, *arguments):
 
 
 def run(programs):
-    """Runs all stories side by side: most of their time they wait. Says how many failed."""
+    """Runs all stories at the same time, since they mostly wait. Prints how many failed."""
     failed, started = 0, time.monotonic()
     with scratch("booth-refused-") as folder:
         failed += not checked(words_are_refused, programs[2], folder)

@@ -117,9 +117,13 @@ class Services:
         """Returns the words with which the program was run at a site, in order, each with its end."""
         return [(word, int(expires)) for word, _, expires, _ in self.run_lines(member)]
 
+    def terms(self, member):
+        """Returns the terms that the starts at a site received, in order."""
+        return [int(term) for word, _, _, term in self.run_lines(member) if word == "start"]
+
     def started_with(self, member):
         """Returns the term that the last start at a site received, or `None` if there is none."""
-        terms = [int(term) for word, _, _, term in self.run_lines(member) if word == "start"]
+        terms = self.terms(member)
         return terms[-1] if terms else None
 
     def words(self, member):

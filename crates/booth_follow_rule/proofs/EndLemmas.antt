@@ -286,7 +286,8 @@ deed_holds m how was left rows row now h (deeds.Run Start number until) is allow
 deed_holds m how was left rows row now h (deeds.Run Stop number until) is allowed = h
 deed_holds m how was left rows row now h (deeds.Run Kill number until) is allowed = h
 deed_holds m how was left rows row now h (deeds.Run Renew number until) is allowed =
-    renew_holds left (rows ++ row ∷ []) now number until row.at.reading h allowed.3.0.here allowed.3.0.later allowed.2 (run_last number until rows row is)
+    let later : now.armed < now.end = omega (arith, allowed.3.0.later) in
+    renew_holds left (rows ++ row ∷ []) now number until row.at.reading h allowed.3.0.here later allowed.2 (run_last number until rows row is)
 
 pub row_holds : (m : Margins) (left : Option ℕ) (rows : List Row) (row : Row) (k : Known) → Holds left rows k → IsRowLet m k row →
     Holds left (rows ++ row ∷ []) (known_after k row)

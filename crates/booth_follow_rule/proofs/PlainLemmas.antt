@@ -79,7 +79,8 @@ renewals m left moments before after row number until is deed =
     let now : Known = known_at k row in
     let at = at_row_of m left moments before after row is in
     let allowed = let_of m k row (deeds.Run Renew number until) at.allowed deed in
-    is_shown left (before ++ row ∷ []) now (news_holds left before row k at.before_it) allowed.3.0.here allowed.3.0.later
+    let later : now.armed < now.end = omega (arith, allowed.3.0.later) in
+    is_shown left (before ++ row ∷ []) now (news_holds left before row k at.before_it) allowed.3.0.here later
     ∙ ap (λ (n : ℕ). let s : Option Shown = Some (Here n) in s) (sym allowed.2)
 
 pub serves : ServesBelowAnEnd

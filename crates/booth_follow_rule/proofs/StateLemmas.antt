@@ -13,6 +13,7 @@ use Rattle.booth_follow_rule.specs.declared.state.State.{State}
 use Rattle.booth_follow_rule.specs.declared.state.Word.{Word}
 use Rattle.booth_follow_rule.specs.declared.state.Word.TheVariants.{Check, Start, Stop, Kill}
 use Rattle.booth_follow_rule.specs.Known.{Known, Service, Unknown, Started, Over}
+use Rattle.booth_follow_rule.specs.declared.margins.TheConstants.{RISE}
 use Rattle.booth_follow_rule.specs.Laws.{IsHeld, IsKept, IsRenewable, IsRenewalRested}
 use Rattle.booth_follow_rule.specs.Rule.{has_failed, is_held, is_kept, is_renewable, may_renew, wait_of}
 
@@ -184,12 +185,12 @@ test_rested m reading (Some r) h = test_no_more (r.since + wait_of m r) reading 
 
 pub renewable : (m : Margins) (reading : ℕ) (s : State) (e : Extra) → is_renewable m reading s ≡ true → IsRenewable m reading (known_as s e)
 renewable m reading s e h =
-    let both = and_parts s.here (nat_lt s.armed s.until && may_renew m reading s.renewal) h in
-    let rest = and_parts (nat_lt s.armed s.until) (may_renew m reading s.renewal) both.1 in
-    record { here = both.0; later = less s.armed s.until rest.0; rested = renewal_rested m reading s.renewal rest.1 }
+    let both = and_parts s.here (nat_lt (s.armed + RISE) s.until && may_renew m reading s.renewal) h in
+    let rest = and_parts (nat_lt (s.armed + RISE) s.until) (may_renew m reading s.renewal) both.1 in
+    record { here = both.0; later = less (s.armed + RISE) s.until rest.0; rested = renewal_rested m reading s.renewal rest.1 }
 
 pub not_renewable : (m : Margins) (reading : ℕ) (s : State) (e : Extra) → is_renewable m reading s ≡ false → IsRenewable m reading (known_as s e) → ⊥
 not_renewable m reading s e not h =
     clash (is_renewable m reading s) not
-    (test_both s.here (nat_lt s.armed s.until && may_renew m reading s.renewal) h.here
-    (test_both (nat_lt s.armed s.until) (may_renew m reading s.renewal) (test_less s.armed s.until h.later) (test_rested m reading s.renewal h.rested)))
+    (test_both s.here (nat_lt (s.armed + RISE) s.until && may_renew m reading s.renewal) h.here
+    (test_both (nat_lt (s.armed + RISE) s.until) (may_renew m reading s.renewal) (test_less (s.armed + RISE) s.until h.later) (test_rested m reading s.renewal h.rested)))

@@ -1,4 +1,4 @@
--- Stories that were worked out by hand: the events before each reading, and the action after it.
+-- Stories that were worked out manually: the events before each reading, and the action after it.
 use Rattle.std.specs.Prelude.{◌≡◌, ℕ, List, [], ◌∷◌, map, Option, Some, None}
 use Rattle.booth_follow_rule.specs.declared.margins.Margins.{Margins}
 use Rattle.booth_follow_rule.specs.declared.news.News.{News}

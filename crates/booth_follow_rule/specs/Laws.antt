@@ -1,7 +1,7 @@
 -- What holds for the actions of every follower.
 use Rattle.std.specs.Prelude.{◌≡◌, ◌≢◌, ◌<◌, ◌≤◌, ◌+◌, ◌*◌, ◌++◌, ◌⊎◌, min, ℕ, Bool, true, false, List, [], ◌∷◌, map, Option, Some, None}
 use Rattle.booth_follow_rule.specs.declared.margins.Margins.{Margins}
-use Rattle.booth_follow_rule.specs.declared.margins.TheConstants.{RETRY}
+use Rattle.booth_follow_rule.specs.declared.margins.TheConstants.{RETRY, RISE}
 use Rattle.booth_follow_rule.specs.declared.news.News.{News}
 use Rattle.booth_follow_rule.specs.declared.news.News.TheVariants as news
 use Rattle.booth_follow_rule.specs.declared.news.RunEnd.{RunEnd}
@@ -45,10 +45,11 @@ abbrev pub IsRenewalRested : Margins → ℕ → Option Renewal → Type 0
 IsRenewalRested m reading None = Unit {0}
 IsRenewalRested m reading (Some r) = r.since + wait_of m r ≤ reading
 
--- the last list shows this site until an end after the armed one, and a renewal may be run
+-- the last list shows this site until an end that is more than a quarter of a second after the armed one, and a renewal
+-- may be run
 pub record IsRenewable (m : Margins) (reading : ℕ) (now : Known) : Type 0 where
   pub here : now.here ≡ true
-  pub later : now.armed < now.end
+  pub later : now.armed + RISE < now.end
   pub rested : IsRenewalRested m reading now.renewal
 
 -- a service that has ended must start: the follower was not asked to end, the service ended a pause ago, and the

@@ -1,7 +1,7 @@
 -- The rule: the action after a moment, and the actions after a list of moments.
 use Rattle.std.specs.Prelude.{ℕ, Bool, true, false, not, ◌+◌, ◌%◌, ◌^◌, ◌-◌, min, ◌&&◌, ◌||◌, ◌==◌, nat_le, nat_lt, List, [], ◌∷◌, Option, Some, None, if◌then◌else◌}
 use Rattle.booth_follow_rule.specs.declared.margins.Margins.{Margins}
-use Rattle.booth_follow_rule.specs.declared.margins.TheConstants.{RETRY}
+use Rattle.booth_follow_rule.specs.declared.margins.TheConstants.{RETRY, RISE}
 use Rattle.booth_follow_rule.specs.declared.news.News.{News}
 use Rattle.booth_follow_rule.specs.declared.news.News.TheVariants as news
 use Rattle.booth_follow_rule.specs.declared.news.RunEnd.{RunEnd}
@@ -130,9 +130,10 @@ abbrev pub may_renew : Margins → ℕ → Option Renewal → Bool
 may_renew m reading None = true
 may_renew m reading (Some r) = has_passed (wait_of m r) r.since reading
 
--- a list that names this site has a later end than the armed one
+-- a list that names this site has an end that is more than a quarter of a second after the armed one, and a renewal may
+-- be run
 abbrev pub is_renewable : Margins → ℕ → State → Bool
-is_renewable m reading s = s.here && (nat_lt s.armed s.until && may_renew m reading s.renewal)
+is_renewable m reading s = s.here && (leaves_more RISE s.armed s.until && may_renew m reading s.renewal)
 
 -- if no other action is due, a renewal is
 abbrev pub goes_on : Margins → ℕ → State → Step

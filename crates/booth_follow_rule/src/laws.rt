@@ -13,7 +13,7 @@ pub fn serves_in_time()
     ensures { ServesInTime }
 {}
 
-/// The rule follows the stories that were worked out by hand.
+/// The rule has the actions of the stories that were worked out manually.
 pub fn stories_are_followed()
     ensures { StoriesAreFollowed }
 {}

@@ -19,6 +19,12 @@ const PAUSE: u64 = 5_000;
 /// place of the next news, and with exactly a second this would be each list.
 pub(crate) const RETRY: u64 = 900;
 
+/// How much later than the armed end an end must be for a renewal, in milliseconds.
+///
+/// An answer has the seconds that are left, in whole seconds. So the ends in the answers about one lease differ by up to
+/// a second, and from answer to answer they rise by the time by which the follower wakes late.
+pub(crate) const RISE: u64 = 250;
+
 /// The times of a follower, in milliseconds.
 #[derive(Clone, Copy)]
 pub struct Margins {

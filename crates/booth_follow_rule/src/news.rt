@@ -12,7 +12,7 @@ pub enum Shown {
 /// How a run of the program ended.
 #[derive(Clone, Copy)]
 pub enum RunEnd {
-    /// With status 0: its word was carried out.
+    /// The run ended with status 0: it did what its argument demands.
     Done,
     /// With another status, or it could not be started.
     Failed,

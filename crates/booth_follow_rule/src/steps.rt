@@ -2,7 +2,7 @@
 ghost use Rattle.std.specs.Prelude.{◌≡◌, MatchBool, ◌<◌, ◌≤◌, ◌+◌};
 ghost use Rattle.booth_follow_rule.specs.Rule.{after, arms, end_of, ends_service, goes_on, has_failed, has_passed, hears, is_held, is_kept, is_renewable, is_rested, kills_on, leaves, leaves_more, may_renew, moved, next_number, no_deed, not_renewed, opens, renewed, renews, rests, runs, starts, step_at, stops_first, wait_of, while_down, while_killing, while_stopping, while_up};
 
-use crate::margins::{Margins, RETRY};
+use crate::margins::{Margins, RETRY, RISE};
 use crate::news::{News, RunEnd, Shown};
 use crate::state::{FollowDeed, Renewal, Stage, State, Word};
 
@@ -288,7 +288,9 @@ fn may_renew(margins: &Margins, reading: u64, renewal: Option<Renewal>) -> bool
 fn is_renewable(margins: &Margins, reading: u64, state: State) -> bool
     ensures { result ≡ is_renewable margins.now reading state }
 {
-    state.here && state.armed < state.until && may_renew(margins, reading, state.renewal)
+    state.here
+        && leaves_more(RISE, state.armed, state.until)
+        && may_renew(margins, reading, state.renewal)
 }
 
 fn goes_on(margins: &Margins, reading: u64, state: State) -> Step

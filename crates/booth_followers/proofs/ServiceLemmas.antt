@@ -20,7 +20,7 @@ use Rattle.booth_outcomes.specs.Configuration.{IsConfigRead, IsUnreadOutcome}
 use Rattle.booth_outcomes.specs.Keys.{IsRingRead, IsKeylessOutcome}
 use Rattle.booth_outcomes.specs.Texts.{not_followed_text, out_of_memory_text}
 use Rattle.booth_followers.specs.Rounds.{IsService}
-use Rattle.booth_followers.specs.Service.{FollowsConfig, FollowsKey, FollowsMargins, IsFollowAnswered, IsFollowLog, IsStarted, daemon_of}
+use Rattle.booth_followers.specs.Service.{FollowsConfig, FollowsKey, FollowsMargins, IsFollowAnswered, IsFollowLog, IsStarted, daemon_of, options_of}
 use Rattle.booth_followers.specs.Service.{Fitted, Keyed, Keyless, Read, Roomless, Serving, SetOut, Unfollowed, Unread}
 
 -- ---- outcomes
@@ -56,7 +56,7 @@ module _ (left : Option ℕ) (asked : FollowWords) (config : ConfigSays) (ring :
       (subst (λ outcome. FollowsKey left asked config ring margins outcome ended.said []) (sym out) (Roomless (is, refl)))
 
   pub set_out : (f : Following) (outcome : Outcome) (said : List ℕ) {a b : Option (List Entry)} →
-      IsFollowing ring asked.ticket (daemon_of asked config) asked.program margins f →
+      IsFollowing ring asked.ticket (daemon_of asked config) (options_of asked margins) f →
       GrewSome (IsStarted left asked.conf f outcome said) a b → GrewSome (FollowsKey left asked config ring margins outcome said) a b
   set_out f outcome said is starts =
       some_weaker (IsStarted left asked.conf f outcome said) (FollowsKey left asked config ring margins outcome said)

@@ -6,6 +6,7 @@ use Rattle.booth_conf.specs.Config.{ConfigSays}
 use Rattle.booth_conf.specs.Says.{Says}
 use Rattle.booth_follow_rule.specs.declared.margins.Margins.{Margins}
 use Rattle.booth_following.specs.declared.following.Following.{Following}
+use Rattle.booth_following.specs.declared.following.ServiceOptions.{ServiceOptions}
 use Rattle.booth_following.specs.Choosing.{HasFault, IsChosen}
 use Rattle.booth_following.specs.Following.{IsFollowing}
 use Rattle.booth_host.specs.declared.host.Failed.{Failed}
@@ -45,11 +46,15 @@ pub data IsStarted (left : Option ℕ) (conf : List ℕ) (f : Following) (outcom
 abbrev pub daemon_of : FollowWords → ConfigSays → Peer
 daemon_of asked config = record { address = asked.site; port = config.port }
 
+-- how the service is run
+abbrev pub options_of : FollowWords → Margins → ServiceOptions
+options_of asked margins = record { programs = asked.program; margins = margins; restarts = asked.restart }
+
 -- a following with these arguments, and its calls
 pub record IsSetOut (left : Option ℕ) (asked : FollowWords) (config : ConfigSays) (ring : Option Ring)
     (margins : Margins) (outcome : Outcome) (said : List ℕ) (entries : List Entry) : Type 0 where
   pub f : Following
-  pub is : IsFollowing ring asked.ticket (daemon_of asked config) asked.program margins f
+  pub is : IsFollowing ring asked.ticket (daemon_of asked config) (options_of asked margins) f
   pub starts : IsStarted left asked.conf f outcome said entries
 
 -- the memory ran out

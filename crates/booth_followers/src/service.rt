@@ -11,7 +11,7 @@ use booth_base::{PathText, Peer};
 use booth_cli::FollowWords;
 use booth_conf::Config;
 use booth_follow_rule::Margins;
-use booth_following::{Following, Room, Setting, Watch, margins_for};
+use booth_following::{Following, Room, ServiceOptions, Setting, Watch, margins_for};
 use booth_host::{Failed, Host, Place};
 use booth_keys::Ring;
 use booth_outcomes::{Ended, Outcome, read_config, read_ring, texts};
@@ -86,7 +86,12 @@ fn set_out<H: Host, W: Watch>(
     let Ok(mut room) = Room::new(alloc) else {
         return Ended::out_of_memory();
     };
-    let Ok(following) = Following::new(alloc, ring, asked.ticket, to, asked.program, margins) else {
+    let options = ServiceOptions {
+        programs: asked.program,
+        margins,
+        restarts: asked.restart,
+    };
+    let Ok(following) = Following::new(alloc, ring, asked.ticket, to, options) else {
         return Ended::out_of_memory();
     };
     let mut service = Service {

@@ -23,56 +23,85 @@ use Rattle.booth_following.specs.declared.turns.Made.{Made}
 use Rattle.booth_following.specs.declared.turns.Sent.{Sent}
 use Rattle.booth_following.specs.declared.standing.Standing.{Standing}
 use Rattle.booth_following.specs.Hearing.{IsNews, failed_left}
+use Rattle.booth_following.specs.Restarts.{is_outdated, learnt, started_after}
 use Rattle.booth_following.specs.Standing.{standing_at}
+use Rattle.booth_following.specs.Waits.{running_after, wait_of}
 use Rattle.booth_following.specs.Turns.{AreHeard, AreTurns, AreUnder, IsEnded, IsToldIn, IsTurn, IsUnderway, Turn, ask_calls, ask_of, asked_after, asks, awaited_after, awaited_from, calls_from, deed_of, failed_after, is_told, is_unheard, made_by, moment_of, run_calls, seat_after, term_after, term_heard, told_after, seat_from, turn_calls}
 
 -- ---- one turn
 
-abbrev seat_of : Follower → Option ℕ → Bool → ℕ → Option ℕ → Seat
-seat_of follower asked told term failed = record { follower = follower; asked = asked; told = told; term = term; failed = failed }
+abbrev seat_of : Follower → Option ℕ → Bool → ℕ → ℕ → Option ℕ → Bool → ℕ → Seat
+seat_of follower asked told term first failed running reading = record {
+  follower = follower;
+  asked = asked;
+  told = told;
+  term = term;
+  started = first;
+  failed = failed;
+  running = running;
+  reading = reading;
+}
 
-same_seat : (f f' : Follower) (a a' : Option ℕ) (t t' : Bool) (n n' : ℕ) (b b' : Option ℕ) → f.margins ≡ f'.margins → f.state ≡ f'.state → a ≡ a' →
-    t ≡ t' → n ≡ n' → b ≡ b' → seat_of f a t n b ≡ seat_of f' a' t' n' b'
-same_seat f f' a a' t t' n n' b b' margins state asked told term failed =
-    λ i. record { follower = record { margins = margins i; state = state i }; asked = asked i; told = told i; term = term i; failed = failed i }
+same_seat : (f f' : Follower) (a a' : Option ℕ) (t t' : Bool) (n n' s s' : ℕ) (b b' : Option ℕ) (r r' : Bool) (reading : ℕ) → f.margins ≡ f'.margins →
+    f.state ≡ f'.state → a ≡ a' → t ≡ t' → n ≡ n' → s ≡ s' → b ≡ b' → r ≡ r' → seat_of f a t n s b r reading ≡ seat_of f' a' t' n' s' b' r' reading
+same_seat f f' a a' t t' n n' s s' b b' r r' reading margins state asked told term first failed running = λ i. record {
+  follower = record { margins = margins i; state = state i };
+  asked = asked i;
+  told = told i;
+  term = term i;
+  started = first i;
+  failed = failed i;
+  running = running i;
+  reading = reading;
+}
 
 -- two sends
 pub two_sends : (a b : Entry) {p q r : Option (List Entry)} → GrewBy p q (a ∷ []) → GrewBy q r (b ∷ []) → GrewBy p r (a ∷ b ∷ [])
 two_sends a b first second = one_more first second
 
-pub one_turn : (f : Following) (old : Seat) (follower : Follower) (deed : FollowDeed) (standing : Option Standing) (heard : News) (left asked : Option ℕ) (told : Bool) (term : ℕ)
-    (failed : Option ℕ) (now_told : Bool) (now_term : ℕ) (asking : Ask) (started : Result (Unit {0}) Failed) (sent : Sent)
+pub one_turn : (f : Following) (old : Seat) (follower : Follower) (deed : FollowDeed) (standing : Option Standing) (said heard : News) (outdated : Bool) (left asked : Option ℕ) (told : Bool) (term first : ℕ)
+    (failed : Option ℕ) (running : Bool) (wait : ℕ) (now_told : Bool) (now_term : ℕ) (asking : Ask) (started : Result (Unit {0}) Failed) (sent : Sent)
     {answer : Result Arrival Failed} {bytes : List ℕ} {reading : ℕ} {a b c d e : Option (List Entry)} →
-    GrewBy a b (Next 100 answer bytes ∷ []) → GrewBy b c (Now reading ∷ []) → GrewBy c d (run_calls f now_term deed started) →
-    GrewBy d e (ask_calls f asking reading sent) → standing ≡ standing_at f old.asked answer bytes → IsNews f old.asked old.failed answer bytes heard →
-    (let t : Turn = record { ring = f.ring; answer = answer; bytes = bytes; reading = reading; standing = standing; heard = heard; started = started; sent = sent } in
+    wait ≡ wait_of f old → GrewBy a b (Next wait answer bytes ∷ []) → GrewBy b c (Now reading ∷ []) → GrewBy c d (run_calls f now_term deed started) →
+    GrewBy d e (ask_calls f asking reading sent) → standing ≡ standing_at f old.asked answer bytes → IsNews f old.asked old.failed answer bytes said →
+    (let t : Turn = record { ring = f.ring; answer = answer; bytes = bytes; reading = reading; standing = standing; said = said; heard = heard; started = started; sent = sent } in
     deed ≡ deed_of old t → follower.margins ≡ old.follower.margins →
     follower.state ≡ state_after old.follower.margins old.follower.state (moment_of t) →
     left ≡ failed_left old.failed answer → failed ≡ failed_after left deed started →
     now_term ≡ term_heard standing old.term → now_told ≡ is_told standing old.told →
     asking ≡ asks deed old.asked now_told reading → asked ≡ asked_after asking reading old.asked →
     told ≡ told_after asking now_told → term ≡ term_after asking now_term →
-    GrewSome (IsTurn f old (seat_of follower asked told term failed) (record { deed = deed; reading = reading; heard = heard })) a e)
-one_turn f old follower deed standing heard left asked told term failed now_told now_term asking started sent {answer} {bytes} {reading} next now run ask stands news deed_is margins state left_is failed_is now_term_is now_told_is asking_is asked_is told_is term_is =
-    let t : Turn = record { ring = f.ring; answer = answer; bytes = bytes; reading = reading; standing = standing; heard = heard; started = started; sent = sent } in
+    heard ≡ learnt outdated said → outdated ≡ is_outdated f old now_term → first ≡ started_after old.started now_term deed →
+    running ≡ running_after old.running old.follower.state.run heard deed →
+    GrewSome (IsTurn f old (seat_of follower asked told term first failed running reading) (record { deed = deed; reading = reading; heard = heard })) a e)
+one_turn f old follower deed standing said heard outdated left asked told term first failed running wait now_told now_term asking started sent {answer} {bytes} {reading} wait_is next now run ask stands news deed_is margins state left_is failed_is now_term_is now_told_is asking_is asked_is told_is term_is heard_is outdated_is first_is running_is =
+    let t : Turn = record { ring = f.ring; answer = answer; bytes = bytes; reading = reading; standing = standing; said = said; heard = heard; started = started; sent = sent } in
     let ask_is : asking ≡ ask_of old t =
     asking_is ∙ ap (λ (d : FollowDeed). asks d old.asked now_told reading) deed_is ∙ ap (λ (b : Bool). asks (deed_of old t) old.asked b reading) now_told_is in
     let new : Seat = seat_after old t in
-    some_of (IsTurn f old (seat_of follower asked told term failed) (record { deed = deed; reading = reading; heard = heard }))
+    some_of (IsTurn f old (seat_of follower asked told term first failed running reading) (record { deed = deed; reading = reading; heard = heard }))
     (one_more next (one_more now (joined run ask))) (record {
       t = t;
       ring = refl;
-      told = (news, stands);
+      told = (
+        news,
+        stands,
+        heard_is ∙ ap (λ (b : Bool). learnt b said) (outdated_is ∙ ap (λ (n : ℕ). is_outdated f old n) now_term_is),
+      );
       made_is = ap (λ (d : FollowDeed). record { deed = d; reading = reading; heard = heard }) deed_is;
-      stands = same_seat follower new.follower asked new.asked told new.told term new.term failed new.failed margins state
+      stands = same_seat follower new.follower asked new.asked told new.told term new.term first new.started failed new.failed running new.running reading margins state
           (asked_is ∙ ap (λ (k : Ask). asked_after k reading old.asked) ask_is)
           (told_is ∙ ap (λ (k : Ask). told_after k now_told) ask_is ∙ ap (λ (b : Bool). told_after (ask_of old t) b) now_told_is)
           (term_is ∙ ap (λ (k : Ask). term_after k now_term) ask_is ∙ ap (λ (n : ℕ). term_after (ask_of old t) n) now_term_is)
+          (first_is ∙ ap (λ (n : ℕ). started_after old.started n deed) now_term_is
+          ∙ ap (λ (d : FollowDeed). started_after old.started (term_heard standing old.term) d) deed_is)
           (failed_is ∙ ap (λ (o : Option ℕ). failed_after o deed started) left_is
-          ∙ ap (λ (d : FollowDeed). failed_after (failed_left old.failed answer) d started) deed_is);
-      whole = ap (λ (d : FollowDeed). Next 100 answer bytes ∷ Now reading ∷ (run_calls f now_term d started ++ ask_calls f asking reading sent)) deed_is
-          ∙ ap (λ (n : ℕ). Next 100 answer bytes ∷ Now reading ∷ (run_calls f n (deed_of old t) started ++ ask_calls f asking reading sent)) now_term_is
-          ∙ ap (λ (k : Ask). Next 100 answer bytes ∷ Now reading ∷ (run_calls f (term_heard standing old.term) (deed_of old t) started ++ ask_calls f k reading sent)) ask_is;
+          ∙ ap (λ (d : FollowDeed). failed_after (failed_left old.failed answer) d started) deed_is)
+          (running_is ∙ ap (λ (d : FollowDeed). running_after old.running old.follower.state.run heard d) deed_is);
+      whole = ap (λ (n : ℕ). Next n answer bytes ∷ Now reading ∷ (run_calls f now_term deed started ++ ask_calls f asking reading sent)) wait_is
+          ∙ ap (λ (d : FollowDeed). Next (wait_of f old) answer bytes ∷ Now reading ∷ (run_calls f now_term d started ++ ask_calls f asking reading sent)) deed_is
+          ∙ ap (λ (n : ℕ). Next (wait_of f old) answer bytes ∷ Now reading ∷ (run_calls f n (deed_of old t) started ++ ask_calls f asking reading sent)) now_term_is
+          ∙ ap (λ (k : Ask). Next (wait_of f old) answer bytes ∷ Now reading ∷ (run_calls f (term_heard standing old.term) (deed_of old t) started ++ ask_calls f k reading sent)) ask_is;
     })
 
 -- ---- turn after turn

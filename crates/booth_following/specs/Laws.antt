@@ -1,5 +1,5 @@
 -- What holds for all calls of a following.
-use Rattle.std.specs.Prelude.{◌≡◌, ◌<◌, ◌≤◌, ◌+◌, ◌-◌, ◌*◌, ◌/◌, ◌%◌, ◌^◌, ◌++◌, ◌⊎◌, ℕ, min, true, List, map, decimal, Option, Some, None, Ok}
+use Rattle.std.specs.Prelude.{◌≡◌, ◌<◌, ◌≤◌, ◌+◌, ◌-◌, ◌*◌, ◌/◌, ◌%◌, ◌^◌, ◌++◌, ◌⊎◌, ℕ, min, true, false, List, map, decimal, Option, Some, None, Ok}
 use Rattle.booth_wire.specs.declared.codes.results.TheConstants.{IARG, MORE, SUCCESS}
 use Rattle.booth_wire.specs.declared.command.Cmd.TheVariants.{RLst, RTkt}
 use Rattle.booth_wire.specs.declared.message.Head.{Head}
@@ -11,6 +11,11 @@ use Rattle.booth_auth.specs.Verdict.{is_signed}
 use Rattle.booth_follow_rule.specs.declared.news.News.{News}
 use Rattle.booth_follow_rule.specs.declared.news.News.TheVariants as news
 use Rattle.booth_follow_rule.specs.declared.news.Shown.{Shown}
+use Rattle.booth_follow_rule.specs.declared.news.Shown.TheVariants.{Here}
+use Rattle.booth_follow_rule.specs.declared.state.FollowDeed.{FollowDeed}
+use Rattle.booth_follow_rule.specs.declared.state.FollowDeed.TheVariants as deeds
+use Rattle.booth_follow_rule.specs.declared.state.Stage.TheVariants.{Up}
+use Rattle.booth_follow_rule.specs.declared.state.Word.TheVariants.{Start, Stop, Kill}
 use Rattle.booth_follow_rule.specs.Known.{AllRows, Row, known_first, rows_of}
 use Rattle.booth_follow_rule.specs.Laws.{IsCovered, IsPrompt, IsRowLet}
 use Rattle.booth_following.specs.declared.following.Following.{Following}
@@ -22,7 +27,8 @@ use Rattle.booth_following.specs.declared.standing.Standing.{Standing}
 use Rattle.booth_following.specs.Standing.{standing_in, standing_of, told_end}
 use Rattle.booth_following.specs.declared.turns.FollowEnd.TheVariants.{Unheard}
 use Rattle.booth_following.specs.Following.{under}
-use Rattle.booth_following.specs.Turns.{AreTurnsTo, IsFollowed, Turn, deeds_of, first_seat, moment_of}
+use Rattle.booth_following.specs.Restarts.{is_another}
+use Rattle.booth_following.specs.Turns.{AreTurnsTo, IsFollowed, IsToldIn, Turn, deed_of, deeds_of, first_seat, moment_of, seat_after, term_heard}
 use Rattle.booth_keys.specs.declared.ring.Ring.{Ring}
 use Rattle.booth_host.specs.declared.entry.Entry.{Entry}
 
@@ -114,6 +120,27 @@ pub record AnswersAreAuthentic : Type 0 where
   pub shows : (f : Following) (asked : ℕ) (bytes : List ℕ) (standing : Standing) (heard : News) →
       standing_in f asked bytes ≡ Some standing → IsHeard f (Some asked) bytes heard →
       heard ≡ news.List standing.shown
+
+-- ---- terms
+
+-- the run of an action ends the service
+abbrev pub EndsService : FollowDeed → Type 0
+EndsService (deeds.Run Stop number until) = Unit {0}
+EndsService (deeds.Run Kill number until) = Unit {0}
+EndsService deed = ⊥
+
+-- The term of a service is the term that was known at its last start. If the service is restarted for a term, a turn
+-- that gets an answer while the service runs with another term ends it. What the rule learns of this site is always
+-- what was said, and otherwise too if the service is not restarted for a term.
+pub record ServicesHaveTheirTerms : Type 0 where
+  pub starts : (f : Following) (seat : Seat) (t : Turn) (number until : ℕ) →
+      deed_of seat t ≡ deeds.Run Start number until → (seat_after seat t).started ≡ term_heard t.standing seat.term
+  pub ends : (f : Following) (seat : Seat) (t : Turn) (shown : Shown) → f.restarts ≡ true → IsToldIn f seat t →
+      t.said ≡ news.List shown → seat.follower.state.stage ≡ Up →
+      is_another seat.started (term_heard t.standing seat.term) ≡ true → EndsService (deed_of seat t)
+  pub here : (f : Following) (seat : Seat) (t : Turn) (until : ℕ) → IsToldIn f seat t →
+      t.heard ≡ news.List (Here until) → t.said ≡ news.List (Here until)
+  pub same : (f : Following) (seat : Seat) (t : Turn) → f.restarts ≡ false → IsToldIn f seat t → t.heard ≡ t.said
 
 -- ---- ends
 

@@ -5,5 +5,7 @@ pub mod Following
 pub mod Asking
 pub mod Standing
 pub mod Hearing
+pub mod Restarts
+pub mod Waits
 pub mod Turns
 pub mod Laws

@@ -26,7 +26,9 @@ use Rattle.booth_following.specs.Following.{under}
 use Rattle.booth_following.specs.Asking.{list_bytes, request_bytes}
 use Rattle.booth_following.specs.Hearing.{IsNews, failed_left}
 use Rattle.booth_following.specs.Programs.{program_for, termed}
+use Rattle.booth_following.specs.Restarts.{is_outdated, learnt, started_after}
 use Rattle.booth_following.specs.Standing.{standing_at}
+use Rattle.booth_following.specs.Waits.{running_after, wait_of}
 
 -- the seat at which a following begins after an earlier one left this end
 abbrev pub first_seat : Following → Option ℕ → Seat
@@ -36,17 +38,21 @@ first_seat f left =
       asked = None;
       told = false;
       term = 0;
+      started = 0;
       failed = None;
+      running = false;
+      reading = 0;
     }
 
 -- The keys of a turn, an arrival and a reading; the ticket's state, if the arrival is an answer about it; what the
--- arrival says; the result of the start of a run, and the results of the requests.
+-- arrival says, and what the rule learns of that; the result of the start of a run, and the results of the requests.
 pub record Turn : Type 0 where
   pub ring : Option Ring
   pub answer : Result Arrival Failed
   pub bytes : List ℕ
   pub reading : ℕ
   pub standing : Option Standing
+  pub said : News
   pub heard : News
   pub started : Result (Unit {0}) Failed
   pub sent : Sent
@@ -125,7 +131,7 @@ ask_of seat t = asks (deed_of seat t) seat.asked (is_told t.standing seat.told) 
 -- the calls of a turn: an arrival and a reading, the run of the deed, and the requests
 abbrev pub turn_calls : Following → Seat → Turn → List Entry
 turn_calls f seat t =
-    Next 100 t.answer t.bytes ∷ Now t.reading
+    Next (wait_of f seat) t.answer t.bytes ∷ Now t.reading
     ∷ (run_calls f (term_heard t.standing seat.term) (deed_of seat t) t.started
     ++ ask_calls (under f t.ring) (ask_of seat t) t.reading t.sent)
 
@@ -138,16 +144,20 @@ seat_after seat t = record {
   asked = asked_after (ask_of seat t) t.reading seat.asked;
   told = told_after (ask_of seat t) (is_told t.standing seat.told);
   term = term_after (ask_of seat t) (term_heard t.standing seat.term);
+  started = started_after seat.started (term_heard t.standing seat.term) (deed_of seat t);
   failed = failed_after (failed_left seat.failed t.answer) (deed_of seat t) t.started;
+  running = running_after seat.running seat.follower.state.run t.heard (deed_of seat t);
+  reading = t.reading;
 }
 
--- what its arrival says, and the ticket's state by it, with the keys of the turn
+-- what its arrival says, and the ticket's state by it, with the keys of the turn; and what the rule learns
 abbrev pub IsToldIn : Following → Seat → Turn → Type 0
 IsToldIn f seat t =
-    IsNews (under f t.ring) seat.asked seat.failed t.answer t.bytes t.heard
+    IsNews (under f t.ring) seat.asked seat.failed t.answer t.bytes t.said
     × (t.standing ≡ standing_at (under f t.ring) seat.asked t.answer t.bytes)
+    × (t.heard ≡ learnt (is_outdated f seat (term_heard t.standing seat.term)) t.said)
 
--- the result of a turn: its action, its reading, and what it learnt
+-- the result of a turn: its action, its reading, and what the rule learnt
 abbrev pub made_by : Seat → Turn → Made
 made_by seat t = record { deed = deed_of seat t; reading = t.reading; heard = t.heard }
 

@@ -14,6 +14,15 @@ use booth_keys::Ring;
 use booth_wire::Frame;
 use std::alloc::{AllocError, Global};
 
+/// How a service is run.
+#[derive(Drop)]
+pub struct ServiceOptions {
+    pub programs: Programs,
+    pub margins: Margins,
+    /// Whether the service is restarted if its lease has another term than at its start.
+    pub restarts: bool,
+}
+
 /// A ticket, the daemon of this site, and the service that follows the ticket here.
 #[derive(Drop)]
 pub struct Following {
@@ -27,19 +36,20 @@ pub struct Following {
     pub(crate) line: TicketLine,
     pub(crate) programs: Programs,
     pub(crate) margins: Margins,
+    /// Whether the service is restarted if its lease has another term than at its start.
+    pub(crate) restarts: bool,
 }
 
 impl Following {
-    /// Returns a following of the ticket by these programs, at the site whose daemon listens at this address.
+    /// Returns a following of the ticket by this service, at the site whose daemon listens at this address.
     pub fn new(
         alloc: Global,
         ring: Option<Ring>,
         ticket: Name,
         to: Peer,
-        programs: Programs,
-        margins: Margins,
+        options: ServiceOptions,
     ) -> Result<Following, AllocError>
-        ensures { IfOk result (IsFollowing ring ticket to programs margins) }
+        ensures { IfOk result (IsFollowing ring ticket to options) }
     {
         let line = TicketLine::new(alloc, &ticket, &to.address)?;
         Ok(Following {
@@ -48,8 +58,9 @@ impl Following {
             me: to.address.id(),
             to,
             line,
-            programs,
-            margins,
+            programs: options.programs,
+            margins: options.margins,
+            restarts: options.restarts,
         })
     }
 
@@ -89,8 +100,14 @@ pub struct Seat {
     pub(crate) told: bool,
     /// The term of this site's lease by the last such answer, or 0.
     pub(crate) term: u32,
+    /// The term that was known at the last start of the service. It is 0 if none was, or no start was made.
+    pub(crate) started: u32,
     /// The number of a run that could not be started, until the follower learns of it.
     pub(crate) failed: Option<u64>,
+    /// Whether the last run that was not a renewal may still be running.
+    pub(crate) running: bool,
+    /// The last reading, or 0 before the first turn.
+    pub(crate) reading: u64,
 }
 
 impl Seat {
@@ -103,7 +120,10 @@ impl Seat {
             asked: None,
             told: false,
             term: 0,
+            started: 0,
             failed: None,
+            running: false,
+            reading: 0,
         }
     }
 }

@@ -92,7 +92,7 @@ fn tells_of(ticket: &Name, part: &Part<'_>) -> bool
     part.whole || has_line(ticket.bytes(), part.text)
 }
 
-// Returns what a datagram says.
+// Returns the state of the ticket that a datagram shows.
 fn heard_in(f: &Following, asked: Option<u64>, bytes: &[u8]) -> News
     ensures { IsHeard f.now asked bytes.now result }
 {
@@ -122,7 +122,7 @@ fn how_of(status: i32) -> RunEnd
     }
 }
 
-// Returns what an arrival says, if every run was started.
+// Returns what the rule learns from an arrival, if every run was started.
 fn arrived(
     f: &Following,
     asked: Option<u64>,

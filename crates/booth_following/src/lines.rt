@@ -79,7 +79,7 @@ fn shown_in(start: &[u8], text: &[u8]) -> Shown
     Shown::Elsewhere
 }
 
-// Returns whether a line is of this ticket.
+// Returns whether a line of a list is about this ticket.
 fn is_of(ticket: &[u8], line: &[u8]) -> bool
     ensures { MatchBool result (IsOf ticket.now line.now) (IsOf ticket.now line.now → ⊥) }
 {

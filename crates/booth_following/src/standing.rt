@@ -10,7 +10,7 @@ use booth_follow_rule::Shown;
 use booth_host::{Arrival, Datagram, Failed};
 use booth_wire::{Body, Cmd, Head, Message, TicketPart, decode, results};
 
-/// What an answer about a ticket says.
+/// The state of a ticket according to an answer.
 #[derive(Clone, Copy)]
 pub(crate) struct Standing {
     pub shown: Shown,

@@ -10,13 +10,12 @@ use crate::asking::{put_list_request, put_request};
 use crate::following::{Following, Room, Seat};
 use crate::hearing::{failed_left, news_of};
 use crate::programs::termed;
+use crate::restarts::{is_outdated, learnt, started_after};
 use crate::standing::{Standing, standing_at};
+use crate::waits::{ASK_EVERY, running_after, wait_of};
 use crate::watching::{Seen, Watch};
 use booth_follow_rule::{FollowDeed, News, Word};
 use booth_host::{Arrival, Failed, Host, Job};
-
-/// How long the ticket is not requested again, in milliseconds.
-const ASK_EVERY: u64 = 1_000;
 
 /// How long a following waits for the next answer before it ends, in milliseconds: a request was not answered.
 const SILENT_FOR: u64 = 1_500;
@@ -254,13 +253,15 @@ pub(crate) fn turn<H: Host, W: Watch>(
     ensures past { GrewSome (IsTurn f.now seat.old seat.new result) (H.past host.old) (H.past host.new) }
     ensures later { H.faults host.old ≤ H.faults host.new }
 {
-    let answer = host.next(100, &mut room.datagram);
+    let answer = host.next(wait_of(f, seat), &mut room.datagram);
     let reading = host.now();
     let standing = standing_at(f, seat.asked, &answer, &room.datagram);
-    let heard = news_of(f, seat, &answer, &room.datagram);
+    let said = news_of(f, seat, &answer, &room.datagram);
     let left = failed_left(seat.failed, &answer);
     let term = term_heard(standing, seat.term);
     let told = is_told(standing, seat.told);
+    let outdated = is_outdated(f, seat, term);
+    let heard = learnt(outdated, said);
     let before = seat.follower.state();
     let deed = seat.follower.step(reading, heard);
     let started = run(f, term, deed, host);
@@ -270,10 +271,14 @@ pub(crate) fn turn<H: Host, W: Watch>(
     seat.asked = asked_after(asking, reading, seat.asked);
     seat.told = told_after(asking, told);
     seat.term = term_after(asking, term);
+    seat.started = started_after(seat.started, term, deed);
+    seat.running = running_after(seat.running, before.run, heard, deed);
+    seat.reading = reading;
     watch.see(&Seen {
         margins: f.margins,
         reading,
         heard,
+        is_outdated: outdated,
         status: status_of(&answer),
         before,
         deed,
@@ -290,9 +295,9 @@ pub(crate) fn turn<H: Host, W: Watch>(
 /// Since when an answer is awaited, in milliseconds.
 #[derive(Clone, Copy)]
 pub(crate) enum Awaited {
-    /// None has arrived since the first turn.
+    /// No answer has arrived since the first turn, which was at this reading.
     Begun(u64),
-    /// One arrived then.
+    /// The last answer arrived at this reading.
     Told(u64),
 }
 

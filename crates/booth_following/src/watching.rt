@@ -10,6 +10,8 @@ pub struct Seen {
     pub reading: u64,
     /// What was learnt before the reading.
     pub heard: News,
+    /// Whether the service had to be restarted, since its lease has another term than at its start.
+    pub is_outdated: bool,
     /// The status with which a run ended, if one did.
     pub status: Option<i32>,
     /// What the follower knew before the turn.

@@ -10,6 +10,7 @@ use Rattle.booth_base.specs.declared.address.MemberId.{MemberId}
 use Rattle.booth_wire.specs.declared.message.Head.{Head}
 use Rattle.booth_wire.specs.declared.message.TicketPart.{TicketPart}
 use Rattle.booth_wire.specs.PlainMessage.{PlainMessage, Text, Ticket}
+use Rattle.booth_wire.specs.Reading.{decoded}
 use Rattle.booth_wire.proofs.ByteLemmas.{and_split}
 use Rattle.booth_host.specs.declared.host.Arrival.{Arrival}
 use Rattle.booth_host.specs.declared.host.Arrival.TheVariants as arrivals
@@ -22,7 +23,6 @@ use Rattle.booth_follow_rule.specs.declared.news.Shown.{Shown}
 use Rattle.booth_follow_rule.specs.declared.news.Shown.TheVariants.{Here, Elsewhere}
 use Rattle.booth_follow_rule.specs.declared.state.State.{State}
 use Rattle.booth_follow_rule.specs.Known.{Row, rows_from}
-use Rattle.booth_follow_rule.specs.Laws.{HasTold}
 use Rattle.booth_follow_rule.specs.Rule.{Moment, follow_step, state_after}
 use Rattle.booth_following.specs.declared.following.Following.{Following}
 use Rattle.booth_following.specs.Following.{under}
@@ -33,6 +33,7 @@ use Rattle.booth_following.specs.Standing.{names_me, standing_in, standing_of, t
 use Rattle.booth_following.specs.Turns.{AreTurns, Turn, first_seat, moment_of, seat_from}
 use Rattle.booth_following.proofs.LawLemmas.{lists, told_at}
 use Rattle.booth_following.proofs.StandingLemmas.{answers}
+use Rattle.booth_following.proofs.TermLemmas.{said_here}
 use Rattle.booth_services.specs.Services.{AreAlike, HasHeard, HearsItsSite, IsTurnAt, TimedTurn, WasSentBy, asked_after, time_after, turns_of}
 use Rattle.booth_services.proofs.ListLemmas.{joins}
 
@@ -74,20 +75,12 @@ cut_rows m s (t ∷ before) last after =
 -- ---- the turn that heard of an end
 
 -- a turn among these that heard of this end
-record HeardIn (turns : List TimedTurn) (until : ℕ) : Type 0 where
+pub record HeardIn (turns : List TimedTurn) (until : ℕ) : Type 0 where
   pub before : List TimedTurn
   pub t : TimedTurn
   pub after : List TimedTurn
   pub whole : turns ≡ before ++ t ∷ after
   pub shown : t.turn.heard ≡ news.List (Here until)
-
-heard_in : (m : Margins) (s : State) (turns : List TimedTurn) (until : ℕ) → HasTold until (rows_from m s (moments_of turns)) → HeardIn turns until
-unfolding rows_from
-heard_in m s [] until told = absurd told
-heard_in m s (t ∷ turns) until (inl is) = record { before = []; t = t; after = turns; whole = refl; shown = is }
-heard_in m s (t ∷ turns) until (inr told) =
-    let q = heard_in m (state_after m s (moment_of t.turn)) turns until told in
-    record { before = t ∷ q.before; t = q.t; after = q.after; whole = ap (λ (rest : List TimedTurn). t ∷ rest) q.whole; shown = q.shown }
 
 turns_append : (xs ys : List TimedTurn) → turns_of (xs ++ ys) ≡ turns_of xs ++ turns_of ys
 turns_append [] ys = refl
@@ -116,27 +109,32 @@ last_of : (time : ℕ) (xs : List TimedTurn) (y : TimedTurn) (ys : List TimedTur
 last_of time [] y ys = refl
 last_of time (x ∷ xs) y ys = last_of x.time xs y ys
 
+-- this turn heard of an end
+pub record HeardBy (w : World) (m : ℕ) (f : Following) (left : Option ℕ) (t : TimedTurn) (until time : ℕ) : Type 0 where
+  pub heard : HasHeard w m f left until time
+  pub same : t ≡ heard.t
+
 pub heard_of : (w : World) (m : ℕ) (f : Following) (left : Option ℕ) (turns before : List TimedTurn) (last : TimedTurn) (after : List TimedTurn) (until : ℕ)
     → turns ≡ before ++ last ∷ after → AreTurns f (first_seat f left) (turns_of turns) → AreAt w m f left turns
-    → (s : State) (margins : Margins) → HasTold until (rows_from margins s (moments_of (before ++ last ∷ []))) → HasHeard w m f left until last.time
-heard_of w m f left turns before last after until whole told at s margins has = record {
-  before = q.before;
-  t = q.t;
-  told = told_at f (first_seat f left) (turns_of q.before) q.t.turn (turns_of (q.after ++ after))
-      (subst (λ (ts : List Turn). AreTurns f (first_seat f left) ts)
-      (ap (λ (ts : List TimedTurn). turns_of ts) split ∙ turns_append q.before (q.t ∷ (q.after ++ after))) told);
-  at = at q.before (q.after ++ after) q.t split;
-  shown = q.shown;
-  no_later =
-      let rest = in_order w m f left turns q.before q.t q.after after at split in
-      let ends : last.time ≡ time_after q.t.time q.after =
-      sym (time_push 0 before last) ∙ ap (λ (ts : List TimedTurn). time_after 0 ts) q.whole ∙ last_of 0 q.before q.t q.after in
-      omega (arith, rest, ends);
+    → (q : HeardIn (before ++ last ∷ []) until) → HeardBy w m f left q.t until last.time
+heard_of w m f left turns before last after until whole told at q = record {
+  heard = record {
+    before = q.before;
+    t = q.t;
+    told = told_at f (first_seat f left) (turns_of q.before) q.t.turn (turns_of (q.after ++ after))
+        (subst (λ (ts : List Turn). AreTurns f (first_seat f left) ts)
+        (ap (λ (ts : List TimedTurn). turns_of ts) split ∙ turns_append q.before (q.t ∷ (q.after ++ after))) told);
+    at = at q.before (q.after ++ after) q.t split;
+    shown = q.shown;
+    no_later =
+        let rest = in_order w m f left turns q.before q.t q.after after at split in
+        let ends : last.time ≡ time_after q.t.time q.after =
+        sym (time_push 0 before last) ∙ ap (λ (ts : List TimedTurn). time_after 0 ts) q.whole ∙ last_of 0 q.before q.t q.after in
+        omega (arith, rest, ends);
+  };
+  same = refl;
 }
   where
-    q : HeardIn (before ++ last ∷ []) until
-    q = heard_in margins s (before ++ last ∷ []) until has
-
     split : turns ≡ q.before ++ q.t ∷ (q.after ++ after)
     split =
         whole ∙ sym (joins before (last ∷ []) after) ∙ ap (λ (ts : List TimedTurn). ts ++ after) q.whole
@@ -204,22 +202,12 @@ pub record IsAnsweredEnd (message : PlainMessage) (ticket : List ℕ) (me : Memb
   pub small : message.head.secs < 4294967295
   pub end : until ≡ told_end message.head part.valid_for
 
--- A message of its site, which that site sent, tells this end.
-pub record ToldEnd (w : World) (m : ℕ) (f : Following) (until time : ℕ) : Type 0 where
+-- A message of its site, which that site sent and this turn received, tells this end.
+pub record ToldEnd (w : World) (m : ℕ) (f : Following) (until : ℕ) (t : TimedTurn) : Type 0 where
   pub message : PlainMessage
-  pub sent : WasSentBy w m time message
+  pub received : decoded t.turn.bytes ≡ Ok message
+  pub sent : WasSentBy w m t.time message
   pub how : IsAnsweredEnd message f.ticket f.me until ⊎ IsListedEnd message f.line until
-
-later_sent : (w : World) (m early late : ℕ) (message : PlainMessage) → early ≤ late → WasSentBy w m early message → WasSentBy w m late message
-later_sent w m early late message on s = record {
-  entry = s.entry;
-  one = s.one;
-  own = s.own;
-  no_later = let n = s.no_later in omega (arith, n, on);
-  bytes = s.bytes;
-  sent = s.sent;
-  same = s.same;
-}
 
 same_member : (a b : MemberId) → a.0 ≡ b.0 → a ≡ b
 same_member a b e = λ i. record { 0 = e i }
@@ -252,10 +240,12 @@ answered_end f asked bytes m part until true told is shown =
       end = cc;
     }
 
-pub told_end_of : (w : World) (m : ℕ) (f : Following) (left : Option ℕ) (until time : ℕ) → HasHeard w m f left until time → ToldEnd w m f until time
+pub told_end_of : (w : World) (m : ℕ) (f : Following) (left : Option ℕ) (until time : ℕ) (h : HasHeard w m f left until time)
+    → ToldEnd w m f until h.t
 told_end_of w m f left until time h =
     by_asked (asked_after f left h.before) h.at.hears
-    (is_heard keyed (asked_after f left h.before) (seat_from (first_seat f left) (turns_of h.before)).failed h.t.turn.answer h.t.turn.bytes h.t.turn.heard (Here until) h.told.0 h.shown)
+    (is_heard keyed (asked_after f left h.before) (seat_from (first_seat f left) (turns_of h.before)).failed h.t.turn.answer h.t.turn.bytes h.t.turn.said (Here until) h.told.0
+    (said_here f (seat_from (first_seat f left) (turns_of h.before)) h.t.turn until h.told h.shown))
   where
     -- by the keys of that turn
     keyed : Following
@@ -263,21 +253,23 @@ told_end_of w m f left until time h =
 
     by_answer : (asked : ℕ) (message : PlainMessage) (part : TicketPart) → HearsItsSite w m f (Some asked) h.t
         → IsStandingTold keyed asked h.t.turn.bytes message part (standing_of keyed message.head part)
-        → Here until ≡ (standing_of keyed message.head part).shown → ToldEnd w m f until time
+        → Here until ≡ (standing_of keyed message.head part).shown → ToldEnd w m f until h.t
     by_answer asked message part hears told shown = record {
       message = message;
-      sent = later_sent w m h.t.time time message h.no_later (hears.0 message part told);
+      received = told.read;
+      sent = hears.0 message part told;
       how = inl (answered_end keyed asked h.t.turn.bytes message part until (names_me keyed message.head part) told refl shown);
     }
 
     by_list : (asked : ℕ) → HearsItsSite w m f (Some asked) h.t → standing_in keyed asked h.t.turn.bytes ≡ None
-        → IsHeard keyed (Some asked) h.t.turn.bytes (news.List (Here until)) → ToldEnd w m f until time
+        → IsHeard keyed (Some asked) h.t.turn.bytes (news.List (Here until)) → ToldEnd w m f until h.t
     by_list asked hears is heard =
         let shows = lists.shows keyed asked h.t.turn.bytes (Here until) is heard in
         let part : Part = shows.0 in
         let found = lists.only keyed asked h.t.turn.bytes part shows.1 in record {
           message = found.0;
-          sent = later_sent w m h.t.time time found.0 h.no_later (hears.1 found.0 part found.1);
+          received = found.1.read;
+          sent = hears.1 found.0 part found.1;
           how = inr (record {
             text = part.text;
             place = shows.3.0;
@@ -289,7 +281,7 @@ told_end_of w m f left until time h =
         }
 
     by_standing : (asked : ℕ) (o : Option _) → HearsItsSite w m f (Some asked) h.t → standing_in keyed asked h.t.turn.bytes ≡ o
-        → IsHeard keyed (Some asked) h.t.turn.bytes (news.List (Here until)) → ToldEnd w m f until time
+        → IsHeard keyed (Some asked) h.t.turn.bytes (news.List (Here until)) → ToldEnd w m f until h.t
     by_standing asked (Some standing) hears is heard =
         let found = answers.only keyed asked h.t.turn.bytes standing is in
         let shown : news.List (Here until) ≡ news.List standing.shown = answers.shows keyed asked h.t.turn.bytes standing (news.List (Here until)) is heard in
@@ -299,18 +291,14 @@ told_end_of w m f left until time h =
     by_standing asked None hears is heard = by_list asked hears is heard
 
     by_asked : (asked : Option ℕ) → HearsItsSite w m f asked h.t → IsHeard keyed asked h.t.turn.bytes (news.List (Here until))
-        → ToldEnd w m f until time
+        → ToldEnd w m f until h.t
     by_asked None hears is = let e : news.List (Here until) ≡ news.Nothing = is in absurd cc
     by_asked (Some asked) hears is = by_standing asked (standing_in keyed asked h.t.turn.bytes) hears refl is
 
--- the same of a later time
-pub later_end : (w : World) (m : ℕ) (f : Following) (until early late : ℕ) → early ≤ late → ToldEnd w m f until early → ToldEnd w m f until late
-later_end w m f until early late on told =
-    record { message = told.message; sent = later_sent w m early late told.message on told.sent; how = told.how }
-
 -- the same of a following of the same ticket at the same site
-pub alike_end : (w : World) (m : ℕ) (f g : Following) (until time : ℕ) → AreAlike f g → ToldEnd w m f until time → ToldEnd w m g until time
-alike_end w m f g until time alike told = record { message = told.message; sent = told.sent; how = by_how told.how }
+pub alike_end : (w : World) (m : ℕ) (f g : Following) (until : ℕ) (t : TimedTurn) → AreAlike f g → ToldEnd w m f until t → ToldEnd w m g until t
+alike_end w m f g until t alike told =
+    record { message = told.message; received = told.received; sent = told.sent; how = by_how told.how }
   where
     by_how : IsAnsweredEnd told.message f.ticket f.me until ⊎ IsListedEnd told.message f.line until
         → IsAnsweredEnd told.message g.ticket g.me until ⊎ IsListedEnd told.message g.line until

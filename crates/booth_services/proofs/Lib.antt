@@ -1,6 +1,11 @@
 pub mod ListLemmas
 pub mod LineLemmas
 pub mod FollowerLemmas
+pub mod ArmedLemmas
 pub mod ServiceLemmas
+pub mod MoveLemmas
+pub mod TurnTests
+pub mod ReleaseTests
+pub mod ServiceRuns
 pub mod WordLemmas
 pub mod RunLemmas

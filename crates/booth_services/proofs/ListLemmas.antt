@@ -3,7 +3,7 @@ use Rattle.std.proofs.Common.{◌≡◌, ◌⊎◌, ℕ, ◌≤◌, List, [], �
 use Rattle.booth_node.specs.Records.{Has}
 use Rattle.booth_node.specs.World.{WorldEntry, World, HasForm, last_time}
 
-heads : {A : Type 0} (x y : A) (xs ys : List A) → x ∷ xs ≡ y ∷ ys → (x ≡ y) × (xs ≡ ys)
+pub heads : {A : Type 0} (x y : A) (xs ys : List A) → x ∷ xs ≡ y ∷ ys → (x ≡ y) × (xs ≡ ys)
 heads x y xs ys e = (cc, cc)
 
 pub joins : {A : Type 0} (xs ys zs : List A) → (xs ++ ys) ++ zs ≡ xs ++ (ys ++ zs)
@@ -13,6 +13,22 @@ joins (x ∷ xs) ys zs = ap (λ rest. x ∷ rest) (joins xs ys zs)
 pub with_none : {A : Type 0} (xs : List A) → xs ++ [] ≡ xs
 with_none [] = refl
 with_none (x ∷ xs) = ap (λ rest. x ∷ rest) (with_none xs)
+
+-- a list that has more behind itself has nothing there
+grown : {A : Type 0} (xs ys : List A) → xs ≡ xs ++ ys → ys ≡ []
+grown [] ys e = sym e
+grown (x ∷ xs) ys e = grown xs ys (heads x x xs (xs ++ ys) e).1
+
+pub some_there : {A : Type 0} (xs : List A) (y : A) (ys : List A) → xs ++ y ∷ ys ≡ [] → ⊥
+some_there [] y ys e = absurd cc
+some_there (x ∷ xs) y ys e = absurd cc
+
+pub no_longer : {A : Type 0} (xs ys : List A) (z : A) (zs : List A) → xs ≡ (xs ++ ys) ++ z ∷ zs → ⊥
+no_longer xs ys z zs e = some_there ys z zs (grown xs (ys ++ z ∷ zs) (e ∙ joins xs ys (z ∷ zs)))
+
+pub has_at : {A : Type 0} (xs : List A) (y : A) (ys : List A) → Has (xs ++ y ∷ ys) y
+has_at [] y ys = inl refl
+has_at (x ∷ xs) y ys = inr (has_at xs y ys)
 
 -- where a list has this
 pub record Place {A : Type 0} (xs : List A) (x : A) : Type 0 where

@@ -48,6 +48,7 @@ texts = record {
   immediate = false;
   force = false;
   json = false;
+  restart = false;
 }
 
 found_is : found_in verbs.Daemon run_words ≡ texts
@@ -101,6 +102,7 @@ reads_it = (
     options = record { immediate = false; wait = false; commit = false };
     force = false;
     json = false;
+    restart = false;
     target = None;
     site = Some asked_for.site;
     turns = Some 1;
@@ -131,6 +133,7 @@ reads_it = (
     options = refl;
     force = refl;
     json = refl;
+    restart = refl;
     target = refl;
     site = site_spelled;
     turns = one_turn;

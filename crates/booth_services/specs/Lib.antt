@@ -1,2 +1,3 @@
 pub mod Services
+pub mod ServiceExample
 pub mod RunExample
