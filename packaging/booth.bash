@@ -60,7 +60,7 @@ _booth_offer_tool() {
   local options=$'-c\n--conf\n'
   if [[ $program == booth-status ]]; then
     options+=$'-t\n--timeout\n-w\n--watch\n-b\n--brief\n-j\n--json\n-m\n--metrics\n-s\n--state\n'
-    options+=$'-f\n--may-be-free\n--check\n--members\n--sync\n'
+    options+=$'-f\n--may-be-free\n--serve\n--doctor\n--check\n--members\n--sync\n'
   fi
   options+=$'-h\n--help\n-V\n--version'
   case $program:$before in
@@ -68,10 +68,15 @@ _booth_offer_tool() {
     booth-status:-f | booth-status:--may-be-free) _booth_reply "$(_booth_values ticket)" "$word"; return ;;
     booth-status:-[ms] | booth-status:--metrics | booth-status:--state) _booth_files -f -- "$word"; return ;;
     booth-status:-t | booth-status:--timeout | booth-status:--sync) return ;;
+    booth-status:--serve) [[ $word == -* ]] || { _booth_reply 127.0.0.1:9930 "$word"; return; } ;;
   esac
   if [[ $word == -* ]]; then
     _booth_reply "$options" "$word"
+  elif [[ $program == booth-record && ${words[1]} == silence && cword -gt 1 ]]; then
+    _booth_reply "$(_booth_values ticket)" "$word"
+    _booth_files -d -- "$word"
   elif [[ $program == booth-record ]]; then
+    ((cword == 1)) && _booth_reply silence "$word"
     _booth_files -f -X '!*.rec' -- "$word"
     _booth_files -d -- "$word"
   fi
@@ -87,7 +92,7 @@ _booth_offer_follow() {
     -m | -k) return ;;
   esac
   if [[ $word == -* ]]; then
-    _booth_reply $'-c\n-s\n-d\n-m\n-k\n--help\n--version' "$word"
+    _booth_reply $'-c\n-s\n-d\n-m\n-k\n-r\n--restart-on-term\n--help\n--version' "$word"
     return
   fi
   for ((i = 1; i < cword; i++)); do

@@ -11,12 +11,14 @@ import shutil
 from shells import need, run
 
 TOP = os.path.dirname(os.path.dirname(os.path.abspath(__file__)))
-# what bash-completion's users source
+# the file of bash-completion that shells source
 BASH_COMPLETION = "/usr/share/bash-completion/bash_completion"
 
 
 def completed(*words, line="", before=""):
-    """What bash offers behind these words, which it parted this line in. The program `before` is run before."""
+    """Returns what bash offers for this line, which it has split into these words. Before that it runs the program
+    `before`.
+    """
     script = (
         f"{before}\nsource {TOP}/packaging/booth.bash; COMP_WORDS=(\"$@\"); COMP_CWORD=$(($# - 1)); "
         f"COMP_LINE={shlex.quote(line)}; COMP_POINT=${{#COMP_LINE}}; "
@@ -70,7 +72,7 @@ def completion_offers(room):
         (("geostore", "set", "-"), ["-c", "-s", "-t", "--tcp", "--udp", "--help", "--version"]),
         (("geostore", "set", "-c", conf, "-t", "db8", ""), []),
         (("booth", "grant", "-c", f"{room}/none.conf", ""), []),
-        (("booth-follow", "-"), ["-c", "-s", "-d", "-m", "-k", "--help", "--version"]),
+        (("booth-follow", "-"), ["-c", "-s", "-d", "-m", "-k", "-r", "--restart-on-term", "--help", "--version"]),
         (("booth-follow", "-c", conf, "-s", ""), ["192.0.2.10"]),
         (("booth-follow", "-c", conf, "-m", "5", "d"), ["db8"]),
         (("booth-follow", "-m", ""), []),
@@ -91,9 +93,15 @@ def completion_offers(room):
         (("booth-status", "--check", f"{room}/a."), [conf]),
         (("booth-status", "--conf", conf, "-f", ""), ["db8", "mail"]),
         (("booth-status", "-t", ""), []),
+        (("booth-status", "--do"), ["--doctor"]),
+        (("booth-status", "--serve", ""), ["127.0.0.1:9930"]),
+        (("booth-status", "--serve", "-w"), ["-w"]),
         (("booth-record", f"{room}/folder/"), [f"{room}/folder/61.rec"]),
         (("booth-record", f"{room}/fold"), [f"{room}/folder/"]),
         (("booth-record", "--c"), ["--conf"]),
+        (("booth-record", "sil"), ["silence"]),
+        (("booth-record", "silence", "-c", conf, "db"), ["db8"]),
+        (("booth-record", "silence", "-c", conf, "db8", f"{room}/fold"), [f"{room}/folder/"]),
         (("boothd", "daemon", "-d", f"{room}/fold"), [f"{room}/folder/"]),
         (("boothd", "daemon", "-c", f"{room}/fold"), [f"{room}/folder/"]),
     ]
@@ -103,7 +111,7 @@ def completion_offers(room):
     for words, offered in cases:
         got = completed(*words)
         need(got == offered, f"{' '.join(words)}: {got}")
-    # a name is no program, wherever it stands: nothing of it is expanded, also once it is on the command line
+    # a ticket's name is never run as a command: nothing in it is expanded, not even on the command line
     names = [f"$(touch {room}/ran)", f"`touch {room}/ran`", f"$(touch${{IFS}}{room}/ran)", "it's", 'two" words', "*"]
     odd = f"{room}/odd.conf"
     with open(odd, "w", encoding="utf-8") as file:

@@ -16,7 +16,7 @@ from gate import Station
 from room import SECONDS_TO_END, Asker, check, require
 from serving import LOCK, TOP
 
-# a file that is served, line by line, with this machine's address as @
+# a file that a daemon serves, line by line; @ stands for this machine's address
 FILE = b"""site = "@"
 site = "192.168.202.100"
 arbitrator = "192.168.203.100"
@@ -33,7 +33,7 @@ USAGE = (
     b" see --help behind it, and boothd(8)"
 )
 
-# the CRC-32 of these two is the same
+# (these two addresses have the same CRC-32)
 CLASHING = "192.168.202.100", "2001:db8::a283:e2c0"
 
 SYNTAX = [
@@ -77,7 +77,7 @@ REPEATED = [
     b"site = ::1\nsite = 0:0:0:0:0:0:0:1",
 ]
 
-# files without a faulty line, and what is said of the whole
+# files without a faulty line, each with the fault of the whole file
 WHOLE = [
     (b"", b"no site"),
     (b"\n# nothing\n", b"no site"),
@@ -95,7 +95,7 @@ WHOLE = [
      b"ticket a: timeout and retries do not fit renewal-freq"),
 ]
 
-# a file that says much, in each of the ways to say it
+# a file that uses each form of the grammar
 RICH = b"""\r
    # a comment of any bytes: \x00\x01\xff "'=\r
 transport\t=\t'udp'\r
@@ -129,14 +129,14 @@ def here(room, text):
 
 
 def is_faulty(room, text, what, shown=None):
-    """The daemon refuses this file with this fault, whichever member it would be."""
+    """Checks that the daemon refuses this file with this fault, whichever member's address it gets."""
     path = room.file(here(room, text))
     said = b"%s: %s" % (path.encode(), what)
     room.refuses(room.words(path), said, what=f"the file {shown or text}")
 
 
 def is_read(room, text, shown=None):
-    """The file has no fault: the next check is whether this is a member."""
+    """Checks that the file has no fault: the daemon refuses only the address."""
     words = room.words(room.file(here(room, text)), "10.9.9.9")
     room.refuses(words, b"10.9.9.9 is not a member", what=f"the file {shown or text}")
 
@@ -146,7 +146,7 @@ def no_command(room):
     """words without a command have a usage line and status 1"""
     good = room.words(room.file(LEAST))
     wrong = [[], [""], ["Daemon", *good[1:]], ["client", *good], ["--help"], ["--version"]]
-    # words that are no UTF-8
+    # arguments that are not valid UTF-8
     for words in (*wrong, [b"\xff"], [*good[:2], b"/\xff", *good[3:]]):
         room.refuses(words, USAGE)
 
@@ -170,7 +170,7 @@ def untaken_words(room):
 
 
 def told_in_page(first):
-    """The block of man/boothd.8 that begins with this line, as the page shows it."""
+    """Returns the block of man/boothd.8 that begins with this line, as the page shows it."""
     with open(f"{TOP}/man/boothd.8", "rb") as file:
         lines = file.read().splitlines()
     block = itertools.takewhile(lambda line: line != b".Ed", lines[lines.index(first) :])
@@ -242,14 +242,14 @@ def faulty_lines(room):
     prereqs = b"".join(b"attr-prereq = auto a eq %d\n" % number for number in range(9))
     sites = b"".join(b"site = 10.0.0.%d\n" % number for number in range(17))
     tickets = b"".join(b"ticket = t%d\n" % number for number in range(4_097))
-    # one after the file of four lines: its number in that, and what is said
+    # lines after the file of four lines, each with its number and the expected fault
     after = [
         *((line, 5, b"syntax") for line in SYNTAX),
         *((line, 5, b"unknown key") for line in UNKNOWN),
         *((line, 5 + line.count(b"\n"), b"repeated") for line in REPEATED),
         (b"ticket = __default__", 5, default_late),
         (prereqs, 13, b"too many"),
-        # the earliest line, and in a line what comes first
+        # files with two faults: the earlier line counts, and within a line the first fault
         (b"\n\nx\nexpires = 3\nport = 0", 7, b"syntax"),
         (b"\n\nexpires = 3\nport = 0\nx", 7, b"unknown key"),
         (b"# x\nport = 0\nticket = ticket-db8", 6, b"bad value for port"),
@@ -387,7 +387,7 @@ def already_running(room):
     with room.serving(options=places) as daemon, Asker(daemon) as asker:
         words = daemon.server.words[1:]
         room.refuses(words, b"already running")
-        # at another address too
+        # (and at another address)
         other = room.file(LEAST.replace(b"10.0.0.1", b"127.0.0.1"), "other.conf")
         room.refuses([*room.words(other, "127.0.0.1"), *places], b"already running")
         missing = f"{room.folder}/missing"
@@ -397,7 +397,7 @@ def already_running(room):
         room.refuses([*room.words(short), *places], b"key too short")
         asker.asks("CLst")
         asker.asks("Peer")
-    # (the file is left behind, and no lock any more)
+    # (the lock file is left behind, but is no lock)
     with room.serving(options=places) as daemon, Asker(daemon) as asker:
         asker.asks("CLst")
 
@@ -419,14 +419,14 @@ def two_daemons(room):
 
 @contextlib.contextmanager
 def locked(path):
-    """The lock of this file, held by this test."""
+    """Yields the lock of this file, held by this test."""
     with open(path, "rb") as file:
         fcntl.flock(file, fcntl.LOCK_EX | fcntl.LOCK_NB)
         yield
 
 
 def is_locked(path):
-    """Whether another program holds the lock of this file."""
+    """Returns whether another program holds the lock of this file."""
     try:
         with locked(path):
             return False
@@ -437,7 +437,7 @@ def is_locked(path):
 
 
 def may_open(path):
-    """Whether this user may open a lock file, or make it if it is missing."""
+    """Returns whether this user may open a lock file, or make it if it is missing."""
     return os.access(path, os.R_OK) if os.path.exists(path) else os.access(os.path.dirname(path), os.W_OK)
 
 
@@ -462,7 +462,7 @@ def status(room):
     require(room.ended(look) == stopped, "a daemon is said to run before it was started")
     with room.serving(options=options) as daemon, Asker(daemon) as asker:
         require(room.ended(look) == running, "a daemon that runs is not said to run")
-        # the usual lock is that of no daemon here, but one of this machine may have it
+        # (no daemon of this test uses the default lock, but a daemon of this machine may)
         if may_open(LOCK):
             with left_as_it_was(LOCK):
                 usual = running if is_locked(LOCK) else stopped
@@ -484,7 +484,7 @@ def counted_turns(room):
 @check
 def port_in_use(room):
     """a port in use, and an address of another machine, cannot be opened"""
-    # (an address that is kept for documents, and so no machine's)
+    # (no machine has this address, which is reserved for documents)
     path, elsewhere = room.file(here(room, FILE) + b"site = 192.0.2.1\n"), "192.0.2.1"
     places = room.own_places("port")
     with socket.socket(socket.AF_INET, socket.SOCK_DGRAM) as holder:
@@ -508,7 +508,7 @@ def own_lock_files(room):
         for path in paths:
             require(mode(path) == 0o600, f"{path} has the mode {mode(path):o}")
         require(mode(places[3]) == 0o700, f"the directory of records has the mode {mode(places[3]):o}")
-    # those that are there stay as they are
+    # directories that exist keep their modes
     for path in (*paths, places[3]):
         os.chmod(path, 0o750)
     with room.serving(options=places):

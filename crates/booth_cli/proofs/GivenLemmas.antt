@@ -83,8 +83,9 @@ pub texts_are : (m : ArgMatches) (rows : List Row) (g : Given) → rows_of (foun
     option_map (λ (t : Bor (List ℕ)). t.now) g.kill ≡ first_value (found_of m) (codes "kill") →
     g.wait ≡ is_set (first_value (found_of m) (codes "wait")) → g.commit ≡ is_set (first_value (found_of m) (codes "commit")) →
     g.immediate ≡ is_set (first_value (found_of m) (codes "immediate")) → g.force ≡ is_set (first_value (found_of m) (codes "force")) →
-    g.json ≡ is_set (first_value (found_of m) (codes "json")) → g.matches ≡ m → texts_of g ≡ texts_in rows
-texts_are m rows g same ticket name value site turns events number lock records conf target program margin kill wait commit immediate force json matches =
+    g.json ≡ is_set (first_value (found_of m) (codes "json")) → g.restart ≡ is_set (first_value (found_of m) (codes "restart-on-term")) →
+    g.matches ≡ m → texts_of g ≡ texts_in rows
+texts_are m rows g same ticket name value site turns events number lock records conf target program margin kill wait commit immediate force json restart matches =
     rw (
       ticket,
       name,
@@ -105,6 +106,7 @@ texts_are m rows g same ticket name value site turns events number lock records 
       immediate,
       force,
       json,
+      restart,
       matches,
       values_are m rows (codes "journal") same,
       value_is m rows (codes "ticket") same,
@@ -126,6 +128,7 @@ texts_are m rows g same ticket name value site turns events number lock records 
       value_is m rows (codes "immediate") same,
       value_is m rows (codes "force") same,
       value_is m rows (codes "json") same,
+      value_is m rows (codes "restart-on-term") same,
     ) refl
 
 module _ (cmd : Command) (m : ArgMatches) (parsed : IsParsedFrom cmd m) where

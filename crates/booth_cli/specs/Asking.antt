@@ -148,6 +148,7 @@ pub record IsFollowOf (read : Read) (asked : FollowWords) : Type 0 where
   pub program : read.program ≡ Some asked.program
   pub margin : asked.margin ≡ read.margin
   pub kill : asked.kill ≡ read.kill
+  pub restart : asked.restart ≡ read.restart
   pub records : asked.records ≡ read.records
   pub conf : asked.conf ≡ read.conf
 

@@ -29,6 +29,10 @@ force = record (flag (codes "force") 102) { long = Some (codes "force") }
 abbrev pub json : Rule
 json = record (flag (codes "json") 106) { long = Some (codes "json") }
 
+-- the flag with which a service is restarted for a new term
+abbrev pub restart : Rule
+restart = record (flag (codes "restart-on-term") 114) { long = Some (codes "restart-on-term") }
+
 -- an argument by its place, which is required
 abbrev pub word : List ℕ → Rule
 word id = needed (record (new_rule id) { action = Some Set; value_names = 1 })
@@ -97,7 +101,7 @@ rules_for verbs.DeleteAttribute = conf ∷ asked_site ∷ ticket_option ∷ word
 rules_for verbs.ListAttributes = conf ∷ asked_site ∷ ticket_option ∷ []
 rules_for verbs.Follow =
     conf ∷ own_site ∷ option (codes "records") 100 ∷ option (codes "margin") 109 ∷ option (codes "kill") 107
-    ∷ word (codes "ticket") ∷ word (codes "program") ∷ []
+    ∷ word (codes "ticket") ∷ word (codes "program") ∷ restart ∷ []
 
 -- a command with these rules too, in their order
 abbrev pub with_rules : App → List Rule → App

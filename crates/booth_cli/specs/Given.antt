@@ -30,6 +30,7 @@ pub record Texts : Type 0 where
   pub immediate : Bool
   pub force : Bool
   pub json : Bool
+  pub restart : Bool
 
 -- the flag was given
 abbrev pub is_set : Option (List ℕ) → Bool
@@ -58,6 +59,7 @@ texts_in rows = record {
   immediate = is_set (first_of (codes "immediate") rows);
   force = is_set (first_of (codes "force") rows);
   json = is_set (first_of (codes "json") rows);
+  restart = is_set (first_of (codes "restart-on-term") rows);
 }
 
 -- the texts in arguments that begin with this command
@@ -86,6 +88,7 @@ texts_of g = record {
   immediate = g.immediate;
   force = g.force;
   json = g.json;
+  restart = g.restart;
 }
 
 -- the ticket of an attribute, and its name

@@ -160,7 +160,7 @@ HasNumberOr low high default (Some text) n = IsNumber low high text n
 abbrev pub HasProgram : Option (List ℕ) → Option Programs → Type 0
 HasProgram word read = IsReadAs (λ text programs. programs ≡ programs_of text) word read
 
--- these milliseconds are an argument's seconds
+-- this number of milliseconds is the number of seconds of an argument
 pub record AreSeconds (text : List ℕ) (millis : ℕ) : Type 0 where
   pub seconds : ℕ
   pub is : IsNumber 1 MOST_SECONDS text seconds
@@ -215,6 +215,7 @@ pub record IsRead (t : Texts) (r : Read) : Type 0 where
   pub options : r.options ≡ options_in t
   pub force : r.force ≡ t.force
   pub json : r.json ≡ t.json
+  pub restart : r.restart ≡ t.restart
   pub target : HasAddress t.target r.target
   pub site : HasAddress t.site r.site
   pub turns : HasNumber 1 MOST_TURNS t.turns r.turns

@@ -27,7 +27,7 @@ const MEMBER: Argument<'static> = Argument {
     help: "Address of the member that this daemon is",
 };
 
-/// The site whose daemon a follower asks.
+/// The address of this site, whose daemon the follower asks.
 const OWN_SITE: Argument<'static> = Argument {
     help: "Address of this site, whose daemon is asked",
     ..MEMBER
@@ -174,6 +174,13 @@ const KILL: Argument<'static> = Argument {
     help: "Kills the service, where it has not stopped, so long before that end [default: half of the margin]",
 };
 
+const RESTART: Argument<'static> = Argument {
+    id: "restart-on-term",
+    form: Form::NamedFlag('r'),
+    value: "",
+    help: "Restarts the service if its lease has another term than at its start",
+};
+
 const PROGRAM: Argument<'static> = Argument {
     id: "program",
     form: Form::Word,
@@ -201,6 +208,8 @@ pub(crate) fn arguments<'a>(verb: Verb) -> &'a [Argument<'a>]
         Verb::GetAttribute => &[CONF, ASKED_SITE, TICKET_OPTION, NAME],
         Verb::DeleteAttribute => &[CONF, ASKED_SITE, TICKET_OPTION, NAME],
         Verb::ListAttributes => &[CONF, ASKED_SITE, TICKET_OPTION],
-        Verb::Follow => &[CONF, OWN_SITE, RECORDS, MARGIN, KILL, TICKET, PROGRAM],
+        Verb::Follow => &[
+            CONF, OWN_SITE, RECORDS, MARGIN, KILL, TICKET, PROGRAM, RESTART,
+        ],
     }
 }

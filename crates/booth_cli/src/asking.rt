@@ -68,7 +68,7 @@ pub struct MoveWords {
     pub target: Address,
     /// Whether the move waits for outcomes.
     pub wait: bool,
-    /// Whether it is made although a follower of the ticket runs on this machine.
+    /// Whether the move is made even if a follower of the ticket runs on this machine.
     pub force: bool,
     /// The daemon that is asked for the ticket, if the arguments name one.
     pub site: Option<Address>,
@@ -87,6 +87,8 @@ pub struct FollowWords {
     pub margin: Option<u64>,
     /// How long before that end it is killed, in milliseconds, if the arguments say so.
     pub kill: Option<u64>,
+    /// Whether the service is restarted if its lease has another term than at its start.
+    pub restart: bool,
     /// The directory of the daemon's records, with the clock of the daemon's times.
     pub records: PathText,
     /// The file of the configuration.
@@ -242,6 +244,7 @@ fn follow_of(read: Read) -> FollowWords
         program: said_program(read.program),
         margin: read.margin,
         kill: read.kill,
+        restart: read.restart,
         records: read.records,
         conf: read.conf,
     }

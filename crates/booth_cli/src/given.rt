@@ -32,6 +32,7 @@ pub(crate) struct Given<'a> {
     pub immediate: bool,
     pub force: bool,
     pub json: bool,
+    pub restart: bool,
     /// The rest of the result of `clap`: the journals.
     pub matches: ArgMatches<'a>,
 }
@@ -86,6 +87,7 @@ pub(crate) fn given_words<'a>(
         immediate: has_flag(&matches, "immediate"),
         force: has_flag(&matches, "force"),
         json: has_flag(&matches, "json"),
+        restart: has_flag(&matches, "restart-on-term"),
         matches,
     })
 }

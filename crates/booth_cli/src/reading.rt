@@ -45,6 +45,8 @@ pub(crate) struct Read {
     pub force: bool,
     /// Whether the output is a JSON object.
     pub json: bool,
+    /// Whether a service is restarted if its lease has another term than at its start.
+    pub restart: bool,
     pub target: Option<Address>,
     pub site: Option<Address>,
     pub turns: Option<u64>,
@@ -415,6 +417,7 @@ pub(crate) fn read_words(alloc: Global, given: &Given) -> Result<Read, Unread>
         options: options_in(given),
         force: given.force,
         json: given.json,
+        restart: given.restart,
         target: addresses.target,
         site: addresses.site,
         turns: numbers.counts.turns,

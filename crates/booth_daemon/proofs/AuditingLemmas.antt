@@ -10,9 +10,8 @@ use Rattle.booth_host.specs.declared.entry.Entry.{Entry}
 use Rattle.booth_host.specs.declared.entry.Entry.TheVariants.{ReadFile}
 use Rattle.booth_host.specs.Past.{GrewSome}
 use Rattle.booth_host.proofs.PastLemmas.{no_entry, some_of, some_joined, some_weaker}
-use Rattle.booth_audit.specs.Audit.{HasFault, IsAudited}
+use Rattle.booth_audit.specs.Audit.{AuditSays, HasFault, IsAudited}
 use Rattle.booth_journal.specs.declared.audit_fault.AuditFault.{AuditFault}
-use Rattle.booth_audit.specs.declared.holding.Holding.{Holding}
 use Rattle.booth_cli.specs.declared.asking.AuditWords.{AuditWords}
 use Rattle.booth_outcomes.specs.declared.outcome.Ended.{Ended}
 use Rattle.booth_outcomes.specs.declared.outcome.Outcome.{Outcome}
@@ -171,19 +170,19 @@ module _ (asked : AuditWords) where
           (λ xs ys r e. Audited config ring texts xs ys r e refl) read end
 
 module _ (config : ConfigSays) (ring : Option Ring) (paths texts : List (List ℕ)) where
-  printed_end : (holdings : List Holding) (outcome : Outcome) (said : List ℕ) (es : List Entry) → IsAudited config ring texts holdings →
-      IsPrinted config holdings outcome said es → IsAuditEnd config ring paths texts outcome said es
-  printed_end holdings Done said es true_ is = (is.0, holdings, true_, is.1)
-  printed_end holdings PrintFault said es true_ is = (is.0, holdings, true_, is.1, is.2)
-  printed_end holdings OutOfMemory said es true_ is = is
-  printed_end holdings outcome said es true_ is = absurd is
+  printed_end : (says : AuditSays) (outcome : Outcome) (said : List ℕ) (es : List Entry) → IsAudited config ring texts says →
+      IsPrinted config paths says outcome said es → IsAuditEnd config ring paths texts outcome said es
+  printed_end says Done said es true_ is = (is.0, says, true_, is.1)
+  printed_end says PrintFault said es true_ is = (is.0, says, true_, is.1, is.2)
+  printed_end says OutOfMemory said es true_ is = is
+  printed_end says outcome said es true_ is = absurd is
 
-  -- journals that are true, and the print of who held what
-  pub printed : {a b : Option (List Entry)} (holdings : List Holding) (outcome : Outcome) (said : List ℕ) → IsAudited config ring texts holdings →
-      GrewSome (IsPrinted config holdings outcome said) a b → GrewSome (IsAuditEnd config ring paths texts outcome said) a b
-  printed holdings outcome said true_ print =
-      some_weaker (IsPrinted config holdings outcome said) (IsAuditEnd config ring paths texts outcome said)
-      (λ es is. printed_end holdings outcome said es true_ is) print
+  -- journals that are true, and the print of the report about them
+  pub printed : {a b : Option (List Entry)} (says : AuditSays) (outcome : Outcome) (said : List ℕ) → IsAudited config ring texts says →
+      GrewSome (IsPrinted config paths says outcome said) a b → GrewSome (IsAuditEnd config ring paths texts outcome said) a b
+  printed says outcome said true_ print =
+      some_weaker (IsPrinted config paths says outcome said) (IsAuditEnd config ring paths texts outcome said)
+      (λ es is. printed_end says outcome said es true_ is) print
 
   refused_end : (fault : AuditFault) (outcome : Outcome) (said : List ℕ) → HasFault config ring texts fault → IsBadEnd paths fault outcome said →
       IsAuditEnd config ring paths texts outcome said []

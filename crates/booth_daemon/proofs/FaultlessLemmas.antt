@@ -31,7 +31,7 @@ use Rattle.booth_daemon.specs.Simulating.{IsSimulated, IsSummed, IsUnchosen, Sim
 use Rattle.booth_cli.specs.declared.asking.SimulationWords.{SimulationWords}
 use Rattle.booth_cli.specs.declared.asking.AuditWords.{AuditWords}
 use Rattle.booth_keys.specs.declared.ring.Ring.{Ring}
-use Rattle.booth_daemon.specs.Auditing.{AreJournalsUnread, IsAuditEnd, IsAuditing, holdings_text}
+use Rattle.booth_daemon.specs.Auditing.{AreJournalsUnread, IsAuditEnd, IsAuditing, report_text}
 use Rattle.booth_daemon.specs.Auditing as audit
 use Rattle.booth_daemon.specs.Run.{IsMade, Unasked, Served, Summed, Reviewed, Looked}
 use Rattle.booth_outcomes.proofs.CallLemmas.{among, first_of, same_calls, second_of, third_of}
@@ -246,8 +246,8 @@ module _ (asked : AuditWords) (said : List ℕ) (body entries : List Entry) (all
   ended config ring texts OutOfMemory early rest whole e = tt
   ended config ring texts (AuditBad fault) early rest whole e = tt
   ended config ring texts PrintFault early rest whole e =
-      let call : Entry = Out (holdings_text config e.1) (Err e.3) in
-      absurd (free.printed (holdings_text config e.1) e.3 (all call (same_calls call (early ++ rest) body
+      let call : Entry = Out (report_text config asked.journals.items e.1) (Err e.3) in
+      absurd (free.printed (report_text config asked.journals.items e.1) e.3 (all call (same_calls call (early ++ rest) body
       (Contains-append_right early rest call (same_calls call (call ∷ []) rest (first_of call []) e.4)) whole)))
   ended config ring texts outcome early rest whole e = absurd e
 

@@ -5,6 +5,7 @@ mod TurnLemmas
 mod StatusLemmas
 mod SimulatingLemmas
 mod AuditingLemmas
+mod AuditedStartLemmas
 mod RunLemmas
 mod FaultlessLemmas
 mod SessionLemmas

@@ -124,7 +124,7 @@ safe_run words outcome one_holder terms later_terms holds apart fenced ran =
       is_session = λ turns. runs_are_sessions turns.asked outcome turns.said turns.body turns.turning;
       in_worlds = λ w is session. (one_holder w is, terms w (untimed w is));
       tellers = λ w is session. (holds w is, apart w is);
-      in_second_worlds = λ w is second session. later_terms w is second;
+      in_second_worlds = λ w is second on session. later_terms w is second on;
       in_untimed_worlds = λ w is session. terms w is;
-      in_untimed_second_worlds = λ w is second session. fenced w is second;
+      in_untimed_second_worlds = λ w is second on session. fenced w is second on;
     }) ran

@@ -15,10 +15,11 @@ use Rattle.booth_host.specs.declared.host.ReadFault.{ReadFault}
 use Rattle.booth_host.specs.declared.host.ReadFault.TheVariants as reads
 use Rattle.booth_host.specs.declared.entry.Entry.{Entry}
 use Rattle.booth_host.specs.declared.entry.Entry.TheVariants.{Out, ReadFile}
-use Rattle.booth_audit.specs.Audit.{HasFault, IsAudited}
+use Rattle.booth_audit.specs.Audit.{AuditSays, HasFault, IsAudited}
 use Rattle.booth_journal.specs.declared.audit_fault.AuditFault.{AuditFault}
 use Rattle.booth_journal.specs.declared.audit_fault.AuditFault.TheVariants as audits
 use Rattle.booth_audit.specs.declared.holding.Holding.{Holding}
+use Rattle.booth_audit.specs.declared.silent.SilentStart.{SilentStart}
 use Rattle.booth_cli.specs.declared.asking.AuditWords.{AuditWords}
 use Rattle.booth_outcomes.specs.declared.outcome.Outcome.{Outcome}
 use Rattle.booth_outcomes.specs.declared.outcome.Outcome.TheVariants.{Done, ConfUnread, ConfBad, KeyUnread, KeyBad}
@@ -26,12 +27,12 @@ use Rattle.booth_outcomes.specs.declared.outcome.Outcome.TheVariants.{JournalUnr
 use Rattle.booth_outcomes.specs.declared.outcome.Ended.{Ended}
 use Rattle.booth_outcomes.specs.Configuration.{IsUnread}
 use Rattle.booth_outcomes.specs.Keys.{HasRing, IsKeyless, KeyTexts, key_calls}
-use Rattle.booth_outcomes.specs.Texts.{audit_text, out_of_memory_text, unprinted_text, unread_text}
+use Rattle.booth_outcomes.specs.Texts.{at_line, audit_text, journal_at, out_of_memory_text, unprinted_text, unread_text}
 use Rattle.booth_daemon.specs.declared.auditing.Files.{Files}
 
 -- ---- the output
 
--- The name of the ticket at this place. A holding has the place of a ticket.
+-- The name of the ticket at this place. A holding and a silent start have the place of a ticket.
 abbrev pub ticket_at : ConfigSays → ℕ → List ℕ
 ticket_at config place =
     option_map_or (λ (ticket : TicketConf). ticket.name) (slice_get config.tickets place) []
@@ -56,6 +57,24 @@ holding_text config held = held_text config held ++ span_text held
 -- The text with a line for each holding.
 abbrev pub holdings_text : ConfigSays → List Holding → List ℕ
 holdings_text config holdings = flat_map (holding_text config) holdings
+
+-- The text that names the ticket of a silent start, and the term of the record.
+abbrev pub silence_text : ConfigSays → SilentStart → List ℕ
+silence_text config start =
+    codes "silent: " ++ ticket_at config start.ticket ++ codes ", term " ++ decimal start.term
+
+-- The line for a silent start, in the journals at these paths.
+abbrev pub silent_text : ConfigSays → List (List ℕ) → SilentStart → List ℕ
+silent_text config paths start =
+    at_line (journal_at paths start.journal) start.line (silence_text config start) ++ codes "\n"
+
+-- The text with a line for each silent start.
+abbrev pub silents_text : ConfigSays → List (List ℕ) → List SilentStart → List ℕ
+silents_text config paths starts = flat_map (silent_text config paths) starts
+
+-- The text with the holdings, and then the silent starts.
+abbrev pub report_text : ConfigSays → List (List ℕ) → AuditSays → List ℕ
+report_text config paths says = holdings_text config says.holdings ++ silents_text config paths says.silent
 
 -- ---- the reads
 
@@ -124,16 +143,16 @@ pub record IsWanting (asked : AuditWords) (outcome : Outcome) (said : List ℕ) 
   pub whole : entries ≡ early ++ rest
   pub here : AreJournalsUnread asked.journals.items outcome said rest
 
--- The end of the audit of these texts: the holdings were printed, or could not be printed; or this is the texts'
--- first fault; or the memory ran out.
+-- The end of the audit of these texts: the report was printed, or could not be printed; or this is the texts' first
+-- fault; or the memory ran out.
 abbrev pub IsAuditEnd :
     ConfigSays → Option Ring → List (List ℕ) → List (List ℕ) → Outcome → List ℕ → List Entry → Type 0
 IsAuditEnd config ring paths texts Done said entries = (said ≡ [])
-    × (holdings : List Holding) × IsAudited config ring texts holdings
-    × (entries ≡ Out (holdings_text config holdings) (Ok tt) ∷ [])
+    × (says : AuditSays) × IsAudited config ring texts says
+    × (entries ≡ Out (report_text config paths says) (Ok tt) ∷ [])
 IsAuditEnd config ring paths texts PrintFault said entries = (said ≡ unprinted_text)
-    × (holdings : List Holding) × IsAudited config ring texts holdings
-    × (failed : Failed) × (entries ≡ Out (holdings_text config holdings) (Err failed) ∷ [])
+    × (says : AuditSays) × IsAudited config ring texts says
+    × (failed : Failed) × (entries ≡ Out (report_text config paths says) (Err failed) ∷ [])
 IsAuditEnd config ring paths texts (AuditBad fault) said entries = (fault ≡ audits.OutOfMemory → ⊥)
     × HasFault config ring texts fault × (said ≡ audit_text paths fault) × (entries ≡ [])
 IsAuditEnd config ring paths texts OutOfMemory said entries = (said ≡ out_of_memory_text) × (entries ≡ [])
@@ -191,11 +210,11 @@ IsBadEnd paths fault (AuditBad told) said =
     (told ≡ fault) × (fault ≡ audits.OutOfMemory → ⊥) × (said ≡ audit_text paths fault)
 IsBadEnd paths fault outcome said = ⊥
 
--- The call that prints the holdings, and the outcome.
-abbrev pub IsPrinted : ConfigSays → List Holding → Outcome → List ℕ → List Entry → Type 0
-IsPrinted config holdings Done said entries = (said ≡ [])
-    × (entries ≡ Out (holdings_text config holdings) (Ok tt) ∷ [])
-IsPrinted config holdings PrintFault said entries = (said ≡ unprinted_text)
-    × (failed : Failed) × (entries ≡ Out (holdings_text config holdings) (Err failed) ∷ [])
-IsPrinted config holdings OutOfMemory said entries = (said ≡ out_of_memory_text) × (entries ≡ [])
-IsPrinted config holdings outcome said entries = ⊥
+-- The call that prints the report, and the outcome.
+abbrev pub IsPrinted : ConfigSays → List (List ℕ) → AuditSays → Outcome → List ℕ → List Entry → Type 0
+IsPrinted config paths says Done said entries = (said ≡ [])
+    × (entries ≡ Out (report_text config paths says) (Ok tt) ∷ [])
+IsPrinted config paths says PrintFault said entries = (said ≡ unprinted_text)
+    × (failed : Failed) × (entries ≡ Out (report_text config paths says) (Err failed) ∷ [])
+IsPrinted config paths says OutOfMemory said entries = (said ≡ out_of_memory_text) × (entries ≡ [])
+IsPrinted config paths says outcome said entries = ⊥

@@ -4,7 +4,7 @@
 use Rattle.std.specs.Prelude.{◌≡◌, ◌++◌, ℕ, List, ◌∷◌, Bool, true, false, T}
 use Rattle.booth_host.specs.declared.entry.Entry.{Entry}
 use Rattle.booth_node.specs.Session.{SessionEntry, Starts, Down, AreSessions}
-use Rattle.booth_node.specs.World.{World, IsNodeOf, IsWorld, IsSecondWorld, IsUntimedWorld, entries_of}
+use Rattle.booth_node.specs.World.{World, IsNodeOf, IsWorld, IsSecondWorld, IsUntimedWorld, RecordsGoOn, entries_of}
 use Rattle.booth_world.specs.Tellers.{TellersAreApartIn, TellersHoldIn}
 use Rattle.booth_world.specs.Told.{HasFencingTerms}
 use Rattle.booth_world.specs.Worlds.{HoldsOneIn, LaterTermsIn, TermsNeverFallIn, made}
@@ -60,21 +60,21 @@ IsTurningEnd outcome = T (is_turning_end outcome)
 
 -- The promises for a run of the daemon. If `IsTurningEnd` holds for its outcome, the daemon made its whole opening
 -- and then turns, and these are a session of a member. In every world that has this run as a session, no automatic
--- ticket is held at two members at the same moment. No member's written term falls. If a member names itself as the
+-- ticket is held at two members at the same moment. No site's written term falls. If a member names itself as the
 -- holder in a message, it is the holder until the end in that message, and no other member is. If all sessions of
--- that world are of version 2, a member that holds later than another has a lease with a later term. Even if the
--- clocks of a world only rise, and nothing else is known about them, no written term falls. If in addition all its
--- sessions are of version 2, the terms of leases distinguish them. A term that a member reports is then the term of a
--- lease that it gained.
+-- that world are of version 2 and go on from their records, a member that holds later than another has a lease with a
+-- later term. Even if the clocks of a world only rise, and nothing else is known about them, no site's written term
+-- falls. If in addition all its sessions are of version 2 and go on, the terms of leases distinguish them. A term that
+-- a member reports is then the term of a lease that it gained.
 pub record IsSafe (words : List (List ℕ)) (outcome : Outcome) (entries : List Entry) : Type 0 where
   pub turned : AskForDaemon words → IsTurningEnd outcome → IsTurningRun words outcome entries
   pub is_session : (run : IsTurningRun words outcome entries) → AreSessions Down (session_of run.turning)
   pub in_worlds : (w : World) → IsWorld w → IsSessionIn w words outcome entries → HoldsOneIn w × TermsNeverFallIn w
   pub tellers : (w : World) → IsWorld w → IsSessionIn w words outcome entries → TellersHoldIn w × TellersAreApartIn w
-  pub in_second_worlds : (w : World) → IsWorld w → IsSecondWorld w → IsSessionIn w words outcome entries
+  pub in_second_worlds : (w : World) → IsWorld w → IsSecondWorld w → RecordsGoOn w → IsSessionIn w words outcome entries
       → LaterTermsIn w
   pub in_untimed_worlds : (w : World) → IsUntimedWorld w → IsSessionIn w words outcome entries → TermsNeverFallIn w
-  pub in_untimed_second_worlds : (w : World) → IsUntimedWorld w → IsSecondWorld w
+  pub in_untimed_second_worlds : (w : World) → IsUntimedWorld w → IsSecondWorld w → RecordsGoOn w
       → IsSessionIn w words outcome entries → HasFencingTerms w
 
 -- ---- the laws for all runs
@@ -92,7 +92,7 @@ RunsAreSessions =
     (t : IsTurning asked outcome said body)
     → AreSessions Down (session_of t)
 
--- The calls of a run of the daemon after its opening, cut off after any call, are a session of a member too.
+-- If a run of the daemon ends after any call, its calls after the opening are still a session of a member.
 abbrev pub CutRunsAreSessions : Type 0
 CutRunsAreSessions =
     (asked : DaemonWords) (outcome : Outcome) (said : List ℕ) (body : List Entry)

@@ -1,6 +1,7 @@
 pub mod Status
 pub mod Simulating
 pub mod Auditing
+pub mod AuditedStarts
 pub mod Fitness
 pub mod Records
 pub mod Opening

@@ -1,12 +1,12 @@
-//! `boothd audit`: reads the journals of members from their files, and prints the holdings.
+//! `boothd audit`: reads the journals of members from their files, and prints the holdings and the silent starts.
 ghost use Rattle.std.specs.Prelude.{◌≤◌, ℕ, IfErr, MatchResult};
 ghost use Rattle.booth_host.specs.Past.{GrewSome};
 ghost use Rattle.booth_outcomes.specs.Outcomes.{HasBlame};
 ghost use Rattle.booth_daemon.specs.Auditing.{AreFilesRead, AreJournals, AreJournalsUnread, IsAuditEnd, IsAuditOutcome};
 ghost use Rattle.booth_daemon.specs.Auditing.{IsAuditing, IsBadEnd, IsJournalRead, IsPrinted};
 
-use crate::holdings_text::holdings_text;
-use booth_audit::{Holding, audit as audit_journals};
+use crate::report_text::report_text;
+use booth_audit::{Audit, audit as audit_journals};
 use booth_base::{ByteText, PathText};
 use booth_cli::AuditWords;
 use booth_conf::Config;
@@ -81,15 +81,21 @@ fn read_files<H: Host>(alloc: Global, asked: &AuditWords, host: &mut H) -> Resul
     })
 }
 
-// Prints the holdings.
-fn print<H: Host>(alloc: Global, config: &Config, holdings: &[Holding], host: &mut H) -> Ended
-    ensures past { GrewSome (IsPrinted config.now holdings.now result.outcome result.said) (H.past host.old)
+// Prints the report about the journals at these paths.
+fn print<H: Host>(
+    alloc: Global,
+    config: &Config,
+    paths: &[PathText],
+    audit: &Audit,
+    host: &mut H,
+) -> Ended
+    ensures past { GrewSome (IsPrinted config.now paths.now audit.now result.outcome result.said) (H.past host.old)
         (H.past host.new) }
     ensures outcome { IsAuditOutcome result.outcome }
     ensures blame { HasBlame result.outcome (H.faults host.old) (H.faults host.new) }
     ensures later { H.faults host.old ≤ H.faults host.new }
 {
-    let Ok(text) = holdings_text(alloc, config, holdings) else {
+    let Ok(text) = report_text(alloc, config, paths, audit) else {
         return Ended::out_of_memory();
     };
     match host.out(&text) {
@@ -128,7 +134,7 @@ fn conclude<H: Host>(alloc: Global, paths: &[PathText], files: &Files, host: &mu
     ensures later { H.faults host.old ≤ H.faults host.new }
 {
     match audit_journals(alloc, &files.config, files.ring.as_ref(), &files.journals) {
-        Ok(audit) => print(alloc, &files.config, audit.holdings(), host),
+        Ok(audit) => print(alloc, &files.config, paths, &audit, host),
         Err(fault) => refuse(paths, fault),
     }
 }

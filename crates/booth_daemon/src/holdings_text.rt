@@ -10,16 +10,18 @@ use itoa::Buffer;
 use std::alloc::{AllocError, Global};
 
 /// The maximal number of bytes in a line.
-const LINE_BYTES: usize = 200;
+pub(crate) const LINE_BYTES: usize = 400;
 
-fn put(line: &mut ArrayVec<u8, LINE_BYTES>, piece: &[u8])
+/// Appends these bytes to a line.
+pub(crate) fn put(line: &mut ArrayVec<u8, LINE_BYTES>, piece: &[u8])
     requires { length line.old.items + length piece.now ≤ LINE_BYTES }
     ensures { line.new.items ≡ line.old.items ++ piece.now }
 {
     line.try_extend_from_slice(piece).unwrap();
 }
 
-fn put_number(line: &mut ArrayVec<u8, LINE_BYTES>, number: u64)
+/// Appends the digits of a number to a line.
+pub(crate) fn put_number(line: &mut ArrayVec<u8, LINE_BYTES>, number: u64)
     requires { length line.old.items + 20 ≤ LINE_BYTES }
     ensures bytes { line.new.items ≡ line.old.items ++ decimal number }
     ensures len { length line.new.items ≤ length line.old.items + 20 }
@@ -28,8 +30,8 @@ fn put_number(line: &mut ArrayVec<u8, LINE_BYTES>, number: u64)
     put(line, digits.format(number).as_bytes());
 }
 
-// Returns the name of the ticket at this place.
-fn ticket_at(config: &Config, place: u32) -> &[u8]
+/// Returns the name of the ticket at this place.
+pub(crate) fn ticket_at(config: &Config, place: u32) -> &[u8]
     ensures value { result.now ≡ ticket_at config.now place }
     ensures short { length result.now ≤ 63 }
 {

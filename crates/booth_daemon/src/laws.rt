@@ -1,4 +1,5 @@
 //! Laws that follow from the contracts, for all runs.
+ghost use Rattle.booth_daemon.specs.AuditedStarts.{AuditsAcceptAsWorlds};
 ghost use Rattle.booth_daemon.specs.Faultless.{FaultlessAudits, FaultlessRuns, FaultlessSimulations, FaultlessLooks};
 ghost use Rattle.booth_daemon.specs.Headline.{CutRunsAreSessions, DaemonsTurn, RunsAreSessions};
 
@@ -18,6 +19,12 @@ pub fn faultless_audits()
     ensures { FaultlessAudits }
 {}
 
+/// If a member of a world begins without a record, an audit accepts the records that a start of it reads exactly if the
+/// premise `records_return` of worlds does.
+pub fn audits_accept_as_worlds()
+    ensures { AuditsAcceptAsWorlds }
+{}
+
 /// Valid arguments and an environment that does not fail give Done, NotRunning or OutOfMemory for `status`.
 pub fn faultless_looks()
     ensures { FaultlessLooks }
@@ -29,7 +36,7 @@ pub fn runs_are_sessions()
     ensures { RunsAreSessions }
 {}
 
-/// The calls of a run of the daemon after its opening, cut off after any call, are a session of a member too.
+/// If a run of the daemon ends after any call, its calls after the opening are still a session of a member.
 pub fn cut_runs_are_sessions()
     ensures { CutRunsAreSessions }
 {}

@@ -7,6 +7,7 @@ mod holdings_text;
 pub mod laws;
 mod opening;
 mod records;
+mod report_text;
 mod run;
 mod serving;
 mod simulating;

@@ -44,12 +44,12 @@ fn run_words<H: Host>(alloc: Global, words: &[String], host: &mut H) -> Ended
 
 /// Runs `boothd` with these arguments, without the program's name, with this host.
 ///
-/// `daemon` reads the configuration and, if `authfile` is set, its key. It takes the lock, opens its socket, and
-/// reads the record of each ticket. Then it makes turns at the member's address until the host returns `Stop`, or as
-/// many turns as the arguments state. `status` prints whether a daemon holds the lock. `sim` runs a whole cluster in
-/// memory through generated events, and prints the counts. `audit` reads the journals of members. It prints which
-/// member held which ticket when, or where the journals are not true. Help and version are printed. For all other
-/// arguments the program prints what is wrong with them.
+/// `daemon` reads the configuration and, if `authfile` is set, its key. It takes the lock, opens its socket, and reads
+/// the record of each ticket. Then it makes turns at the member's address until the host returns `Stop`, or as many
+/// turns as the arguments state. `status` prints whether a daemon holds the lock. `sim` runs a whole cluster in memory
+/// through generated events, and prints the counts. `audit` reads the journals of members. It prints which member held
+/// which ticket when, or the first place at which the journals are not true. Help and version are printed. For all
+/// other arguments the program prints what is wrong with them.
 #[tactic(auto, using(crate::proofs::RunLemmas::run_of, crate::proofs::SessionLemmas::safe_run))]
 pub fn boothd<H: Host>(alloc: Global, words: &[String], host: &mut H) -> Outcome
     // If the host records its calls, the calls are exactly these, by how the run ended.

@@ -58,7 +58,7 @@ pub record IsRing (config : ConfigSays) (texts : KeyTexts) (ring : Ring) : Type 
   pub old : HasKey config.authfile_old texts.old ring.old
   pub hash : ring.hash ≡ config.auth_hash
 
--- that ring, or none if the first key has no file
+-- this ring, or no ring if the first key has no file
 abbrev pub HasRing : ConfigSays → KeyTexts → Option Ring → Type 0
 HasRing config texts None = config.authfile ≡ None
 HasRing config texts (Some ring) = IsRing config texts ring

@@ -79,7 +79,7 @@ why_not_followed follows.KillTooShort = codes "the time of a kill is below 1 sec
 abbrev pub not_followed_text : List ℕ → FollowFault → List ℕ
 not_followed_text ticket fault = codes "cannot follow ticket " ++ ticket ++ codes ": " ++ why_not_followed fault
 
--- the name of a key; those of the table have one
+-- the name of a key; each key of the table has one
 abbrev pub key_name : KeyNo → List ℕ
 key_name key = unwrap_or (name_at key) []
 
@@ -144,7 +144,7 @@ IsFaultText path text (confs.RetryTime ticket) said = IsTicketText path text tic
     (codes "timeout and retries do not fit renewal-freq") said
 IsFaultText path text confs.OutOfMemory said = said ≡ out_of_memory_text
 
--- the path of the journal at this place; that of a fault has one
+-- the path of the journal at this place; the journal of a fault has one
 abbrev pub journal_at : List (List ℕ) → ℕ → List ℕ
 journal_at paths place = unwrap_or (slice_get paths place) []
 

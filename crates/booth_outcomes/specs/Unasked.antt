@@ -56,7 +56,7 @@ pub record IsRequest (program : Program) (words : List (List ℕ)) : Type 0 wher
   pub is : is_request kind ≡ true
 
 -- The arguments of this program have no request, by this outcome. Out of memory may come in place of any request, but
--- only if there is a command: to see that there is none takes no memory.
+-- only if there is a command: no memory is needed to see that there is none.
 abbrev pub IsUnasked : Program → List (List ℕ) → Outcome → List ℕ → List Entry → Type 0
 IsUnasked program words (Usage None) said entries = (verb_in program words ≡ None)
     × (said ≡ usage_text program) × (entries ≡ [])

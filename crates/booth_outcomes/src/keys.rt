@@ -67,8 +67,8 @@ fn key_at<H: Host>(
     }
 }
 
-/// Returns the ring of the keys, if the configuration names the file of the first one. That file is read and checked
-/// before the old key's.
+/// Returns the ring of the keys, if the configuration names the file of the first one. This file is read and checked
+/// before the old key's file.
 pub fn read_ring<H: Host>(
     alloc: Global,
     config: &Config,

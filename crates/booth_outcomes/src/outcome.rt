@@ -27,9 +27,9 @@ pub enum Outcome {
     NoReply,
     /// A request could not be sent.
     SendFault,
-    /// The arguments are invalid, or request help. The kind is none if there is no command.
+    /// The arguments are invalid, or request help or the version. The kind is `None` if there is no command.
     Usage(Option<ErrorKind>),
-    /// This argument does not have its form.
+    /// The value of this argument is not valid.
     BadWord(Word),
     /// The configuration could not be read.
     ConfUnread,

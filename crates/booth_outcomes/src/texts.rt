@@ -184,7 +184,7 @@ pub fn not_followed_text(ticket: &Name, fault: FollowFault) -> ErrorLine
     line
 }
 
-// Returns the name of a key; those of the table have one.
+// Returns the name of a key; each key of the table has one.
 fn key_name(key: KeyNo) -> &'static str
     ensures name { result.now ≡ key_name key }
     ensures short { length result.now ≤ 22 }

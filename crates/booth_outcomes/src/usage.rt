@@ -1,5 +1,4 @@
-//! How it is reported that arguments have no request: help and version on standard output, anything else on standard
-//! error.
+//! How arguments without a request are reported: help and version on standard output, anything else on standard error.
 ghost use Rattle.std.specs.Prelude.{◌≡◌, ◌≤◌, true, false};
 ghost use Rattle.clap.specs.Words.{kind_of};
 ghost use Rattle.booth_host.specs.Past.{GrewSome};

@@ -20,7 +20,7 @@ struct Split {
     count: usize,
 }
 
-// How many arguments without an option a command has whose ticket is named; none if it has no ticket.
+// Number of positional arguments of a command, with its ticket, or none if the command has no ticket.
 fn places_of(command: &str) -> Option<usize> {
     match command {
         "show" | "grant" | "revoke" => Some(1),
@@ -52,7 +52,7 @@ fn value_behind(word: &str) -> Option<&str> {
     Some(value.strip_prefix('=').unwrap_or(value))
 }
 
-// Refuses the ticket, and says why.
+// Prints that the ticket is refused, and the cause.
 fn refuse(rt: HostRuntime, cause: &[u8]) -> Unmade {
     say(rt, Program::Booth, b"bad ticket");
     say(rt, Program::Booth, cause);
@@ -165,8 +165,8 @@ fn split_arguments(rt: HostRuntime, alloc: Global, words: &[String]) -> Result<S
     Ok(split)
 }
 
-/// Returns the arguments of `booth` with the ticket that -t names at its place, behind the command. Another ticket that
-/// stands there too is refused, which is said.
+/// Returns the arguments of `booth` with the ticket of `-t` as the argument after the command. If the arguments name
+/// another ticket too, prints a refusal.
 pub fn with_ticket(
     rt: HostRuntime,
     alloc: Global,

@@ -10,12 +10,12 @@ pub enum Unmade {
     UnknownTransport,
     /// The arguments name both transports.
     BothTransports,
-    /// A line said why before.
+    /// The cause was printed already.
     Told,
 }
 
 impl Unmade {
-    /// Returns the text for it, without the program's name, if no line said it before.
+    /// Returns the text to print, without the program's name, or none if the cause was printed already.
     pub fn text(self) -> Option<&'static [u8]> {
         match self {
             Unmade::OutOfMemory => Some(b"out of memory"),

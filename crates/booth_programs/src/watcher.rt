@@ -5,7 +5,7 @@ use booth_follow_rule::{FollowDeed, News, RunEnd, Shown, Stage, Word};
 use booth_following::{Seen, Watch};
 use booth_real::{Notifier, Priority, Speaker};
 
-/// How long a daemon may be silent before a line says so, in milliseconds.
+/// How long a daemon may be silent before the follower prints a line about it, in milliseconds.
 const SILENT_MS: u64 = 5_000;
 
 /// How often the service manager gets an end that moved, in milliseconds.
@@ -18,7 +18,7 @@ enum Daemon {
     Unheard { since: u64 },
     /// The last one came at this reading.
     Heard { at: u64 },
-    /// The daemon was silent for so long that a line said so; the last answer came at this reading.
+    /// A line about the daemon's silence was printed. The last answer arrived at this reading.
     Silent { since: u64 },
 }
 
@@ -28,7 +28,7 @@ pub struct Watcher {
     speaker: Speaker,
     notifier: Notifier,
     daemon: Option<Daemon>,
-    /// Whether a line said that the keys were read again, since the last answer.
+    /// Whether a line about the new keys was printed since the last answer.
     keys_told: bool,
     /// The last word for which the program was run, except renewals.
     word: Option<Word>,
@@ -113,7 +113,7 @@ impl Watcher {
             Some(Daemon::Silent { since }) => {
                 if is_list {
                     let mut text = Text::new();
-                    put(&mut text, "this site's daemon tells its list again after ");
+                    put(&mut text, "this site's daemon answers again after ");
                     put_seconds(&mut text, seen.reading.saturating_sub(since));
                     self.say(Priority::Notice, &text);
                     Some(Daemon::Heard { at: seen.reading })
@@ -139,7 +139,7 @@ impl Watcher {
         let mut text = Text::new();
         put(
             &mut text,
-            "this site's daemon has told no authentic list for ",
+            "this site's daemon has sent no authentic answer for ",
         );
         put_seconds(&mut text, seen.reading.saturating_sub(since));
         if seen.after.armed > 0 {
@@ -218,7 +218,9 @@ impl Watcher {
         ) {
             put(text, "its run failed");
         } else if matches!(seen.before.stage, Stage::Opening) && seen.after.armed == 0 {
-            put(text, "nothing tells until when it may run");
+            put(text, "no answer says until when it may run");
+        } else if seen.is_outdated && matches!(seen.heard, News::List(_)) {
+            put(text, "its lease has another term than at its start");
         } else if matches!(seen.heard, News::List(Shown::Elsewhere)) || !seen.after.here {
             put(text, "this site does not hold the ticket");
         } else {
@@ -238,7 +240,7 @@ impl Watcher {
             Word::Check => {
                 put(
                     &mut text,
-                    "looks whether the service runs, which was left running until ",
+                    "checks whether the service, which an earlier follower left running, still runs; it may run until ",
                 );
                 put_time(&mut text, until);
             }
@@ -312,13 +314,13 @@ impl Watch for Watcher {
         if is_read {
             put(
                 &mut text,
-                "this site's daemon tells no authentic list: the keys are read again",
+                "this site's daemon sends no authentic answer: the keys are read again",
             );
             self.say(Priority::Notice, &text);
         } else {
             put(
                 &mut text,
-                "this site's daemon tells no authentic list, and no other keys can be read",
+                "this site's daemon sends no authentic answer, and no other keys can be read",
             );
             self.say(Priority::Warning, &text);
         }

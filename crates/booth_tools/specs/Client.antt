@@ -1,4 +1,4 @@
--- The calls of a client, up to the one that decides its outcome, and the text that it then prints.
+-- The calls of a client, up to the call that decides its outcome, and the text that it then prints.
 use Rattle.std.specs.Prelude.{◌≡◌, ◌++◌, ◌⊎◌, ◌||◌, ◌==◌, ℕ, Bool, true, false, List, [], ◌∷◌, Option, Some, None, option_map}
 use Rattle.std.specs.Prelude.{Result, Ok, Err, MatchBool, codes, if◌then◌else◌}
 use Rattle.std.specs.Int.{to_be_bytes, w32}
@@ -192,7 +192,7 @@ pub record IsConversing (asked : ClientWords) (config : ConfigSays) (ring : Opti
   pub whole : entries ≡ Open None 0 [] [] (Ok tt) ∷ Now start ∷ rest
   pub told : IsTold (record { order = asked.order; config = config; ring = ring }) to start outcome said rest
 
--- what follows the reads
+-- the rest of the run, after the reads
 pub data Follows (asked : ClientWords) (config : ConfigSays) (ring : Option Ring) (outcome : Outcome)
     (said : List ℕ) (entries : List Entry) : Type 0 where
   Socketless : IsSocketless outcome said entries → Follows asked config ring outcome said entries
@@ -226,7 +226,7 @@ IsKeyed config (Ok cluster) entries = (cluster.config ≡ config)
     × (texts : KeyTexts) × HasRing config texts cluster.ring × (entries ≡ key_calls config texts)
 IsKeyed config (Err ended) entries = IsKeyless config ended.outcome ended.said entries
 
--- the reads, and what they found, or how the client ends without one of them
+-- the reads and their results, or the end of the client if one of them fails
 abbrev pub IsClusterRead : List ℕ → Result Cluster Ended → List Entry → Type 0
 IsClusterRead path (Ok cluster) entries =
     (is : IsCluster cluster.config cluster.ring) × (entries ≡ cluster_calls path is)

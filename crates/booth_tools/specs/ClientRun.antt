@@ -33,7 +33,7 @@ abbrev pub passed : List (List ℕ) → List (List ℕ)
 passed [] = []
 passed (word ∷ words) = if bytes_eq word (codes "client") then words else word ∷ words
 
--- the calls up to the one that decides the outcome, for these arguments
+-- the calls, up to the call that decides the outcome, for these arguments
 pub data IsClientMade (program : Program) (words : List (List ℕ)) (outcome : Outcome) (said : List ℕ)
     (entries : List Entry) : Type 0 where
   Unasked : IsUnasked program words outcome said entries → IsClientMade program words outcome said entries
@@ -90,9 +90,9 @@ pub record AskForMove (program : Program) (words : List (List ℕ)) : Type 0 whe
   pub own : program ≡ Booth
   pub asks : AsksMove words asked
 
--- Usage comes only for invalid arguments, and BadWord exactly if that argument is the first invalid one; NotSite and
--- Stranded come only for the arguments of a move, out of memory only if there is a command, and every other outcome
--- of a client only for the arguments of one or of a move
+-- The outcome fits the arguments. Usage comes only for invalid arguments, and BadWord exactly if that argument is the
+-- first invalid one. NotSite and Stranded come only for the arguments of a move. Out of memory comes only if there is a
+-- command. Every other outcome comes only for the arguments of a client or of a move.
 abbrev pub FitsClientWords : Program → List (List ℕ) → Outcome → Type 0
 FitsClientWords program words (Usage None) = verb_in program words ≡ None
 FitsClientWords program words (Usage (Some kind)) = IsUntaken program words kind

@@ -1,4 +1,4 @@
--- The calls of a move, up to the one that decides its outcome, and the text that it then prints.
+-- The calls of a move, up to the call that decides its outcome, and the text that it then prints.
 use Rattle.std.specs.Prelude.{◌≡◌, ◌++◌, ◌&&◌, ℕ, Bool, List, [], ◌∷◌, Option, Some, None, Result, Ok, Err, MatchOption}
 use Rattle.std.specs.Prelude.{codes, position}
 use Rattle.booth_keys.specs.declared.ring.Ring.{Ring}
@@ -119,7 +119,7 @@ pub record IsStarted (asked : MoveWords) (config : ConfigSays) (ring : Option Ri
   pub elsewhere : IsElsewhere asked (listing config ring) look
   pub here : IsMoving asked config ring target outcome said rest
 
--- what follows the key
+-- the rest of the run, after the key
 pub data FollowsKey (asked : MoveWords) (config : ConfigSays) (ring : Option Ring) (target : ℕ) (outcome : Outcome)
     (said : List ℕ) (entries : List Entry) : Type 0 where
   Socketless : IsSocketless outcome said entries → FollowsKey asked config ring target outcome said entries
@@ -138,14 +138,14 @@ pub record IsMoveKeyed (asked : MoveWords) (config : ConfigSays) (target : ℕ) 
   pub whole : entries ≡ key_calls config texts ++ rest
   pub here : FollowsKey asked config ring target outcome said rest
 
--- what follows if the target is a site
+-- the rest of the run, if the target is a site
 pub data FollowsSite (asked : MoveWords) (config : ConfigSays) (target : ℕ) (outcome : Outcome) (said : List ℕ)
     (entries : List Entry) : Type 0 where
   Keyless : IsKeyless config outcome said entries → FollowsSite asked config target outcome said entries
   Keyed : IsMoveKeyed asked config target outcome said entries →
       FollowsSite asked config target outcome said entries
 
--- What follows the configuration: NotSite without a call exactly if no site has the address.
+-- The rest of the run, after the configuration: NotSite without a call exactly if no site has the address.
 abbrev pub FollowsConfig : MoveWords → ConfigSays → Outcome → List ℕ → List Entry → Type 0
 FollowsConfig asked config outcome said entries =
     MatchOption (site_at asked.target config)

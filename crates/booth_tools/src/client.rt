@@ -111,8 +111,8 @@ pub(crate) fn open_socket<H: Host>(host: &mut H) -> Result<(), Failed>
     host.open(&place)
 }
 
-// Does what follows the reads: opens the socket, reads the clock, and sends the request. Its memory is allocated
-// before these.
+// Does the rest of the run, after the reads: opens the socket, reads the clock, and sends the request. Its memory is
+// allocated before these.
 fn converse<H: Host>(alloc: Global, asked: ClientWords, cluster: Cluster, host: &mut H) -> Ended
     requires { file_fault cluster.config.members cluster.config.tickets ≡ None }
     ensures past { GrewSome (Follows asked cluster.config cluster.ring result.outcome result.said)
@@ -143,7 +143,7 @@ fn converse<H: Host>(alloc: Global, asked: ClientWords, cluster: Cluster, host: 
     ask_and_tell(alloc, &asking, &to, start, &mut memory, host)
 }
 
-/// Makes the calls of the client, up to the one that decides its outcome.
+/// Makes the calls of the client, up to the call that decides its outcome.
 pub(crate) fn ask_daemon<H: Host>(alloc: Global, asked: ClientWords, host: &mut H) -> Ended
     ensures past { GrewSome (IsClientLog asked result.outcome result.said)
         (H.past host.old) (H.past host.new) }

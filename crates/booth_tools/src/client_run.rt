@@ -27,7 +27,7 @@ pub fn passed(words: &[String]) -> &[String]
     }
 }
 
-// Makes the calls of a client's run, up to the one that decides its outcome.
+// Makes the calls of a client's run, up to the call that decides its outcome.
 fn run_words<H: Host>(alloc: Global, program: Program, words: &[String], host: &mut H) -> Ended
     requires client { IsClient program }
     ensures past { GrewSome (IsClientMade program (map string_bytes words.now) result.outcome result.said)
@@ -76,7 +76,7 @@ fn run_client<H: Host>(alloc: Global, program: Program, words: &[String], host: 
 /// revoke names another owner, the revoke is sent on to that member, once. It prints the content of a good answer,
 /// and why any other refuses.
 ///
-/// A move does the same if its target is a site; otherwise it ends before the key is read. Once the answer to the
+/// A move does the same if its target is a site; otherwise it ends before the key is read. When the answer to the
 /// revoke says that the ticket was released, it sends the target a grant, again while the target is busy, and prints
 /// how the move ended.
 pub fn booth<H: Host>(alloc: Global, words: &[String], host: &mut H) -> Outcome

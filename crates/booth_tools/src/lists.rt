@@ -15,7 +15,7 @@ use booth_outcomes::{Ended, ErrorLine, Outcome, texts};
 use booth_talk::{Asking, ListRoom, Listed, talk_list};
 use std::alloc::Global;
 
-// Prints the list whose parts are in the room.
+// Prints the list whose parts were received.
 fn print<H: Host>(alloc: Global, room: &ListRoom, host: &mut H) -> Ended
     ensures past { GrewSome (IsPrinted (IsListReport (text_of room.now.parts)) result.outcome result.said)
         (H.past host.old) (H.past host.new) }
@@ -38,7 +38,7 @@ fn print<H: Host>(alloc: Global, room: &ListRoom, host: &mut H) -> Ended
     }
 }
 
-// Returns how a list ends whose request was sent.
+// Returns the outcome of a list after its request was sent.
 fn end<H: Host>(alloc: Global, listed: Listed, room: &ListRoom, host: &mut H) -> Ended
     ensures past { GrewSome (ListEndsWith (Ok listed) (text_of room.now.parts) result.outcome result.said)
         (H.past host.old) (H.past host.new) }

@@ -61,7 +61,7 @@ pub(crate) fn show<H: Host>(text: &[u8], host: &mut H) -> Ended
     }
 }
 
-// Returns how a move ended whose requests were sent.
+// Returns the outcome of a move after its requests were sent.
 fn end<H: Host>(asked: &MoveWords, how: MoveEnd, host: &mut H) -> Ended
     ensures past { GrewSome (MoveEndsWith asked.now (Ok how) result.outcome result.said)
         (H.past host.old) (H.past host.new) }

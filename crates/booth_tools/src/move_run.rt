@@ -35,7 +35,7 @@ fn site_at(address: &Address, config: &Config) -> Option<usize>
         .position(|member| is_site_at(address, member))
 }
 
-// Does what follows the look: reads the clock, and moves the ticket to the member at this place.
+// Does the rest of the run, after the look: reads the clock, and moves the ticket to the member at this place.
 fn start_move<H: Host>(
     asked: &MoveWords,
     asking: Asking,
@@ -82,8 +82,8 @@ impl MoveMemory {
     }
 }
 
-// Does what follows the key: opens the socket, looks at the target, and moves the ticket. All memory except that for
-// the list's text is allocated before these.
+// Does the rest of the run, after the key: opens the socket, looks at the target, and moves the ticket. All memory
+// except that for the list's text is allocated before these.
 fn set_out<H: Host>(
     alloc: Global,
     asked: MoveWords,
@@ -144,7 +144,7 @@ fn move_to<H: Host>(
     }
 }
 
-// Does what follows the configuration.
+// Does the rest of the run, after the configuration.
 fn move_within<H: Host>(alloc: Global, asked: MoveWords, config: Config, host: &mut H) -> Ended
     requires { file_fault config.members config.tickets ≡ None }
     ensures past { GrewSome (FollowsConfig asked config result.outcome result.said)
@@ -162,7 +162,7 @@ fn move_within<H: Host>(alloc: Global, asked: MoveWords, config: Config, host: &
     }
 }
 
-/// Makes the calls of the move, up to the one that decides its outcome.
+/// Makes the calls of the move, up to the call that decides its outcome.
 pub(crate) fn move_ticket<H: Host>(alloc: Global, asked: MoveWords, host: &mut H) -> Ended
     ensures past { GrewSome (IsMoveLog asked result.outcome result.said)
         (H.past host.old) (H.past host.new) }

@@ -2,21 +2,37 @@
 //! daemon's calls. A journal records them if the environment names one.
 
 use crate::error_lines::ErrorLines;
+use crate::file_limit::{expect_members, limit_links};
 use crate::journal_path::journal_path;
-use crate::link_limit::limit_links;
 use crate::write_limit::write_limit;
 use booth_cli::{Asked, Program, ask};
+use booth_conf::Config;
 use booth_daemon::{Outcome, boothd};
 use booth_host::Host;
 use booth_journal::JournalHost;
 use booth_links::RealLinks;
 use booth_log::LogHost;
-use booth_real::{JournalFile, RealHost};
+use booth_real::{JournalFile, RealHost, contents, files_for_links};
 use booth_stream::StreamHost;
 use std::alloc::{AllocError, Global};
 
+// Returns the configuration at this path, if it can be read. If it cannot, the daemon prints why when it reads it.
+fn config_at(rt: &HostRuntime, alloc: Global, path: &str) -> Option<Config> {
+    let text = contents(rt, alloc, path).ok()?;
+    Config::parse(alloc, &text).ok()
+}
+
+// Gives each member a socket of its own, and returns how many open files remain for links.
+fn files_beside_members(config: Option<&Config>, host: &mut RealHost) -> usize {
+    let files = usize::try_from(files_for_links()).unwrap_or(usize::MAX);
+    match config {
+        Some(config) => expect_members(config.members(), files, host),
+        None => files,
+    }
+}
+
 // Sets up the host: the first reading of a daemon is one of the clock that its records have, no write takes longer
-// than it may, and no more links are served than there are open files for.
+// than it may, each member has a socket of its own, and no more links are served than there are open files for.
 fn prepare(
     rt: HostRuntime,
     alloc: Global,
@@ -26,8 +42,10 @@ fn prepare(
 ) {
     if let Ok(Asked::Daemon(asked)) = &ask(alloc, Program::Boothd, words) {
         host.await_clock(&asked.records);
-        host.limit_writes(write_limit(&rt, alloc, asked.conf.as_str()));
-        limit_links(rt, alloc, links);
+        let config = config_at(&rt, alloc, asked.conf.as_str());
+        host.limit_writes(write_limit(&rt, config.as_ref()));
+        let files = files_beside_members(config.as_ref(), host);
+        limit_links(rt, alloc, files, links);
     }
 }
 

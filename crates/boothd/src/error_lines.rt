@@ -7,7 +7,7 @@ use std::{env, str};
 /// The variable of the environment that turns the log off if it is `off`.
 const SWITCH: &str = "BOOTH_LOG";
 
-/// Standard error as a sink for log lines. It records no line, and loses one that would have to wait for a reader.
+/// Standard error as a sink for log lines. A line that would have to wait for a reader is lost.
 #[derive(Drop)]
 pub(crate) struct ErrorLines {
     speaker: Speaker,

@@ -10,7 +10,7 @@ use std::alloc::{AllocError, Global};
 use std::env::Env;
 use std::{fs, str};
 
-/// The word of a program that runs at the same time as others of its ticket.
+/// The argument of the program whose runs may overlap with other runs of its ticket.
 const BESIDE: &str = "renew";
 
 /// The variable that names the file with the end until which an earlier follower left the service running.

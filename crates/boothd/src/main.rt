@@ -5,9 +5,9 @@
 mod client;
 mod daemon;
 mod error_lines;
+mod file_limit;
 mod follower;
 mod journal_path;
-mod link_limit;
 mod write_limit;
 
 use crate::client::{run_booth, run_geostore};

@@ -1,8 +1,7 @@
 //! How long a write of a record may take, from the environment or from the times of the tickets.
 
 use booth_conf::{Config, TicketConf};
-use booth_real::{Priority, Speaker, contents};
-use std::alloc::Global;
+use booth_real::{Priority, Speaker};
 use std::env;
 
 /// The variable of the environment with a limit in milliseconds; 0 for none.
@@ -29,17 +28,16 @@ fn shortest_limit(config: &Config) -> Option<u64> {
     shortest
 }
 
-// Returns the limit of this configuration, if it can be read. If it cannot, the daemon prints why when it reads it.
-fn limit_in(rt: &HostRuntime, alloc: Global, conf: &str) -> Option<u64> {
-    let text = contents(rt, alloc, conf).ok()?;
-    shortest_limit(&Config::parse(alloc, &text).ok()?)
+// Returns the limit of this configuration, if there is one.
+fn limit_in(config: Option<&Config>) -> Option<u64> {
+    shortest_limit(config?)
 }
 
 /// Returns how many milliseconds a write of a record may take in a daemon with this configuration, if there is a
 /// limit. The environment overrides the times of its tickets.
-pub(crate) fn write_limit(rt: &HostRuntime, alloc: Global, conf: &str) -> Option<u64> {
+pub(crate) fn write_limit(rt: &HostRuntime, config: Option<&Config>) -> Option<u64> {
     let Ok(named) = env::var(rt, LIMIT) else {
-        return limit_in(rt, alloc, conf);
+        return limit_in(config);
     };
     match named.parse::<u64>() {
         Ok(0) => None,
@@ -47,7 +45,7 @@ pub(crate) fn write_limit(rt: &HostRuntime, alloc: Global, conf: &str) -> Option
         Err(_) => {
             let line = b"BOOTH_WRITE_LIMIT is no number of milliseconds, and counts for nothing";
             Speaker::new(*rt, "boothd").say(Priority::Warning, line);
-            limit_in(rt, alloc, conf)
+            limit_in(config)
         }
     }
 }

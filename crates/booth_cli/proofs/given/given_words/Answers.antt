@@ -28,7 +28,7 @@ returns-clause-given c =
     (c.in-Ok-try_get_matches_from.ensures.matches (ap is_simple is ∙ simple c.args.verb)).0
     ∙ ap (λ (a : App). matches_of a (map string_bytes c.args.words.now)) is in
     texts_are m rows _ same c.get_str.ensures c.get_str-2.ensures c.get_str-3.ensures c.get_str-4.ensures c.get_str-5.ensures
-    c.get_str-6.ensures c.get_str-7.ensures c.get_str-8.ensures c.get_str-9.ensures c.get_str-10.ensures c.get_str-11.ensures c.get_str-12.ensures c.get_str-13.ensures c.get_str-14.ensures c.has_flag.ensures c.has_flag-2.ensures c.has_flag-3.ensures c.has_flag-4.ensures c.has_flag-5.ensures refl
+    c.get_str-6.ensures c.get_str-7.ensures c.get_str-8.ensures c.get_str-9.ensures c.get_str-10.ensures c.get_str-11.ensures c.get_str-12.ensures c.get_str-13.ensures c.get_str-14.ensures c.has_flag.ensures c.has_flag-2.ensures c.has_flag-3.ensures c.has_flag-4.ensures c.has_flag-5.ensures c.has_flag-6.ensures refl
 
 pub returns-clause-needed : goal.returns-clause-needed
 returns-clause-needed c =
