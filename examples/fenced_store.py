@@ -108,7 +108,7 @@ def as_shown(ticket: Optional[str], term: Optional[str]) -> Tuple[str, int]:
     if ticket is None or NAME.fullmatch(ticket) is None or ticket.endswith(".new"):
         raise Refused(400, f"bad Booth-Ticket: {ticket!r}")
     if term is None or TERM.fullmatch(term) is None or not 0 < int(term) < 1 << 32:
-        raise Refused(400, f"bad Booth-Term: {term!r} is no term of a lease, which is 1 to 4294967295")
+        raise Refused(400, f"bad Booth-Term: {term!r} is not the term of a lease: a term is 1 to 4294967295")
     return ticket, int(term)
 
 
@@ -138,7 +138,7 @@ class Handler(BaseHTTPRequestHandler):
         length = self.headers.get("Content-Length", "")
         if not length.isdigit() or int(length) > MOST_BYTES:
             self.close_connection = True
-            raise Refused(400, f"bad Content-Length: {length!r} is no number up to {MOST_BYTES}")
+            raise Refused(400, f"bad Content-Length: {length!r} is not a number from 0 to {MOST_BYTES}")
         data = self.rfile.read(int(length))
         if len(data) < int(length):
             self.close_connection = True

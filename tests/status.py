@@ -18,6 +18,7 @@ sys.path[:0] = [HERE, f"{HERE}/../tools"]
 import check_stories
 import cluster_looks
 import configuration_stories
+import doctor_stories
 import look_stories
 import record_stories
 import service_stories
@@ -38,7 +39,7 @@ def hangs(*_):
 
 
 def passes(story, call):
-    """Whether a story passes. The story returns what it left out, or nothing."""
+    """Returns whether a story passes. The story returns what it left out, or nothing."""
     begun = time.monotonic()
     signal.signal(signal.SIGALRM, hangs)
     signal.alarm(SECONDS_OF_A_STORY)
@@ -79,7 +80,8 @@ def run(program):
 
 
 def main(words):
-    # (what a shell started in the background ignores it, and so would the program that a story ends by it)
+    # (a program that a shell starts in the background ignores this signal, and so would the programs that a story ends
+    # by it)
     signal.signal(signal.SIGINT, signal.default_int_handler)
     end_by_signals()
     program = words[0] if words else built_program()

@@ -20,9 +20,9 @@ from serving import NotServing
 
 TOP = os.path.dirname(os.path.dirname(os.path.abspath(__file__)))
 SECONDS_OF_A_RUN = 30
-# how long Python takes to start and to end, on a busy machine
+# how long Python takes to start and to end on a busy machine, in seconds
 SECONDS_OF_PYTHON = 3
-# how long it may take there until a look shows what it must
+# how long it may take on a busy machine until booth-status shows the expected state, in seconds
 SECONDS_TO_BE_SO = 30
 SECONDS_BETWEEN_TRIES = 0.1
 
@@ -78,7 +78,9 @@ def loaded(name):
 
 
 def run(name, *words):
-    """A run of booth-status or booth-record in this process, because starting Python a hundred times would be slow."""
+    """Returns a run of booth-status or booth-record in this process, because starting Python a hundred times would be
+    slow.
+    """
     started, streams = time.monotonic(), [io.TextIOWrapper(io.BytesIO(), write_through=True) for _ in range(2)]
     with contextlib.redirect_stdout(streams[0]), contextlib.redirect_stderr(streams[1]):
         result = loaded(name).status([str(word) for word in words])
@@ -86,7 +88,7 @@ def run(name, *words):
 
 
 def run_apart(name, *words, **more):
-    """The same in its own process, as an operator runs it."""
+    """Returns the same in its own process, as an operator runs it."""
     started = time.monotonic()
     command = [sys.executable, "-IS", f"{TOP}/packaging/{name}", *map(str, words)]
     more.update(stdin=subprocess.DEVNULL, stdout=subprocess.PIPE, stderr=subprocess.PIPE, universal_newlines=True)
@@ -104,7 +106,7 @@ def record(*words):
 
 
 def refuses(name, words, text, result):
-    """A run that prints nothing on standard output, and this on the first line of standard error."""
+    """Checks that a run prints nothing on standard output, and this on the first line of standard error."""
     ran = run(name, *words)
     wanted = (result, "", f"{name}: {text}")
     found = (ran.status, ran.printed, ran.said.split("\n")[0])
@@ -112,7 +114,7 @@ def refuses(name, words, text, result):
 
 
 def document(*words):
-    """The JSON document of a look, which has the same status as its run."""
+    """Returns the JSON document of a look, which has the same status as its run."""
     ran = status("-j", *words)
     require(ran.printed.count("\n") == 1 and not ran.said, f"--json printed {ran.printed}{ran.said}")
     told = json.loads(ran.printed)
@@ -121,7 +123,7 @@ def document(*words):
 
 
 def problems_of(told):
-    """The problems in a document, without the texts."""
+    """Returns the problems in a document, without the texts."""
     names = ("severity", "kind", "member", "other", "ticket")
     return {tuple(each[name] for name in names) for each in told["problems"]}
 
@@ -158,7 +160,7 @@ def in_time(check, state=None):
 
 
 def content_of(path):
-    """The bytes of a file, or None if it is missing."""
+    """Returns the bytes of a file, or None if it is missing."""
     if path is None or not os.path.exists(path):
         return None
     with open(path, "rb") as file:
@@ -175,7 +177,7 @@ def put_back(path, kept):
 
 
 def shows(look, *wanted, state=None):
-    """The document of a look with these arguments, once it has exactly these problems."""
+    """Returns the document of a look with these arguments, once it has exactly these problems."""
     words = [*look, "-s", state] if state else look
 
     def check():
@@ -187,13 +189,13 @@ def shows(look, *wanted, state=None):
 
 
 def first_text(told):
-    """The text of the worst problem."""
+    """Returns the text of the worst problem."""
     return told["problems"][0]["text"]
 
 
 def metrics_of(text):
-    """Each sample of the metrics by its name and its labels, as Prometheus reads them, after the help and type of its
-    name.
+    """Returns each sample of the metrics by its name and its labels, as Prometheus reads them, after the help and type
+    of its name.
     """
     form = re.compile(r'([a-z_]+)(?:\{((?:[a-z_]+="(?:[^"\\\n]|\\.)*",?)*)\})? (-?[0-9.]+(?:e-?[0-9]+)?)')
     samples, known, place = {}, {}, None
@@ -213,11 +215,11 @@ def metrics_of(text):
 
 
 def sample(samples, name, **labels):
-    """The value of a sample, or None if it is missing."""
+    """Returns the value of a sample, or None if it is missing."""
     return samples.get((name, frozenset(labels.items())))
 
 
 def tables_of(printed):
-    """The rows of each printed table, as lists of fields, without the header rows."""
+    """Returns the rows of each printed table, as lists of fields, without the header rows."""
     blocks = [block.splitlines() for block in printed.rstrip("\n").split("\n\n")]
     return [[re.split(r" {2,}", line.strip()) for line in block] for block in blocks]

@@ -4,10 +4,12 @@ booth-status(8) specifies both forms. It is imported by booth-status, and not ru
 """
 
 import json
-
-from typing import Any, Dict, Iterator, Optional, Tuple
+from types import MappingProxyType
+from typing import Any, Dict, Iterable, Iterator, List, Mapping, Optional, Tuple
 
 import looking
+from judging import TicketView, View, listed
+from lists import Held
 from pacemaker_status import ClusterService
 from problems import NOTICE, WORDS
 from service_problems import seconds_to_kill, shown
@@ -105,8 +107,8 @@ def of_problem(problem):
     return {**problem._asdict(), "severity": WORDS[problem.severity]}
 
 
-def document(view, line):
-    """Returns the whole view as one line of JSON."""
+def document(view: View, line: str, more: Mapping[str, Any] = MappingProxyType({})) -> str:
+    """Returns the whole view as one line of JSON. `more` has further fields."""
     told = {
         "version": VERSION,
         "configuration": view.path,
@@ -118,6 +120,7 @@ def document(view, line):
         "site": view.here.site,
         "tickets": [of_ticket(ticket, view) for ticket in view.tickets],
         "problems": [of_problem(problem) for problem in view.problems],
+        **more,
     }
     return json.dumps(told)
 
@@ -144,6 +147,7 @@ HELP = {
     "booth_ticket_left_seconds": ("gauge", "How long the lease still runs according to a member"),
     "booth_ticket_takeover_seconds": ("gauge", "In how long another site may take over if it is not renewed"),
     "booth_ticket_problem": ("gauge", "1 for a warning about the ticket, 2 if it is critical, by the kind of problem"),
+    "booth_member_problem": ("gauge", "1 for a warning about the member, 2 if it is critical, by the kind of problem"),
     "booth_follower_up": ("gauge", "1 if a follower of the ticket runs on this machine"),
     "booth_service_running": ("gauge", "1 if the service of the ticket runs on this machine"),
     "booth_service_state": ("gauge", "1 for the state of the ticket's service on this machine"),
@@ -151,6 +155,9 @@ HELP = {
     "booth_service_paused": ("gauge", "1 if the service is paused on this machine"),
     "booth_service_failed_starts": ("gauge", "How many starts of the service in a row have failed on this machine"),
     "booth_service_kill_seconds": ("gauge", "In how long the service is killed, unless the lease is renewed"),
+    "booth_records_unwritten": ("gauge", "How many files the daemon here could not write when it last tried"),
+    "booth_console_looks_total": ("counter", "How many times the console looked at the members"),
+    "booth_console_requests_total": ("counter", "HTTP requests that the console answered, by their status"),
 }
 
 
@@ -183,18 +190,18 @@ def samples_of_member(answer):
             yield sample("booth_peer_last_seconds_ago", seconds(answer.clock - peer.last), **labels)
 
 
-def samples_of_ticket(view, answers):
+def samples_of_ticket(view: TicketView, lines: List[Tuple[looking.Answer, Held]]) -> Iterator[Tuple[str, str]]:
+    """Yields the samples of a ticket, from the members' lines about it."""
     name = view.ticket.name
     yield sample("booth_ticket_held", int(view.owner() is not None), ticket=name)
     yield sample("booth_ticket_owners", len(view.owners()), ticket=name)
     yield sample("booth_ticket_views", len(view.seen), ticket=name)
-    for answer in answers:
-        for held in answer.held or ():
-            if held.ticket == name and held.owner:
-                labels = {"ticket": name, "member": answer.member.address, "holder": held.owner}
-                yield sample("booth_ticket_holder", 1, **labels)
-                if held.end:
-                    yield sample("booth_ticket_left_seconds", seconds(max(0, held.end - answer.clock)), **labels)
+    for answer, held in lines:
+        if held.owner:
+            labels = {"ticket": name, "member": answer.member.address, "holder": held.owner}
+            yield sample("booth_ticket_holder", 1, **labels)
+            if held.end:
+                yield sample("booth_ticket_left_seconds", seconds(max(0, held.end - answer.clock)), **labels)
 
 
 def samples_of_service(service: Service) -> Iterator[Tuple[str, str]]:
@@ -214,19 +221,20 @@ def samples_of_service(service: Service) -> Iterator[Tuple[str, str]]:
         yield sample("booth_service_kill_seconds", seconds(left), ticket=name)
 
 
-def samples_of_problems(view) -> Iterator[Tuple[str, str]]:
-    """Yields the problems of tickets, the worst one of each kind."""
-    worst: Dict[Tuple[str, str], int] = {}
+def samples_of_problems(view: View) -> Iterator[Tuple[str, str]]:
+    """Yields the problems of tickets, and those of members alone, the worst one of each kind."""
+    worst: Dict[Tuple[str, str, str], int] = {}
     for problem in view.problems:
-        if problem.ticket is not None and problem.severity > NOTICE:
-            key = problem.ticket, problem.kind
+        about, name = ("ticket", problem.ticket) if problem.ticket is not None else ("member", problem.member)
+        if name is not None and problem.severity > NOTICE:
+            key = about, name, problem.kind
             worst[key] = max(problem.severity, worst.get(key, NOTICE))
-    for (name, kind), severity in worst.items():
-        yield sample("booth_ticket_problem", severity, ticket=name, kind=kind)
+    for (about, name, kind), severity in worst.items():
+        yield sample(f"booth_{about}_problem", severity, **{about: name, "kind": kind})
 
 
-def metrics(view):
-    """Returns the text for the node exporter, in which the lines of each metric are together."""
+def metrics(view: View, more: Iterable[Tuple[str, str]] = ()) -> str:
+    """Returns the text for Prometheus, in which the lines of each metric are together. `more` has further samples."""
     samples = [
         sample("booth_status", view.status()),
         sample("booth_look_time_seconds", seconds(view.moment)),
@@ -236,14 +244,25 @@ def metrics(view):
         count = sum(problem.severity == severity for problem in view.problems)
         samples.append(sample("booth_problems", count, severity=word))
     samples += [each for answer in view.answers for each in samples_of_member(answer)]
-    samples += [each for ticket in view.tickets for each in samples_of_ticket(ticket, view.answers)]
+    lines = listed(view.answers)
+    for ticket in view.tickets:
+        samples += samples_of_ticket(ticket, lines.get(ticket.ticket.name, []))
     for name, takeover in view.takeovers.items():
         left = seconds(max(0, takeover.free_at - view.moment))
         samples.append(sample("booth_ticket_takeover_seconds", left, ticket=name))
     samples += samples_of_problems(view)
     samples += [each for service in view.here.services.values() for each in samples_of_service(service)]
-    lines = []
+    return printed([*samples, *more])
+
+
+def printed(samples: Iterable[Tuple[str, str]]) -> str:
+    """Returns the text of these samples."""
+    by_name: Dict[str, Dict[str, str]] = {}
+    for name, line in samples:
+        # (a member may list a ticket or a peer twice, but Prometheus refuses a text with the same labels twice)
+        by_name.setdefault(name, {}).setdefault(line.rpartition(" ")[0], line)
+    lines: List[str] = []
     for name, (kind, what) in HELP.items():
-        of_name = [line for found, line in samples if found == name]
-        lines += [f"# HELP {name} {what}", f"# TYPE {name} {kind}", *of_name] if of_name else []
+        found = by_name.get(name)
+        lines += [f"# HELP {name} {what}", f"# TYPE {name} {kind}", *found.values()] if found else []
     return "\n".join(lines) + "\n"

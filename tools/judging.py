@@ -3,9 +3,10 @@
 It is imported by booth-status and the tests, and not run by itself. It asks no other program and reads no clock.
 """
 
-from typing import Dict, List, NamedTuple, Optional
+from typing import Dict, List, NamedTuple, Optional, Tuple
 
 import changes
+import lists
 import looking
 import pacemaker_status
 import service_problems
@@ -86,14 +87,21 @@ class View(NamedTuple):
         return max((problem.severity for problem in self.problems), default=NOTICE)
 
 
-def views_of(ticket, answers):
-    """Returns the views of the members on this ticket."""
-    rows = []
+def listed(answers: List[looking.Answer]) -> Dict[str, List[Tuple[looking.Answer, lists.Held]]]:
+    """Returns each line of the members' lists, with its member's answer, by the name of the ticket."""
+    found: Dict[str, List[Tuple[looking.Answer, lists.Held]]] = {}
     for answer in answers:
         for held in answer.held or ():
-            if held.ticket == ticket.name:
-                left = held.end - answer.clock if held.end else None
-                rows.append((held.owner, held.end or None, left, answer.member.address))
+            found.setdefault(held.ticket, []).append((answer, held))
+    return found
+
+
+def views_of(ticket: Ticket, lines: List[Tuple[looking.Answer, lists.Held]]) -> TicketView:
+    """Returns the views of the members on this ticket, from their lines about it."""
+    rows = []
+    for answer, held in lines:
+        left = held.end - answer.clock if held.end else None
+        rows.append((held.owner, held.end or None, left, answer.member.address))
     rows.sort(key=lambda row: (row[0] is None, row[0] != row[3]))
     seen = []
     for owner, end, left, address in rows:
@@ -116,7 +124,8 @@ def is_same_end(one, other):
 
 def judged(configuration, answers, moment, took, before=None, may_be_free=(), here=Here()):
     """Returns the view of these answers. `before` has the results of earlier looks, and `here` the services here."""
-    tickets = [views_of(ticket, answers) for ticket in configuration.tickets]
+    lines = listed(answers)
+    tickets = [views_of(ticket, lines.get(ticket.name, [])) for ticket in configuration.tickets]
     changed = changes.since(before, answers)
     now = takeovers.members_now(answers, moment)
     held = held_last(tickets, before, now)

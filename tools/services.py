@@ -15,7 +15,7 @@ from typing import Dict, Iterator, List, NamedTuple, Optional
 import configuration
 import pacemaker_status
 import service_state
-from configuration import Configuration, Unreadable
+from configuration import Configuration, Member, Unreadable
 from service_state import State
 
 # the directories with systemctl, in addition to PATH
@@ -184,6 +184,25 @@ def own_site(conf: Configuration, tickets: List[str]) -> Optional[str]:
         if len(found) == 1:
             return found.pop()
     return None
+
+
+class Own(NamedTuple):
+    """The member that this machine is: from the file of its unit, or by the machine's addresses."""
+
+    named: Optional[str]
+    members: List[Member]
+
+    def member(self) -> Optional[Member]:
+        """Returns the member, or `None` if it is not known."""
+        return self.members[0] if len(self.members) == 1 else None
+
+
+def own_member(conf: Configuration) -> Own:
+    """Returns which member this machine is."""
+    named = spelled(variable("ADDRESS", cluster_of(conf)))
+    if named is not None:
+        return Own(named, [member for member in conf.members if member.address == named])
+    return Own(None, [member for member in conf.members if is_own(member.address)])
 
 
 def followed(conf: Configuration, units: Optional[Dict[str, bool]]) -> Iterator[str]:

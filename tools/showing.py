@@ -15,18 +15,24 @@ STATES = {looking.NO_DAEMON: "no daemon", looking.PARTLY: "in part"}
 def members(view):
     """Returns a row for each member: its answer, how long ago each other member heard from it, and what it dropped."""
     numbers = {answer.member.address: str(place) for place, answer in enumerate(view.answers, 1)}
-    heard = {}
-    for answer in view.answers:
-        for peer in answer.counts.peers if answer.counts else ():
-            heard[peer.address, answer.member.address] = span(answer.clock - peer.last) if peer.last else "never"
+    ages = heard(view)
     hearers = (f"BY {number}" for number in numbers.values())
     rows = [("#", "MEMBER", "", "ANSWER", "CLOCK", *hearers, "DROPPED", "UNSENT")]
     for answer in view.answers:
         address = answer.member.address
-        ages = ["-" if other == address else heard.get((address, other), "?") for other in numbers]
+        by = ["-" if other == address else ages.get((address, other), "?") for other in numbers]
         names = (numbers[address], answer.member.role, address)
-        rows.append((*names, *answered(answer), *ages, *dropped(answer, numbers)))
+        rows.append((*names, *answered(answer), *by, *dropped(answer, numbers)))
     return aligned(rows)
+
+
+def heard(view):
+    """Returns how long ago each member last heard from each other one, by the addresses of the other one and itself."""
+    ages = {}
+    for answer in view.answers:
+        for peer in answer.counts.peers if answer.counts else ():
+            ages[peer.address, answer.member.address] = span(answer.clock - peer.last) if peer.last else "never"
+    return ages
 
 
 def answered(answer):
