@@ -39,7 +39,7 @@ Before=systemd-journald.service sysinit.target
 [Service]
 Type=oneshot
 RemainAfterExit=yes
-ExecStart=/bin/sh -c 'cat {BOOT_ID} >{KEPT_BOOT_ID} && umount {BOOT_ID} && mount --bind {KEPT_BOOT_ID} {BOOT_ID}'
+ExecStart=/bin/sh -c 'cat {BOOT_ID} >{KEPT_BOOT_ID} && umount -l {BOOT_ID} && mount --bind {KEPT_BOOT_ID} {BOOT_ID}'
 """
 HAS_BOOT_ID = f"[Service]\nBindReadOnlyPaths={KEPT_BOOT_ID}:{BOOT_ID}\n"
 
@@ -101,7 +101,7 @@ def make_image(image: Image = POSTGRESQL) -> None:
             if image.more:
                 _install(begun, image.more, log)
         except NoImage as why:
-            # (what it has mounted there stays as it is)
+            # (what debootstrap has mounted there is left alone)
             subprocess.run(["rm", "-rf", "--one-file-system", begun], check=False)
             raise NoImage(f"{why}: {at}") from None
     os.rename(begun, image.path)

@@ -46,13 +46,25 @@ def own_clock(run: Run, node: Machine, seconds: int = 0) -> Iterator[None]:
     step(node, seconds)
     for path in paths:
         node.write(path, DROP_IN)
-    node.lose_power()
-    run.world.boot([node])
+    boot_again(run, node)
     try:
         run.set_up.settle_at(run.world, run.site)
         yield
     finally:
-        node.lose_power()
         for path in paths:
             node.remove(path)
-        run.world.boot([node])
+        boot_again(run, node)
+
+
+def boot_again(run: Run, node: Machine) -> None:
+    """Cuts the power of a node, and boots it once its cluster has missed it: else Pacemaker may lose its tickets."""
+    node.lose_power()
+    other = run.site.other(node)
+    run.world.await_that(f"{node.name} is missed", lambda: not other.is_up() or is_missed(run, node))
+    run.world.boot([node])
+
+
+def is_missed(run: Run, node: Machine) -> bool:
+    """Returns whether the other node of the site lists this one as gone."""
+    look = run.site.look(run.site.other(node))
+    return look is not None and node.name not in look.online

@@ -12,6 +12,7 @@ from cluster_setups import SetUp, await_cluster
 from cluster_world import FAULTS, PACEMAKER, Site, Unlike, World
 
 HANGING = "#!/bin/sh\nexec sleep 600\n"
+ENDING = "[Service]\nExecStart=\nExecStart=/bin/false\n"
 
 
 class Run(NamedTuple):
@@ -97,17 +98,51 @@ def hanging(run: Run, command: str) -> Iterator[None]:
 
 
 @contextlib.contextmanager
-def no_start(run: Run, *units: str) -> Iterator[None]:
-    """Prevents units from starting at the nodes of a site for a while."""
-    for node in run.site.nodes:
-        node.must("systemctl", "mask", "--runtime", *units)
+def no_start(run: Run, node: Machine, unit: str) -> Iterator[None]:
+    """Kills a unit of a node, and prevents its start at each node of the site for a while."""
+    mask, number = f"systemctl mask --runtime {unit}", main_process(node, unit)
+    # (once it is masked, systemd takes no report of the unit's watchdog any more, and ends the unit)
+    node.must("sh", "-c", f"{mask} && kill -KILL {number}")
     try:
+        run.site.other(node).must("sh", "-c", mask)
         yield
     finally:
-        for node in run.site.up():
-            node.run("systemctl", "unmask", "--runtime", *units)
-            node.run("systemctl", "reset-failed", *units)
-            run.set_up.restart(node, units)
+        for each in run.site.up():
+            each.run("systemctl", "unmask", "--runtime", unit)
+        start_again(run, unit)
+
+
+@contextlib.contextmanager
+def ending(run: Run, node: Machine, unit: str) -> Iterator[None]:
+    """Kills a unit of a node, and lets its program end at once at each node of the site for a while."""
+    path, number = f"/etc/systemd/system/{unit}.d/zz-fault.conf", main_process(node, unit)
+    for each in run.site.nodes:
+        each.write(path, ENDING)
+        each.must("systemctl", "daemon-reload")
+    try:
+        node.must("kill", "-KILL", number)
+        yield
+    finally:
+        for each in run.site.nodes:
+            each.remove(path)
+        for each in run.site.up():
+            each.run("systemctl", "daemon-reload")
+        start_again(run, unit)
+
+
+def main_process(node: Machine, unit: str) -> str:
+    """Returns the number of the first process of a unit."""
+    number = node.must("systemctl", "show", "-P", "MainPID", unit).strip()
+    if number == "0":
+        raise Unlike(f"{node.name}: {unit} does not run")
+    return number
+
+
+def start_again(run: Run, unit: str) -> None:
+    """Lets a unit start again at the nodes of a site."""
+    for node in run.site.up():
+        node.run("systemctl", "reset-failed", unit)
+        run.set_up.restart(node, [unit])
 
 
 @contextlib.contextmanager
@@ -126,11 +161,3 @@ def again(run: Run, nodes: List[Machine]) -> None:
     for node in nodes:
         node.lose_power()
     run.world.boot(nodes)
-
-
-def kill_unit(node: Machine, *units: str) -> None:
-    """Kills the first process of each of these units, all at once."""
-    numbers = [node.must("systemctl", "show", "-P", "MainPID", unit).strip() for unit in units]
-    if "0" in numbers:
-        raise Unlike(f"{node.name}: one of {', '.join(units)} does not run")
-    node.must("kill", "-KILL", *numbers)

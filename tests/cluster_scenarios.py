@@ -15,10 +15,10 @@ from cluster_faults import (
     again,
     apart,
     cut_off,
+    ending,
     fault_file,
     fencing,
     hanging,
-    kill_unit,
     no_start,
     standing_still,
 )
@@ -26,8 +26,9 @@ from cluster_setups import AGENT, DAEMON, FOLLOWER, SECONDS_OF_A_STOP, await_clu
 from cluster_world import EXPIRE, TICKET, Unlike
 
 # the service is not touched; it starts at the other node of the site, perhaps only once the daemon there has renewed
-# the lease; it starts at the other site
-NONE, SHORT, LONG = 3.0, 20.0, 2.0 * EXPIRE
+# the lease; it starts again once the agent's monitor has found that Pacemaker's ticket is lost; it starts at the other
+# site
+NONE, SHORT, LOST, LONG = 3.0, 20.0, 30.0, 2.0 * EXPIRE
 
 Story = Callable[[Run], Optional[str]]
 
@@ -130,6 +131,17 @@ def service_node_dies(run: Run) -> Optional[str]:
     return None
 
 
+@scenario(LOST)
+def other_node_blinks(run: Run) -> Optional[str]:
+    """The other node loses its power and rejoins before it is missed, so Pacemaker may lose its tickets."""
+    node = run.site.other(run.place())
+    run.await_phase()
+    node.lose_power()
+    run.world.boot([node])
+    run.watch()
+    return None
+
+
 @scenario(LONG)
 def site_dies(run: Run) -> Optional[str]:
     """Both nodes of the site lose their power."""
@@ -150,8 +162,7 @@ def daemon_does_not_start(run: Run) -> Optional[str]:
     """The daemon is killed, and fails to start at each node of the site."""
     node = run.place()
     run.await_phase()
-    with no_start(run, DAEMON):
-        kill_unit(node, DAEMON)
+    with no_start(run, node, DAEMON):
         run.watch()
     return None
 
@@ -161,8 +172,17 @@ def follower_does_not_start(run: Run) -> Optional[str]:
     """The follower is killed, and fails to start at each node of the site."""
     node = run.place()
     run.await_phase()
-    with no_start(run, FOLLOWER):
-        kill_unit(node, FOLLOWER)
+    with no_start(run, node, FOLLOWER):
+        run.watch()
+    return None
+
+
+@scenario(LONG)
+def follower_ends_at_its_start(run: Run) -> Optional[str]:
+    """The follower is killed, and then ends at once at each start, at each node of the site."""
+    node = run.place()
+    run.await_phase()
+    with ending(run, node, FOLLOWER):
         run.watch()
     return None
 
@@ -193,6 +213,16 @@ def pacemaker_stands_still(run: Run) -> Optional[str]:
     run.place()
     run.await_phase()
     with cut_off(run), standing_still(run):
+        run.watch()
+    return None
+
+
+@scenario(LONG)
+def pacemaker_stands_still_and_renews(run: Run) -> Optional[str]:
+    """All processes of Pacemaker are stopped at the site (SIGSTOP), which reaches the others and renews its lease."""
+    run.place()
+    run.await_phase()
+    with standing_still(run):
         run.watch()
     return None
 

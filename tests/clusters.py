@@ -1,12 +1,12 @@
 #!/usr/bin/env python3
 """Causes faults in two real Pacemaker clusters and an arbitrator, and checks that the service runs at one site only.
 
-Run it as root, as `python3 tests/clusters.py [--package FILE] [--set-up NAME] [--phases N] [--gate] [--list] [--keep]
-[SCENARIO ..]`. It boots two sites of two nodes each and an arbitrator, sets them up from the package
+Run it as root, as `python3 tests/clusters.py [--package FILE] [--set-up NAME] [--phases N] [--phase PART] [--gate]
+[--list] [--keep] [SCENARIO ..]`. It boots two sites of two nodes each and an arbitrator, sets them up from the package
 (out/booth-proved_*.deb if none is named), and has a service at each site that notes when it runs. For each scenario it
 prints for how long the service ran at two sites, which must be 0 s, for how long it ran nowhere, and where it runs now.
 An infinity sign follows a time that lasted as long as was watched. With `--phases N` each fault comes N times, each
-time in another phase of the renewal. Its status is 1 if a scenario failed, and 77 if the machines cannot be booted
+time in another phase of the renewal; with `--phase PART` too, N times in this one. Its status is 1 if a scenario failed, and 77 if the machines cannot be booted
 here, which it says.
 
 The machines and their image are below /var/tmp/booth-machines. The image is made once, in some minutes. The limit
@@ -53,6 +53,7 @@ def words(arguments: List[str]) -> argparse.Namespace:
     parser.add_argument("--package")
     parser.add_argument("--set-up", choices=sorted(cluster_setups.SET_UPS), default="package")
     parser.add_argument("--phases", type=int, default=1, help="in how many phases of the renewal each fault comes")
+    parser.add_argument("--phase", type=float, help="the part of a renewal's period at which every fault comes")
     parser.add_argument("--gate", action="store_true", help="the scenarios that the gate runs")
     parser.add_argument("--list", action="store_true", help="print the scenarios")
     parser.add_argument("--keep", action="store_true", help="leave the machines' files")
@@ -63,6 +64,8 @@ def words(arguments: List[str]) -> argparse.Namespace:
         parser.error(f"no scenario {unknown[0]}: --list prints them")
     if options.phases < 1:
         parser.error("--phases is 1 or more")
+    if options.phase is not None and not 0 <= options.phase < 1:
+        parser.error("--phase is from 0 to less than 1")
     return options
 
 
@@ -117,11 +120,17 @@ def run(world: World, set_up: SetUp, each: Scenario) -> Outcome:
 def show(world: World, each: Scenario, found: Figures, said: List[str], faults: List[str]) -> None:
     """Prints the result of a run of a scenario."""
     print(
-        f"{'FAILED ' if faults else 'ok     '}{each.name} (phase {world.phase:.2f}): {spelled(found)}, "
+        f"{'FAILED ' if faults else 'ok     '}{each.name} (phase {world.phase:.2f}, at {moment(world.began)}): "
+        + f"{spelled(found)}, "
         + ", ".join([f"watched for {world.watched - world.began:.0f} s", *said])
         + "".join(f"\n       {fault}" for fault in faults),
         flush=True,
     )
+
+
+def moment(at: float) -> str:
+    """Returns a moment of this machine's clock since the boot as text, by its wall clock, as in the machines' logs."""
+    return time.strftime("%H:%M:%S", time.gmtime(time.time() - time.monotonic() + at))
 
 
 def tell(world: World, set_up: SetUp, each: Scenario) -> Tuple[List[str], Optional[str]]:
@@ -176,17 +185,23 @@ def row(outcomes: List[Outcome]) -> str:
     )
 
 
-def try_all(set_up: SetUp, chosen: List[Scenario], phases: int, keeps: bool) -> bool:
+def phases_of(options: argparse.Namespace) -> List[float]:
+    """Returns the parts of a renewal's period at which each fault comes."""
+    if options.phase is not None:
+        return [options.phase] * options.phases
+    return [(number + 0.5) / options.phases for number in range(options.phases)]
+
+
+def try_all(set_up: SetUp, chosen: List[Scenario], phases: List[float], keeps: bool) -> bool:
     """Runs these scenarios on their own machines, and returns whether all went as they must."""
     began = time.monotonic()
-    rows, well, count = [], 0, len(chosen) * phases
+    rows, well, count = [], 0, len(chosen) * len(phases)
     try:
         with set_up_world(set_up, keeps) as world:
             print(f"two clusters are set up ({set_up.name}) after {time.monotonic() - began:.0f} s", flush=True)
             for each in chosen:
                 outcomes = []
-                for number in range(phases):
-                    world.phase = (number + 0.5) / phases
+                for world.phase in phases:
                     outcomes.append(run(world, set_up, each))
                 rows.append(row(outcomes))
                 well += sum(outcome.is_well for outcome in outcomes)
@@ -247,7 +262,7 @@ def main(arguments: List[str]) -> int:
         return NOT_HERE
     try:
         set_up = cluster_setups.SET_UPS[options.set_up](package)
-        return 0 if try_all(set_up, chosen, options.phases, options.keep) else 1
+        return 0 if try_all(set_up, chosen, phases_of(options), options.keep) else 1
     except FAILURES as why:
         print(f"FAILED clusters: {why}")
         return 1

@@ -43,13 +43,13 @@ def story(function: Callable[[], None]) -> Callable[[], None]:
 
 
 def cib(resources: str = GROUP, constraints: str = "", config: str = "", status: str = "") -> Cib:
-    """A CIB with these parts."""
+    """Returns a CIB with these parts."""
     text = f"<crm_config>{config}</crm_config><resources>{resources}</resources><constraints>{constraints}</constraints>"
     return pacemaker_cib.parsed(f"<cib><configuration>{text}</configuration>{status}</cib>".encode())
 
 
 def after(before: str, steps: List[Step]) -> Cib:
-    """The CIB after steps that put constraints and the times into it."""
+    """Returns the CIB after steps that put constraints and the times into it."""
     elements, config = [], ""
     for step in steps:
         if step.words[0] == "cibadmin":
@@ -127,6 +127,9 @@ def an_agent_is_made_as_pcs_names_it() -> None:
     same(pacemaker_plan.parameter(agent, "tickets"), "db8", "its tickets")
     same(pacemaker_plan.agent_steps(known, wish, ["db8"]), [], "a second setup")
     same(pacemaker_plan.agent_steps(known, wish, ["db8", "mail"])[0].words[-1], "db8 mail", "another ticket")
+    # (an agent that pcs made starts at once when it has records, so it has its tickets before)
+    moved = pacemaker_plan.agent_steps(known, wish._replace(records="/srv/other"), ["db8", "mail"])
+    same([step.words[-1] for step in moved], ["db8 mail", "/srv/other"], "another ticket and other records")
 
 
 @story
@@ -150,7 +153,7 @@ def margins_are_held_to_corosync() -> None:
 
 
 def device(name: str, values: Dict[str, str]) -> str:
-    """A fencing device with these parameters."""
+    """Returns a fencing device with these parameters."""
     pairs = "".join(f'<nvpair id="{name}-{key}" name="{key}" value="{value}"/>' for key, value in values.items())
     attributes = f'<instance_attributes id="{name}-values">{pairs}</instance_attributes>'
     return f'<primitive id="{name}" class="stonith" type="fence_strip">{attributes}</primitive>'
@@ -213,7 +216,7 @@ WELL = {"fencing": "true", "agent": "Started", "up": "true", "role": "Started", 
 
 
 def said(is_held: bool, lease_left: float, **more: str) -> List[str]:
-    """The problems if crm_mon prints this, and this site holds the ticket or does not."""
+    """Returns the problems if crm_mon prints this, and this site holds the ticket or does not."""
     wish = AgentWish("/etc/booth/booth.conf", "booth", "192.0.2.10/24", None, ())
     agent = pacemaker_plan.agent_steps(cib(), wish, ["db8"])[0].words[-1]
     whole = after(GROUP + agent, pacemaker_plan.steps(cib(), WISH._replace(end=date(30))))

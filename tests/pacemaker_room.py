@@ -141,7 +141,7 @@ class Room:
                 os.remove(f"{self.folder}/{name}")
 
     def text(self, name: str) -> str:
-        """The text of a file of the room, empty if it is missing."""
+        """Returns the text of a file of the room, empty if it is missing."""
         try:
             with open(f"{self.folder}/{name}", encoding="utf-8") as file:
                 return file.read()
@@ -163,14 +163,14 @@ class Room:
         )
 
     def end(self) -> str:
-        """The end in the CIB."""
+        """Returns the end in the CIB."""
         found = re.search(r'operation="gt" start="([^"]*)"', self.text("cib.xml"))
         need(found, "the CIB has no end")
         assert found is not None
         return found[1]
 
     def environment(self, more: Dict[str, str]) -> Dict[str, str]:
-        """The environment of a run."""
+        """Returns the environment of a run."""
         given = {name: text for name, text in os.environ.items() if not name.startswith(("BOOTH_", "JOURNAL_"))}
         given["PATH"] = f"{self.folder}/bin:{os.environ['PATH']}"
         given["BOOTH_GUARD_RUN"] = given["BOOTH_FOLLOW_RUN"] = f"{self.folder}/run"
@@ -186,7 +186,7 @@ class Room:
         return Ended(done.returncode, done.stdout, time.monotonic() - begun)
 
     def calls(self, *names: str) -> List[str]:
-        """The calls of these stand-ins, or of all."""
+        """Returns the calls of these stand-ins, or of all."""
         found = self.text("calls").splitlines()
         return [call for call in found if not names or call.split()[0] in names]
 
@@ -201,7 +201,7 @@ class Room:
 
 
 def date(seconds: float) -> str:
-    """An end this many seconds from now, by the wall clock."""
+    """Returns an end this many seconds from now, by the wall clock."""
     return time.strftime("%Y-%m-%d %H:%M:%SZ", time.gmtime(int(time.time() + seconds)))
 
 

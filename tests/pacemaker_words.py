@@ -93,6 +93,18 @@ def a_renewal_that_fails_leaves_the_end(room: Room) -> None:
 
 
 @story
+def a_granted_ticket_is_marked(room: Room) -> None:
+    """a start leaves a file that the ticket must be granted, and a stop removes it before it revokes"""
+    at_site(room, date(20))
+    told = {"BOOTH_FOLLOW_END": f"{room.folder}/db8.end"}
+    mark = f"{room.folder}/db8.end.granted"
+    same((word(room, "start", **told).status, os.path.exists(mark)), (0, True), "after a start")
+    room.put("ticket.fails")
+    word(room, "stop", **told)
+    same(os.path.exists(mark), False, "after a stop whose revoke fails")
+
+
+@story
 def a_start_grants_behind_an_end_alone(room: Room) -> None:
     """a start grants Pacemaker's ticket only if the rule's end has not passed"""
     at_site(room)
@@ -200,7 +212,7 @@ def clock_file(room: Room, offset: float, boot: bytes = BOOT) -> None:
 
 
 def of_daemon() -> float:
-    """How far the wall clock is ahead of the time since the boot."""
+    """Returns how far the wall clock is ahead of the time since the boot."""
     return time.time() - time.clock_gettime(time.CLOCK_BOOTTIME)
 
 
@@ -337,21 +349,39 @@ def a_follower_waits_for_a_renewal(room: Room) -> None:
 
 @story
 def a_follower_that_begins_finds_nothing(room: Room) -> None:
-    """adopt writes nothing for a ticket that is revoked, that another site holds, or whose end is near"""
+    """adopt writes nothing if the ticket is revoked or elsewhere, the rule is closed, or no renewal follows its end"""
     clock_file(room, 1000)
-    rows = [("false", 30, "192.0.2.10", 50), ("true", 30, "192.0.2.20", 50), ("true", 30, "none", 0)]
-    rows += [("true", 4, "192.0.2.10", 11)]
-    for granted, ahead, holder, lasts in rows:
+    rows = [("false", date(30), "192.0.2.10", 50), ("true", date(30), "192.0.2.20", 50), ("true", date(30), "none", 0)]
+    rows += [("true", date(4), "192.0.2.10", 11), ("true", date(-3), "192.0.2.10", 11)]
+    rows += [("true", CLOSED, "192.0.2.10", 50), ("true", date(-3), "192.0.2.20", 50)]
+    for granted, end, holder, lasts in rows:
         room.put("granted", granted)
         room.put("db8.end", "1\n")
-        at_site(room, date(ahead))
+        at_site(room, end)
         lists(room, holder, lasts)
         done = adopts(room)
-        need(done.status == 0 and not room.text("db8.end"), f"{granted}, {ahead}, {holder}, {lasts}: {done}")
+        need(done.status == 0 and not room.text("db8.end"), f"{granted}, {end}, {holder}, {lasts}: {done}")
+        same(room.end(), end, f"the rule's end: {granted}, {end}, {holder}, {lasts}")
+
+
+@story
+def a_follower_that_begins_after_the_end(room: Room) -> None:
+    """adopt sets a new end after the rule's end has passed, once the daemon has renewed the lease"""
+    room.put("granted", "true")
+    at_site(room, date(-3))
+    clock_file(room, 1000)
+    lists(room, "192.0.2.10", 11)
+    threading.Timer(2, lambda: lists(room, "192.0.2.10", 50)).start()
+    done = adopts(room)
+    need(done.status == 0 and done.took > 1.5, f"{done}")
+    end = int(room.text("db8.end")) - 1000 - time.clock_gettime(time.CLOCK_BOOTTIME)
+    need(50 - 20 < end <= 50, f"the armed end is {end} s ahead")
+    ahead = pacemaker_cib.seconds_of(room.end()) - time.time()
+    need(40 - 20 < ahead <= 40, f"the rule's end is {ahead} s ahead")
 
 
 def outcome(told: Story) -> bool:
-    """Whether a story passes, in its own room."""
+    """Returns whether a story passes, in its own room."""
     with scratch("booth-pacemaker-") as folder:
         begun = time.monotonic()
         try:

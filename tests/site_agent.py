@@ -23,7 +23,7 @@ from shells import need
 
 CONF = 'site = "192.0.2.10"\nsite = 198.51.100.10 # b\narbitrator = 203.0.113.9\n'
 CONF += 'authfile = "{room}/key"\nticket = db8\n'
-# what the agent ends with: success, an error, what is not there, what is not configured, and what does not run
+# the exit statuses of the agent: success, an error, a missing program, a missing setting, not running
 SUCCESS, GENERIC, INSTALLED, CONFIGURED, STOPPED = 0, 1, 5, 6, 7
 
 STAND_INS = {
@@ -36,9 +36,10 @@ case " $* " in
     before=$(sed -n 's/^ExecStartPre=+//p' "run/systemd/system/$last.d/booth-site.conf")
     sh -c "$before" || exit 0
     echo active >"units/$last" ;;
-  *SubState*) cat waits 2>/dev/null ;;
+  *SubState*) cat waits 2>/dev/null || { grep -q active "units/$last" 2>/dev/null && echo running; } ;;
+  *LoadState*) cat load 2>/dev/null || echo loaded ;;
   *" stop "*) [ ! -e "$last.stays" ] || exit 1; shift; for each; do rm -f "units/$each"; done ;;
-  *" NRestarts "* | *NRestarts*) echo 5 ;;
+  *NRestarts*) case $last in booth-follow@*) cat restarts 2>/dev/null || echo 0 ;; *) echo 5 ;; esac ;;
 esac
 """,
     "boothd": """
@@ -57,6 +58,7 @@ if [ "$new" ]; then [ ! -e cib.full ] || exit 1; echo "$new" >"cib/$name"; exit;
 cat "cib/$name"
 """,
     "crm_node": "cat node\n",
+    "crm_ticket": "[ ! -e cib.fails ] || exit 102\ncat granted 2>/dev/null || echo false\n",
     "ip": "cat addresses\n",
     "journalctl": "echo 'boothd: cannot open'\n",
     "chown": "exit 0\n",
@@ -70,7 +72,7 @@ shift
 exec /usr/bin/install "$@"
 """,
 }
-# what says of the wall clock whether a daemon may start
+# a stand-in for follow-pacemaker, which the agent asks whether the wall clock allows a start of the daemon
 CLOCK = """#!/bin/sh
 cd {room} || exit 9
 echo "follow-pacemaker $BOOTH_TICKET $*" >>calls
@@ -126,7 +128,7 @@ class Room:
         os.chmod(f"{self.folder}/{name}", stat.S_IRWXU)
 
     def text(self, name: str) -> str:
-        """The text of a file of the room, empty if it is missing."""
+        """Returns the text of a file of the room, empty if it is missing."""
         try:
             with open(f"{self.folder}/{name}", encoding="utf-8") as file:
                 return file.read()
@@ -183,10 +185,11 @@ def starts_and_stops_units(room: Room) -> None:
     need("-m 10 -k 5 db8 " in follower and "follow-pacemaker adopt " in follower, follower)
     need("\nExecStopPost=\n" in follower, follower)
     need("ADDRESS=192.0.2.10\nCLUSTER=booth\n" in room.text("run/booth-site/booth/env"), "the environment")
+    room.ends("monitor", GENERIC, "it runs with the tickets 'db8', and not 'db8 mail'", tickets="db8 mail")
     room.ends("start", SUCCESS)
-    room.put("waits", "auto-restart\n")
-    room.ends("monitor", GENERIC, "booth-follow@db8 ends again and again")
-    room.drop("waits")
+    for restarts, status in ((2, SUCCESS), (4, SUCCESS), (7, GENERIC), (8, SUCCESS), (0, SUCCESS)):
+        room.put("restarts", f"{restarts}\n")
+        room.ends("monitor", status, "" if status == SUCCESS else "booth-follow@db8 ends again and again")
     room.put("units/booth-follow@db8.service", "failed\n")
     room.ends("monitor", GENERIC, "booth-follow@db8 is failed")
     room.put("silent")
@@ -194,6 +197,40 @@ def starts_and_stops_units(room: Room) -> None:
     room.ends("stop", SUCCESS)
     room.ends("monitor", STOPPED)
     need(not room.text("run/booth-site/booth/env"), "a unit may be started by itself")
+
+
+@story
+def a_follower_that_does_not_start_is_told(room: Room) -> None:
+    """no daemon starts if systemd can start no follower, and a start fails if a follower ends, but waits for nothing"""
+    room.put("load", "masked\n")
+    room.ends("start", GENERIC, "booth-follow@db8 is masked, so no daemon starts")
+    need("start booth@booth" not in room.text("calls"), "a daemon was started")
+    room.drop("load")
+    for state in ("auto-restart\n", "failed\n"):
+        room.put("waits", state)
+        room.ends("start", GENERIC, "booth-follow@db8 ended at its start: boothd: cannot open")
+        room.ends("stop", SUCCESS)
+    room.put("waits", "start-pre\n")
+    begun = time.monotonic()
+    room.ends("start", SUCCESS)
+    need(time.monotonic() - begun < 30, "it waited for long")
+
+
+@story
+def a_lost_ticket_is_seen(room: Room) -> None:
+    """the monitor fails if Pacemaker's ticket is revoked although its follower has granted it and not revoked it"""
+    room.ends("start", SUCCESS)
+    os.makedirs(f"{room.folder}/run/booth-follow")
+    room.ends("monitor", SUCCESS)
+    room.put("run/booth-follow/db8.end.granted")
+    room.ends("monitor", GENERIC, "Pacemaker has lost its ticket db8")
+    room.put("cib.fails")
+    room.ends("monitor", SUCCESS)
+    room.drop("cib.fails")
+    room.put("granted", "true\n")
+    room.ends("monitor", SUCCESS)
+    room.ends("stop", SUCCESS)
+    need(not os.path.exists(f"{room.folder}/run/booth-follow/db8.end.granted"), "the mark stays")
 
 
 @story
@@ -320,7 +357,7 @@ def it_tells_what_it_is(room: Room) -> None:
 
 
 def outcome(told: Story) -> bool:
-    """Whether a story passes, in its own room."""
+    """Returns whether a story passes, in its own room."""
     with scratch("booth-agent-") as folder:
         begun = time.monotonic()
         try:

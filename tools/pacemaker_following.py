@@ -1,4 +1,4 @@
-"""The words of follow-pacemaker, booth-follow's program at a site that is a Pacemaker cluster.
+"""The actions of follow-pacemaker, booth-follow's program at a site that is a Pacemaker cluster.
 
 It is imported by follow-pacemaker, and not run by itself. The cluster has a rule for each ticket: Pacemaker itself
 stops the ticket's resources at the rule's end. This module sets the end before it grants Pacemaker's ticket, and at
@@ -28,6 +28,8 @@ RENEW_LIMIT, CHANGE_LIMIT, STOP_SECONDS, KILL_SECONDS, LEAST, PAUSE = 2.0, 5.0, 
 # in seconds: how long the daemon may take to list its tickets, and how much longer than the margin an adopted lease
 # must last
 LIST_LIMIT, ENOUGH = 2.0, 3.0
+# in seconds: how long a new follower waits for a renewal by its daemon if the end of the rule has passed
+RENEWED = 4.0
 # in seconds: how much longer than it is a lease may look in a list, which has whole seconds
 ROUNDED = 2.0
 CLOCK_BYTES, BOOT_ID = 60, "/proc/sys/kernel/random/boot_id"
@@ -43,6 +45,11 @@ def say(priority: int, ticket: str, text: str) -> None:
     mark = f"<{priority}>" if "JOURNAL_STREAM" in os.environ else ""
     with contextlib.suppress(OSError):
         print(f"{mark}follow-pacemaker: {ticket}: {text}", file=sys.stderr, flush=True)
+
+
+def end_path(ticket: str) -> str:
+    """Returns the path of the file from which a new follower reads the armed end."""
+    return os.environ.get("BOOTH_FOLLOW_END") or f"/run/booth-follow/{ticket}.end"
 
 
 class Site:
@@ -129,16 +136,31 @@ class Site:
         done = ran(CHANGE_LIMIT, "crm_ticket", "--ticket", self.ticket, "--grant", "--force")
         if done.status != 0:
             raise Failed(f"cannot grant Pacemaker's ticket: crm_ticket: {done.why()}")
+        self.mark(True)
 
-    def check(self) -> int:
-        """Returns the status of whether Pacemaker's ticket is granted. Fails if it is, but its end has passed."""
+    def mark(self, is_granted: bool) -> None:
+        """Writes a file while Pacemaker's ticket must be granted, or removes it. The agent's monitor reads it."""
+        path = f"{end_path(self.ticket)}.granted"
+        with contextlib.suppress(OSError):
+            if is_granted:
+                with open(path, "w", encoding="ascii"):
+                    pass
+            else:
+                os.unlink(path)
+
+    def is_granted(self) -> bool:
+        """Returns whether Pacemaker's ticket is granted."""
         words = ["--ticket", self.ticket, "--get-attr", "granted", "--default", "false"]
         done = ran(CHANGE_LIMIT, "crm_ticket", *words)
         granted = done.printed.strip()
-        if done.status == 0 and granted == "false":
-            return NOT_RUNNING
-        if done.status != 0 or granted != "true":
+        if done.status != 0 or granted not in ("true", "false"):
             raise Failed(f"cannot read whether Pacemaker's ticket is granted: crm_ticket: {done.why()}")
+        return granted == "true"
+
+    def check(self) -> int:
+        """Returns the status of whether Pacemaker's ticket is granted. Fails if it is, but its end has passed."""
+        if not self.is_granted():
+            return NOT_RUNNING
         if any(self.end_of(lease) <= time.time() for lease in self.leases()):
             raise Failed("Pacemaker's ticket is granted, but the end of its rule has passed")
         return DONE
@@ -146,6 +168,8 @@ class Site:
     def over(self, seconds: float) -> None:
         """Revokes the ticket, closes the rule, and waits until none of the ticket's resources runs at this site."""
         until = time.monotonic() + max(LEAST, seconds)
+        # (before the revoke: whoever finds the ticket revoked, and then still the mark, knows that it was lost)
+        self.mark(False)
         revoked = ran(CHANGE_LIMIT, "crm_ticket", "--ticket", self.ticket, "--revoke", "--force")
         leases = self.leases()
         closed = [self.set_end(lease, CLOSED, CHANGE_LIMIT) for lease in leases]
@@ -230,20 +254,29 @@ def listed(ticket: str, conf: str, address: str) -> Tuple[str, float]:
     return "", 0.0
 
 
+def may_be_set(end: float, until: float) -> bool:
+    """Returns whether a new follower still waits for a renewal: the rule's end is ahead, or has passed, and was not
+    closed, and the clock is before `until`.
+    """
+    return end > time.time() or end > pacemaker_cib.seconds_of(CLOSED) and time.monotonic() < until
+
+
 def adopt(site: Site, path: str, conf: str, records: str) -> None:
     """Writes the armed end for a new follower, after the daemon has renewed the lease and the rule has the new end.
 
-    Until then the resources run under the rule's old end. If that end passes, or another site holds the ticket, nothing
-    is written, and the follower stops the service. A lease that is longer than a lease can be was not renewed by this
-    daemon: the daemon's clock is behind the clock of its records.
+    Until then the resources run under the rule's old end. If that end has passed, they have ended, and Pacemaker starts
+    them again under the new end, since its ticket is still granted. If the daemon does not renew the lease, or another
+    site holds the ticket, or the rule is closed, nothing is written, and the follower stops the service. A lease that
+    is longer than a lease can be was not renewed by this daemon: the daemon's clock is behind the clock of its records.
     """
+    site.mark(False)
     with contextlib.suppress(FileNotFoundError):
         os.unlink(path)
     leases, address = site.leases(), os.environ.get("ADDRESS", "")
-    if site.check() != DONE:
+    if not site.is_granted():
         return
-    margin, is_told = max(lease.times.margin for lease in leases), False
-    while min(site.end_of(lease) for lease in leases) > time.time():
+    margin, is_told, until = max(lease.times.margin for lease in leases), False, time.monotonic() + RENEWED
+    while may_be_set(min(site.end_of(lease) for lease in leases), until):
         holder, end = listed(site.ticket, conf, address)
         if holder not in ("", address):
             return
@@ -259,6 +292,7 @@ def adopt(site: Site, path: str, conf: str, records: str) -> None:
             with open(f"{path}.new", "w", encoding="ascii") as file:
                 file.write(f"{int(daemon_clock(records) + site.left())}\n")
             os.replace(f"{path}.new", path)
+            site.mark(True)
             return
         pacemaker_asking.pause(PAUSE)
 
@@ -286,7 +320,7 @@ def did(words: List[str], site: Site) -> int:
     elif word == "clock":
         see_to_clock(site, os.environ.get("BOOTH_GUARD_RUN") or lease_holding.FOLDER)
     else:
-        adopt(site, os.environ.get("BOOTH_FOLLOW_END") or f"/run/booth-follow/{site.ticket}.end", *words[1:])
+        adopt(site, end_path(site.ticket), *words[1:])
     return DONE
 
 

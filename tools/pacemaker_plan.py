@@ -211,7 +211,8 @@ def agent_steps(cib: Cib, wish: AgentWish, tickets_of: List[str]) -> List[Step]:
     """
     known = agents(cib, wish.path, wish.name)
     if known:
-        return [*moved(known[0], wish.records), *retold(known[0], tickets_of)]
+        # (records, without which the daemon does not start, come last: so its first start has its tickets)
+        return [*retold(known[0], tickets_of), *moved(known[0], wish.records)]
     group = ElementTree.Element("group", {"id": f"booth-{wish.name}-group"})
     if wish.address:
         said = {"id": f"booth-{wish.name}-ip", "class": "ocf", "provider": "heartbeat", "type": "IPaddr2"}

@@ -20,6 +20,8 @@ from problems import CRITICAL, WARNING, Problem
 from wording import listed, span
 
 STOPPED, UNKNOWN = "stopped", "unknown"
+# in seconds: how long Pacemaker may take to answer with the CIB
+SECONDS_OF_THE_CIB = 1.0
 # in seconds: how long after a renewal its end may reach the CIB
 LATE = 10
 
@@ -57,6 +59,18 @@ class ClusterSite(NamedTuple):
     why: str = ""
 
 
+def cib_in(path: str) -> bytes:
+    """Returns the CIB from its file, or from Pacemaker, if the user is in the group haclient and may only ask."""
+    try:
+        with open(path, "rb") as file:
+            return file.read()
+    except PermissionError:
+        done = pacemaker_asking.ran(SECONDS_OF_THE_CIB, "cibadmin", "--query", "--local", is_tied=False)
+        if done.status != 0:
+            raise
+        return done.printed.encode()
+
+
 class Asked:
     """A question to Pacemaker, which runs while the members are asked."""
 
@@ -64,8 +78,7 @@ class Asked:
         self.cib: Optional[Cib] = None
         self.process: Optional["subprocess.Popen[bytes]"] = None
         with contextlib.suppress(OSError, ValueError):
-            with open(os.environ.get("BOOTH_CIB") or cib, "rb") as file:
-                self.cib = pacemaker_cib.parsed(file.read())
+            self.cib = pacemaker_cib.parsed(cib_in(os.environ.get("BOOTH_CIB") or cib))
         if self.cib is not None and self.cib.tickets():
             given = {**os.environ, "PATH": f"{os.environ.get('PATH', '')}:{pacemaker_asking.PLACES}"}
             streams = {"stdin": subprocess.DEVNULL, "stdout": subprocess.PIPE, "stderr": subprocess.DEVNULL}
