@@ -13,7 +13,7 @@ abbrev pub undue : ℕ → Option ℕ → Option ℕ
 undue now None = None
 undue now (Some deadline) = if nat_le deadline now then None else Some deadline
 
--- the timer after everything due was taken; at that moment nothing was due any more
+-- the timer after all due slots were taken; at that reading no slot is due any more
 abbrev pub drained : Timer → ℕ → Timer
 drained timer now =
     record { deadlines = map (undue now) timer.deadlines; last = now; swept = now }
@@ -35,7 +35,7 @@ count_after timer step =
     count_by (λ deadline. nat_eq (bucket_of timer.swept deadline)
     (bucket_after (timer.swept / SPAN_MS) step)) timer.deadlines
 
--- Of the slots that were seen, the due ones were added, and no slot that is not due.
+-- Of the seen slots, exactly the due ones were added.
 pub record Collects (seen : ℕ → Type 0) (deadlines : List (Option ℕ)) (now : ℕ) (old new : List ℕ)
     : Type 0 where
   pub kept : (slot : ℕ) → Contains old slot → Contains new slot

@@ -13,7 +13,7 @@ pub record IsFirstSeen (seen : ℕ → Type 0) (deadlines : List (Option ℕ)) (
   pub first : (other deadline : ℕ) → seen other → IsDue deadlines now other deadline
       → IsNotAfter found.deadline found.slot deadline other
 
--- what was found is that slot, or none of the slots that were seen is due
+-- the found slot is this slot, or no seen slot is due
 abbrev pub IsFirstOf : (ℕ → Type 0) → List (Option ℕ) → ℕ → Option Found → Type 0
 IsFirstOf seen deadlines now None =
     (other deadline : ℕ) → seen other → IsDue deadlines now other deadline → ⊥

@@ -8,7 +8,7 @@ pub(crate) const SPAN_MS: u64 = 128;
 /// The number of buckets.
 pub(crate) const BUCKETS: u64 = 512;
 
-/// The list of the slots without a deadline, after those of the buckets.
+/// The list of the slots without a deadline, after the lists of the buckets.
 pub(crate) const UNSET: u32 = 512;
 
 /// The number of lists.

@@ -22,7 +22,7 @@ use std::sync::ledger::Ledger;
 /// A deadline for each slot that has one, the latest moment of a look for due slots, and the latest moment at which
 /// nothing was due.
 ///
-/// Each slot is in one list of the pool: that of its deadline's bucket, or the last one.
+/// Each slot is in one list of the pool: the list of its deadline's bucket, or the last list.
 #[derive(Drop)]
 pub struct Wheel {
     pool: Chains<u32>,
@@ -81,7 +81,7 @@ impl Wheel {
         }
     }
 
-    /// Sets a slot's deadline, and replaces the one that it had.
+    /// Sets a slot's deadline, and replaces the old one.
     pub fn set(&mut self, slot: u32, deadline: u64)
         requires { slot < length self.old.deadlines }
         ensures { self.new ≡ with_deadline self.old slot (Some deadline) }
@@ -213,7 +213,7 @@ impl Wheel {
     /// Puts the slots whose deadline is at most `now` into `due`, by deadline and then slot: the slots that repeated
     /// calls of `due` would return. Their deadlines are removed.
     ///
-    /// It looks once at what one call of `due` looks at. Each look is a step.
+    /// It makes the same steps as one call of `due`; each look at a bucket or a slot is a step.
     pub fn drain<L: Ledger>(&mut self, now: u64, due: &mut Vec<u32>, steps: &mut Steps<L>)
         requires later { self.old.last ≤ now }
         requires room { length self.old.deadlines ≤ vec_capacity due.old }

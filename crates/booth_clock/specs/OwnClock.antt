@@ -9,7 +9,7 @@ use Rattle.booth_clock.specs.declared.own_clock.ClockFault.TheVariants.{Behind, 
 use Rattle.booth_clock.specs.declared.own_clock.Step.{Step}
 use Rattle.booth_clock.specs.declared.own_clock.Step.TheVariants as step
 
--- what a clock with this offset reads at this time since the boot; a u64 limits it
+-- the reading of a clock with this offset at this time since the boot; a u64 limits it
 abbrev pub reading_at : ℕ → ℕ → ℕ
 reading_at offset boot = min (offset + boot) (2 ^ 64 - 1)
 
@@ -21,19 +21,19 @@ begun_with boot offset reached readings =
     if nat_lt (reading_at offset readings.boot) reached then Err Behind
     else Ok (record { boot = boot; offset = offset; last = reading_at offset readings.boot; told = offset })
 
--- with the offset by which it reads what the wall clock reads
+-- with the offset with which it equals the wall clock
 abbrev pub begun_anew : BootId → ℕ → Readings → Result OwnClock ClockFault
 begun_anew boot reached readings =
     if nat_lt readings.wall readings.boot then Err Early
     else begun_with boot (readings.wall - readings.boot) reached readings
 
--- The stored offset holds in its own boot; in any other boot the clock is set anew.
+-- The stored offset is used in its own boot; in any other boot the clock is set again.
 pub record GoesOn (boot : BootId) (kept : KeptClock) (readings : Readings) (result : Result OwnClock ClockFault)
     : Type 0 where
   pub same_boot : kept.boot ≡ boot → result ≡ begun_with boot kept.offset kept.reached readings
   pub new_boot : kept.boot ≢ boot → result ≡ begun_anew boot kept.reached readings
 
--- The result of a start, by what is stored.
+-- The result of a start, which depends on the stored bytes.
 abbrev pub Begins : BootId → Option KeptClock → Readings → Result OwnClock ClockFault → Type 0
 Begins boot None readings result = result ≡ begun_anew boot 0 readings
 Begins boot (Some kept) readings result = GoesOn boot kept readings result
@@ -54,7 +54,7 @@ wall_offset readings = readings.wall - readings.boot
 abbrev pub step_of : ℕ → ℕ → Step
 step_of offset wall = if nat_lt wall offset then step.Behind (offset - wall) else step.Ahead (wall - offset)
 
--- a step is reported if the wall clock's offset differs by more than 100 ms from the one that was reported last
+-- a step is reported if the wall clock's offset differs by more than 100 ms from the last reported offset
 abbrev pub step_seen : ℕ → ℕ → ℕ → Option Step
 step_seen offset told wall = if nat_lt 100 (distance told wall) then Some (step_of offset wall) else None
 

@@ -71,7 +71,7 @@ fn begun_with(
     })
 }
 
-// Returns a clock that reads what the wall clock reads.
+// Returns a clock that equals the wall clock.
 fn begun_anew(boot: BootId, reached: u64, readings: Readings) -> Result<OwnClock, ClockFault>
     ensures { result ≡ begun_anew boot reached readings }
 {
@@ -81,7 +81,7 @@ fn begun_anew(boot: BootId, reached: u64, readings: Readings) -> Result<OwnClock
     begun_with(boot, readings.wall - readings.boot, reached, readings)
 }
 
-// Returns what a clock with this offset reads at this time since the boot.
+// Returns the reading of a clock with this offset at this time since the boot.
 fn reading_at(offset: u64, boot: u64) -> u64
     ensures { result ≡ reading_at offset boot }
 {
@@ -96,8 +96,8 @@ fn wall_offset(readings: Readings) -> u64
 }
 
 impl OwnClock {
-    /// Returns the clock of this boot. In the boot of the stored clock it has the stored offset, whatever the wall
-    /// clock reads; in another boot, and if nothing is stored, it reads what the wall clock reads.
+    /// Returns the clock of this boot. In the boot of the stored clock it has the stored offset, independent of the
+    /// wall clock. In another boot, or if nothing is stored, it equals the wall clock.
     ///
     /// # Errors
     ///

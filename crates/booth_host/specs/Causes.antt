@@ -21,7 +21,7 @@ pub record IsCounted {T E : Type 0} (before now : ℕ) (result : Result T E) : T
   pub same : OnOk result (now ≡ before)
   pub one : OnErr result (now ≡ raised before)
 
--- the same for a read, whose other fault is out of memory
+-- the same for a read, which may also fail because memory is short
 pub record HasReadCause {T : Type 0} (before now : ℕ) (result : Result T ReadFault) : Type 0 where
   pub later : before ≤ now
   pub failed : IsErrOf result ReadFailed → Rose before now

@@ -41,8 +41,8 @@ pub record FindsNoPlace (old new : MemoryHost) (ticket : List ℕ) : Type 0 wher
   pub full : vec_capacity old.records ≤ vec_len old.records
   pub same : records_of new ≡ records_of old
 
--- whether calls are recorded or not: the records are those after a write with this answer, or there was no memory for
--- it
+-- also without recorded calls, the records are those after a write with this answer, or there was no memory for a
+-- record
 abbrev pub KeepsOrIsFull : Result (Unit {0}) Failed → MemoryHost → MemoryHost → List ℕ → Record → Type 0
 KeepsOrIsFull answer old new ticket rec =
     (records_of new ≡ kept_after answer (records_of old) ticket rec) ⊎ FindsNoPlace old new ticket

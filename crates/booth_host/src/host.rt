@@ -106,7 +106,7 @@ pub trait Host {
         ensures past { GrewBy (past self.old) (past self.new) (Entry.Keep ticket.now rec.now result ∷ []) }
         ensures cause { HasCause (faults self.old) (faults self.new) result };
 
-    /// Starts the handler of a job. A later arrival says how it ended.
+    /// Starts the handler of a job. A later arrival has its exit status.
     fn start(&mut self, job: &Job) -> Result<(), Failed>
         ensures past { GrewBy (past self.old) (past self.new)
             (Entry.Start job.now.number job.now.ticket job.now.handler job.now.local job.now.expires result ∷ []) }

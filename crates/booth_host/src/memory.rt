@@ -141,7 +141,7 @@ impl MemoryHost {
         self.faults = self.faults.saturating_add(1);
     }
 
-    // Fails if the script says so.
+    // Fails if the script marks this call as failing.
     fn fail_if(&mut self, fails: bool) -> Result<(), Failed>
         ensures past { memory_past self.new ≡ memory_past self.old }
         ensures cause { HasCause self.old.faults self.new.faults result }

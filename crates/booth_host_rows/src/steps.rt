@@ -1,4 +1,4 @@
-//! A step of a script from its words: the clock's reading, the calls that fail, and what arrives.
+//! Reads a step of a script for a host: the clock's reading, the calls that fail, and what arrives.
 use crate::peers::peer;
 use booth_base::ByteText;
 use booth_host::{Arrival, Failed, Step};

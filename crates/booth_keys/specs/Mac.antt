@@ -7,7 +7,7 @@ use Rattle.sha2.specs.Sha256.{sha256}
 unfoldable pub block : List ℕ → List ℕ
 block key = key ++ replicate (64 - length key) 0
 
--- the block with each byte xored with the same one
+-- the block, with each of its bytes xored with the same byte
 abbrev pub padded : ℕ → List ℕ → List ℕ
 padded with key = map (λ b. bit_xor b with) (block key)
 

@@ -12,7 +12,7 @@ use thiserror::Error;
 /// The fewest bytes of a key.
 pub const LEAST_BYTES: usize = 8;
 
-/// The most bytes of a key: those of a block of the hash.
+/// The largest number of bytes of a key: the size of a block of the hash.
 pub const BLOCK_BYTES: usize = 64;
 
 /// A key of 8 to 64 bytes, and the hashes after its pads. Contracts see its bytes.

@@ -34,8 +34,8 @@ fn difference(a: &[u8], b: &[u8]) -> u8
     a.iter().zip(b).fold(0, |found, (x, y)| found | (x ^ y))
 }
 
-/// Returns whether two MACs are equal. It compares all bytes, wherever the first difference is, so that the time does
-/// not show it.
+/// Returns whether two MACs are equal. It always compares all bytes, so that the time does not show where the first
+/// difference is.
 pub fn are_equal(a: &[u8], b: &[u8]) -> bool
     requires { length a.now ≡ length b.now }
     ensures answer { result ≡ bytes_eq a.now b.now }

@@ -1,4 +1,4 @@
-//! A step of a links' script from its words: how much a write takes, and what arrives.
+//! Reads a step of a script for links: how many bytes a write accepts, and what arrives.
 use booth_base::ByteText;
 use booth_host::Failed;
 use booth_host_rows::peer;

@@ -35,7 +35,7 @@ abbrev pub granted_record : Setup → ManualView → Record
 granted_record setup view =
     kept_by_hand setup (view.term + 1) (Some (record { term = view.term + 1; until = NO_END }))
 
--- Grant: this site holds the ticket in a new term, whatever it was shown
+-- Grant: this site holds the ticket in a new term, whichever owner it knew before
 abbrev pub grant : Setup → ManualView → Keep
 grant setup view = keeping (record view {
   term = view.term + 1;

@@ -34,7 +34,7 @@ pub struct Waiting {
 #[derive(Clone, Copy, PartialEq, Eq)]
 pub struct ManualView {
     pub term: u32,
-    /// The record that was written last; before the first, that of version 1 with term 0 and no lease.
+    /// The last written record; before the first write, the record of version 1 with term 0 and no lease.
     pub kept: Record,
     /// Whether the last write succeeded.
     pub sure: bool,

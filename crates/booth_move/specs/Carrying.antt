@@ -64,7 +64,7 @@ request moving what number = record {
 abbrev pub request_bytes : Moving → Asks → ℕ → ℕ → List ℕ
 request_bytes moving what number start = sealed moving.ring (stamped moving.ring start (request moving what number))
 
--- The address at which the member at a place listens.
+-- The address at which the member with this index listens.
 abbrev pub member_peer : Moving → ℕ → Option Place
 member_peer moving place = option_map (peer_at moving.config) (slice_get moving.config.members place)
 
@@ -93,7 +93,7 @@ answer_read moving stage bytes (Ok m) =
     if is_signed moving.ring m.head bytes && is_answer (setup_of moving) stage m then Some m else None
 answer_read moving stage bytes (Err fault) = None
 
--- The answer in these bytes, if they are one.
+-- The answer in these bytes, if they are an answer.
 unfoldable pub answer_in : Moving → Stage → List ℕ → Option PlainMessage
 answer_in moving stage bytes = answer_read moving stage bytes (decoded bytes)
 

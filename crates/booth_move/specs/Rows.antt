@@ -67,7 +67,7 @@ Expires wait last p = IsLate last p ⊎ (HasNoAnswer wait last p × (last.pairs 
 
 -- ---- requests
 
--- A new request that starts at the pair's reading. Its number is the one that belongs to the reading.
+-- A new request that starts at the pair's reading. Its number is the number for this reading.
 pub record IsNew (p : Pair) (number : ℕ) (next : Request) : Type 0 where
   pub number_is : number ≡ number_of p.reading
   pub is : next ≡ sent number p.reading

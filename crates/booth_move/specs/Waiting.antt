@@ -16,7 +16,7 @@ use Rattle.booth_move.specs.declared.waiting.Waits.TheVariants.{On, Over, Came}
 abbrev pub sent : ℕ → ℕ → Request
 sent number reading = record { number = number; start = reading; pairs = 0; begun = false }
 
--- A new request that starts at this reading. Its number is the one that belongs to the reading.
+-- A new request that starts at this reading. Its number is the number for this reading.
 abbrev pub request_at : ℕ → Request
 request_at reading = sent (number_of reading) reading
 

@@ -107,7 +107,7 @@ impl Mover {
     }
 
     /// Returns whether a reply answers the last request: it answers the request's command, has its number, and comes
-    /// from a member. Before the first request no reply does, and after the end it does not matter.
+    /// from a member. Before the first request no reply is an answer. After the end the result does not matter.
     pub fn is_answer(&self, reply: &Message<'_>) -> bool
         ensures { result ≡ is_answer self.now.setup self.now.stage (plain_of reply.now) }
     {

@@ -16,7 +16,7 @@ Passes old new = Elapses (length old.calls.items) (length new.calls.items)
     (MightHaveLeft old.first.items old.calls.items) (MightHaveLeft new.first.items new.calls.items)
     (memory_may_leave new)
 
--- so many calls were made that no further one succeeds
+-- the disk has made the number of calls after which each further one fails
 abbrev pub IsOver : MemoryDisk → Type 0
 IsOver disk = disk.passes ≤ disk.made
 

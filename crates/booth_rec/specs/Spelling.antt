@@ -37,7 +37,7 @@ first_spelling kept = head 1 (if is_some kept.lease then 1 else 0) kept ++ zeros
 
 -- ---- version 2
 
--- which of lease, vote and promise there are: 1, 2 and 4
+-- the flags: the sum of 1 if there is a lease, 2 if there is a vote, and 4 if there is a promise
 abbrev pub flags : Record → ℕ
 flags kept =
     (if is_some kept.lease then 1 else 0) + (if is_some kept.bound then 2 else 0)

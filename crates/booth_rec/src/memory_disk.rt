@@ -83,7 +83,7 @@ fn put_within(list: &mut [u8], at: usize, bytes: &[u8])
     list[at..at + bytes.len()].copy_from_slice(bytes);
 }
 
-// Puts these bytes at a place, behind zeros where the list ends before it.
+// Writes these bytes at the offset `at`. If the list is shorter than that, fills it with zeros up to the offset.
 fn overwrite(list: &mut Vec<u8>, at: usize, bytes: &[u8])
     requires { at + length bytes.now ≤ vec_capacity list.old }
     ensures items { list.new.items ≡ overwritten at bytes.now list.old.items }

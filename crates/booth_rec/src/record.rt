@@ -27,8 +27,8 @@ pub struct Promise {
     pub until: u64,
 }
 
-/// What a member writes to disk for a ticket. If nothing was written, a record of version 1 with term 0 stands for
-/// it.
+/// What a member writes to disk for a ticket. If it has written nothing, its record counts as one of version 1 with
+/// term 0.
 #[derive(Clone, Copy, Debug, PartialEq, Eq)]
 pub struct Record {
     /// 1 or 2. A record of version 1 has a term and perhaps a lease, and nothing else.
@@ -67,7 +67,7 @@ impl Record {
         }
     }
 
-    /// Returns whether it is of version 2, and so has its member's pledge.
+    /// Returns whether the record is of version 2, which contains the member's pledge (vote, promise, abstention).
     pub fn is_second(&self) -> bool
         ensures { result ≡ is_second self.now }
     {

@@ -38,15 +38,14 @@ pub(crate) struct Held {
     pub kept: Record,
 }
 
-/// The record for which a file stands, and its slot, which is none for one of version 1.
+/// The record of a file, and its slot. The slot is none for a record of version 1.
 #[derive(Clone, Copy)]
 pub(crate) struct Standing {
     pub half: Option<Half>,
     pub held: Held,
 }
 
-/// What is known about a file: the record for which it stands, if there is one, and which slots of version 2 are
-/// open.
+/// What is known about a file: its record, if it has one, and which slots of version 2 are open.
 #[derive(Clone, Copy)]
 pub(crate) struct Holding {
     pub standing: Option<Standing>,

@@ -42,7 +42,7 @@ pub enum ReopenFault {
 pub enum PutFault {
     #[error("a put failed, and the file was not opened again")]
     Again,
-    #[error("the last number is used")]
+    #[error("the greatest number of a slot is used already")]
     Spent,
     #[error("the disk failed")]
     Disk,
@@ -292,8 +292,8 @@ impl<D: Disk> Slots<D> {
         }
     }
 
-    /// Returns the record for which the file stands, and none if no slot is open. After a put that failed, and until
-    /// the file is opened again, it is the record before that put.
+    /// Returns the record of the file, or none if no slot is open. After a failed put, and until the file is opened
+    /// again, this is the record before that put.
     pub fn record(&self) -> Option<Record>
         ensures kept { result ≡ record_of self.now.holding.standing }
         ensures stands { self.now.has_failed ≡ false → D.tells self.now.disk ≡ true →
@@ -309,8 +309,8 @@ impl<D: Disk> Slots<D> {
         &self.disk
     }
 
-    /// Puts a record in place of the one before, as a record of version 2. A crash at any moment of it leaves a file
-    /// that stands for the old record or for the new one.
+    /// Replaces the record by this one, in version 2. After a crash at any moment of the call, the record of the file
+    /// is the old one or the new one.
     pub fn put(&mut self, rec: &Record) -> Result<(), PutFault>
         // Which fault it is.
         ensures again { IsErrOf result PutFault.Again ↔ (self.old.has_failed ≡ true) }

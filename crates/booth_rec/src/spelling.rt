@@ -154,7 +154,7 @@ fn promise_fields(promise: Option<Promise>) -> [u8; 20]
     bytes
 }
 
-// Returns the number of 4 bytes at a place.
+// Returns the number in the 4 bytes at the offset `at`.
 fn word_at(bytes: &[u8], at: usize) -> u32
     requires { at + 4 ≤ length bytes.now }
     ensures { result ≡ word_at at bytes.now }

@@ -1,4 +1,4 @@
-//! A host in memory of which some calls fail: those of one record, of one peer or of one file.
+//! A host in memory whose calls for one record, one peer or one file fail.
 use booth_base::{ByteText, Name, PathText, Peer};
 use booth_host::{Arrival, Datagram, Failed, Host, Job, MemoryHost, Place, ReadFault};
 use booth_host_rows::{name_of, path, peer};
@@ -6,7 +6,7 @@ use booth_rec::Record;
 use booth_rows::Words;
 use std::alloc::Global;
 
-/// What a host fails at besides what its script says.
+/// The failures of a host in addition to those in its script.
 #[derive(Drop)]
 pub(crate) struct Hindrances {
     /// The ticket whose record cannot be read.

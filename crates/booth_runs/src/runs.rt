@@ -9,7 +9,7 @@ use booth_tools::{booth, geostore};
 use std::alloc::{AllocError, Global};
 use std::mem;
 
-/// Plays `run PROGRAM COUNT WORD ..` over the host that the lines before it make. COUNT is that of the words.
+/// Plays `run PROGRAM COUNT WORD ..` over the host that the lines before it make. COUNT is the number of the words.
 #[derive(Drop)]
 pub(crate) struct Runs {
     given: Given,

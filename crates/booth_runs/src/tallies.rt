@@ -5,8 +5,8 @@ use booth_journal::laws::journals_say_calls;
 use booth_journal::read_lines;
 use booth_rows::{Answer, Player, Words};
 
-/// Plays `tally CONFIGURATION PLACE JOURNAL`: the journal of the member at a place. It answers the reading in use, each
-/// holding, how many bytes each send has, and the line of the first call that was not demanded.
+/// Plays `tally CONFIGURATION PLACE JOURNAL`: the journal of the member with this index. It answers the reading in use,
+/// each holding, how many bytes each send has, and the line of the first call that was not demanded.
 #[derive(Drop)]
 pub(crate) struct Tallies;
 

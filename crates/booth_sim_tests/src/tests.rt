@@ -1,3 +1,3 @@
-//! Simulations of small clusters, the first of them worked by hand, entry by entry.
+//! Simulations of small clusters, the first of them worked manually, entry by entry.
 mod by_hand;
 mod summaries;

@@ -8,10 +8,10 @@ use booth_conf::{GrantKind, Prereq};
 use booth_rows::{Answer, Player, Words};
 use std::alloc::Global;
 
-/// Plays `new TICKETS`, and then, for the ticket at a place, `set TICKET NAME VALUE`, `get TICKET NAME`, `delete
+/// Plays `new TICKETS`, and then, for the ticket with this index, `set TICKET NAME VALUE`, `get TICKET NAME`, `delete
 /// TICKET NAME`, `list TICKET` and `holds TICKET GRANT KIND NAME EQUAL VALUE`. The last one prints whether a
-/// prerequisite of a kind allows a grant of a kind, manual or not (1 or 0); the prerequisite requires the value (1)
-/// or any other one (0). A value is in hexadecimal.
+/// prerequisite of a kind allows a grant of a kind, manual or not (1 or 0); the prerequisite requires the value (1) or
+/// any other one (0). A value is in hexadecimal.
 #[derive(Drop)]
 pub(crate) struct Attributes {
     table: Option<Table>,

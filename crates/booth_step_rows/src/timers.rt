@@ -46,7 +46,7 @@ fn due_counted<L: Ledger>(wheel: &mut Wheel, now: u64, blank: Blank) -> Option<u
     wheel.due(now, &mut steps)
 }
 
-/// How many steps two calls for slots of one bucket may take, counted by hand: at 4,400 one bucket and both slots, at
+/// How many steps two calls for slots of one bucket may take, counted manually: at 4,400 one bucket and both slots, at
 /// 69,999 all buckets and the remaining slot.
 pub fn steps_of_two_slots_in_one_bucket()
     ensures first { most_steps

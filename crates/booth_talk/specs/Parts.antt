@@ -29,7 +29,8 @@ abbrev pub part_in : ℕ → PlainMessage → Option Part
 part_in n m =
     if is_of_list m.head.result && ((m.head.options == n) && nat_lt n PARTS) then Some (part_of m) else None
 
--- The result of a reply that refuses the list. It is every result that no part has, whatever the options are.
+-- The result of a reply that refuses the list. Every result other than that of a part is a refusal, and the options do
+-- not matter.
 abbrev pub refusal_in : PlainMessage → Option ℕ
 refusal_in m = if is_of_list m.head.result then None else Some m.head.result
 

@@ -41,7 +41,7 @@ fn is_whole(address: Address)
     }
 }
 
-/// Returns whether this is an address as it is printed.
+/// Returns whether this is an address in the form that Booth prints.
 pub(crate) fn is_printed(text: &[u8]) -> bool
     ensures { MatchBool result (IsPrinted text.now) (IsPrinted text.now → ⊥) }
 {

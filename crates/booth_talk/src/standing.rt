@@ -1,4 +1,4 @@
-//! The state of a ticket as it is printed: a line of text, or a JSON object on a line.
+//! The printed state of a ticket: a line of text, or a JSON object on a line.
 ghost use Rattle.std.specs.Prelude.{◌≡◌, ◌++◌, codes, decimal, flat_map, option_copied, option_map, unwrap_or, IfOk, OnOk};
 ghost use Rattle.std.specs.List.{find};
 ghost use Rattle.booth_conf.specs.Config.{has_id};

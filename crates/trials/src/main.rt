@@ -1,9 +1,9 @@
 //! What tests and benches run of the product's parts.
 //!
 //! `trials play PLAYER` plays a script on standard input. `trials keeps DIRECTORY COUNT` writes records with the real
-//! host. `trials torn` opens what torn writes leave of a record file. `trials remove ITEMS` removes items from the middle
-//! of one list; `trials ask SLOTS UNTIL` asks a timer in which nothing is due; `trials renew SLOTS SPREAD UNTIL` sets each
-//! slot again once it is due. Without arguments it runs `torn`, and the last three at small sizes.
+//! host. `trials torn` opens what torn writes leave of a record file. `trials remove ITEMS` removes items from the
+//! middle of one list; `trials ask SLOTS UNTIL` asks a timer in which nothing is due; `trials renew SLOTS SPREAD UNTIL`
+//! sets each slot again once it is due. Without arguments it runs `torn`, and the last three at small sizes.
 #![tactic(auto)]
 
 mod asking;

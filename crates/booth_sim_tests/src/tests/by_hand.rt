@@ -1,5 +1,5 @@
 //! Three simulations of 20 events. The words of each number are those of PCG32 as Python computes them, and what
-//! follows from them is worked by hand from the rules.
+//! follows from them is worked manually from the rules.
 //!
 //! The first line of an event has the reading of its member's clock, what it is, and the member's place. The others
 //! are its calls: a send has the place that it goes to, command, request, reason, result, leader, term and seconds; a
@@ -174,7 +174,7 @@ fn put_cmd(rt: &impl Abort, alloc: Global, text: &mut String, message: &Message<
     put(rt, text, &cmd);
 }
 
-// When it says that it was sent.
+// The time of the send, by the frame's own clock field.
 fn moment_of(head: &Head) -> u64 {
     u64::from(head.secs) * 1000 + u64::from(head.usecs) / 1000
 }
@@ -234,7 +234,7 @@ fn put_call(
     put(rt, text, "\n");
 }
 
-// What comes in a turn.
+// The arrival of a turn.
 fn put_arrival(
     rt: &impl Abort,
     alloc: Global,
@@ -362,7 +362,7 @@ fn cluster_of(rt: &impl Abort, alloc: Global, file: &str, events: u64, number: u
     Cluster::new(alloc, config, nothing_counted(events, number)).expect(rt, "memory")
 }
 
-// The events of a number are these, and so is what is counted of them.
+// Checks that the simulation with the number of this summary has these events and this summary.
 fn check(rt: &impl Abort, alloc: Global, file: &str, events: &str, summary: Summary)
     requires { summary.events ≤ MOST_EVENTS }
 {

@@ -13,7 +13,7 @@ const THREE: &str =
 
 const ALONE: &str = "site=\"10.0.0.1\"\nticket=\"web\"\n";
 
-/// A ticket with a handler, one with a prerequisite, and one that is granted by hand.
+/// A ticket with a handler, one with a prerequisite, and one that is granted manually.
 const MANY_RULES: &str = "site=\"10.0.0.1\"\nsite=\"10.0.0.2\"\narbitrator=\"10.0.0.3\"\n\
     ticket=\"web\"\nbefore-acquire-handler=\"/bin/check\"\n\
     ticket=\"db\"\nattr-prereq=\"manual ready eq yes\"\n\
