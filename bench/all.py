@@ -1,10 +1,10 @@
 #!/usr/bin/env python3
 """Runs every bench of this folder, one after another, and prints one table with all their results.
 
-Run it as `python3 bench/all.py [--write] [NAME..]` on an idle machine, over what `make build` and the
-gate leave; NAME is that of a bench, as `links`, and without one all are run, in some 15 minutes. With --write the table
-takes the place of the one in bench/README.md. The status is 1 if a mark is missed by more than a tenth, or a bench
-failed.
+Run it as `python3 bench/all.py [--write] [NAME..]` on an idle machine, with the programs that `make build` and the gate
+leave. NAME is the name of a bench, for example `links`. Without a name all benches run, in some 15 minutes. With
+--write the table replaces the one in bench/README.md. The status is 1 if a mark is missed by more than a tenth, or if a
+bench failed.
 """
 
 import json
@@ -23,19 +23,19 @@ sys.path[:0] = [HERE, f"{TOP}/tools"]
 from rows import NOTES, Row, table
 from serving import end_by_signals
 
-# the quick ones first; the words are what each measures
+# the name of each bench, and what it measures, as the table names it; the quick ones come first
 BENCHES = {
     "run": "one daemon",
     "turn": "one turn",
     "seals": "sealed frames",
     "links": "links",
     "journals": "journals",
-    "records": "keeps",
+    "records": "record writes",
     "backlog": "the backlog",
-    "promises": "kept promises",
+    "promises": "promises",
     "clients": "clients",
     "moves": "moves",
-    "status": "one look",
+    "status": "booth-status",
     "timer": "the timer",
     "simulation": "the simulation",
     "tickets": "a cluster",
@@ -44,7 +44,7 @@ BENCHES = {
     "thousands": "thousands",
 }
 README = f"{HERE}/README.md"
-# between these lines of it the table stands
+# the place of the table in this file, between two lines
 PLACE = re.compile(r"(<!-- figures -->\n).*?(<!-- end of figures -->\n)", re.S)
 
 
@@ -72,7 +72,7 @@ def machine(load):
 
 
 def written(text):
-    """Writes the text into its place in the README."""
+    """Writes the table into its place in the README."""
     with open(README, encoding="utf-8") as file:
         before = file.read()
     after, count = PLACE.subn(lambda found: found[1] + text + found[2], before)
@@ -90,7 +90,7 @@ def main(words):
     if unknown:
         sys.exit(f"all.py: no bench is named {unknown[0]}: {', '.join(BENCHES)}")
     if is_written and names != list(BENCHES):
-        sys.exit("all.py: --write is for all benches together")
+        sys.exit("all.py: --write needs all benches: give no names")
     load, lines, is_well = os.getloadavg()[0], [], True
     with tempfile.TemporaryDirectory(prefix="booth-bench-") as folder:
         for name in names:

@@ -1,13 +1,13 @@
-/* The asker of bench/run.py, which builds and runs it: a client of port 9929, in C so that its own
- * time counts little.
+/* A client of port 9929, which bench/run.py builds and runs. It is written in C so that its own time
+ * counts little.
  *
  *   cc -O2 -o asker bench/asker.c
- *   ./asker lists ADDRESS FILE COUNT        sends the requests in FILE in turns, COUNT in all, each
- *                                           after the answer to the one before
- *   ./asker start ADDRESS FILE PROGRAM ..   starts the program with the words that follow, sends
- *                                           the first request until an answer comes, and ends it
+ *   ./asker lists ADDRESS FILE COUNT        sends COUNT requests, those in FILE one after another and
+ *                                           then again, each after the answer to the request before
+ *   ./asker start ADDRESS FILE PROGRAM ..   starts PROGRAM with its arguments, sends the first
+ *                                           request until an answer comes, and ends the program
  *
- * Both print the nanoseconds that it took.
+ * Both print how long that took, in nanoseconds.
  */
 #include "client.h"
 
@@ -16,7 +16,7 @@
 
 enum { PAUSE_MICROS = 50 };
 
-/* Asks `count` times, each time after the answer to the request before. */
+/* Sends `count` requests, each after the answer to the request before. */
 static void ask(int asker, const struct frames *requests, uint32_t count)
 {
     uint8_t answer[MOST_BYTES];
@@ -30,13 +30,13 @@ static void ask(int asker, const struct frames *requests, uint32_t count)
     }
 }
 
-/* Asks again and again until an answer comes. Says whether one came. */
+/* Asks again and again until an answer comes. Returns whether one came. */
 static int ask_until_answered(int asker, struct frame request, int64_t until)
 {
     uint8_t answer[MOST_BYTES];
     struct timespec wait = {.tv_nsec = PAUSE_MICROS * 1000};
     while (nanoseconds() < until) {
-        /* (it fails while nobody has the port; the pause leaves the processor to the program) */
+        /* (a send fails as long as nobody has the port; the pause leaves the processor to the program) */
         send(asker, request.bytes, request.length, 0);
         nanosleep(&wait, NULL);
         if (recv(asker, answer, sizeof answer, MSG_DONTWAIT) >= HEAD_BYTES)
@@ -81,7 +81,7 @@ int main(int count, char **words)
     } else if (strcmp(words[1], "start") == 0) {
         took = start(asker, requests.at[0], words + 4);
     } else {
-        fail("no such work");
+        fail("the first argument must be lists or start");
     }
     printf("%lld\n", (long long)took);
     return 0;

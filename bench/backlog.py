@@ -1,14 +1,14 @@
 #!/usr/bin/env python3
 """Measures how many datagrams of a burst of answers a proved boothd loses with the default socket buffers of Linux.
 
-Run it as `python3 bench/backlog.py [BOOTHD [WITHOUT [TICKETS]]]`, BOOTHD being what `make build` leaves if it is
-left out, and WITHOUT a boothd whose host has no backlog: one in which `Socket::drain` of crates/booth_real takes
-nothing. It prints one table, and takes half a minute for each program.
+Run it as `python3 bench/backlog.py [BOOTHD [WITHOUT [TICKETS]]]`. BOOTHD is by default the one that `make build`
+leaves. WITHOUT is a boothd whose host has no backlog: one in which `Socket::drain` of crates/booth_real takes nothing.
+The bench prints one table, and takes half a minute for each program.
 
-A site starts whose records have a lease of each of 4,096 tickets. It still holds them, and starts an election for each
-of them in one turn, so 8,192 answers arrive while it writes 4,096 records. The bench counts the datagrams that the
-system dropped at its socket, and measures the time from the start until all leases are renewed. A request whose answer
-was lost is sent again a `timeout` later.
+A site starts, and its records have a lease of each of 4,096 tickets. It still holds them, and starts an election for
+each of them in one turn. So 8,192 answers arrive while it writes 4,096 records. The bench counts the datagrams that the
+system dropped at the site's sockets, and measures the time from the start until all leases are renewed. If an answer
+was lost, the site repeats its request a `timeout` later.
 """
 
 import itertools
@@ -32,11 +32,11 @@ from thousands import names
 
 TICKETS = 4_096
 TIMES = Times(expire=600, timeout=5, retries=10, renewal=300)
-# net.core.rmem_max, if nobody changed it
+# the default of net.core.rmem_max, in bytes
 ROOM = 212_992
-# how long the renewal of all may take, on a slow disk
+# how long the renewal of all tickets may take on a slow disk, in seconds
 PATIENCE = 300
-# (it answers nobody before its first turn is over)
+# (the daemon answers nobody before its first turn is over)
 serving.SECONDS_TO_START = PATIENCE
 
 ADDRESSES = own_addresses()
@@ -80,6 +80,7 @@ def measured(program, folder, count):
 
 
 def rows(programs, folder, count):
+    """Measures each program, with sockets that have the room of Linux's defaults."""
     room = os.path.join(folder, "room.so")
     subprocess.run(["cc", "-shared", "-fPIC", "-O2", "-o", room, f"{HERE}/room.c"], check=True)
     os.environ.update(LD_PRELOAD=room, BOOTH_ROOM=str(ROOM))

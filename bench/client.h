@@ -1,6 +1,6 @@
-/* A client's socket, a clock, and the frames of a file, for the programs of bench/run.py.
+/* A client's socket, a clock, and the frames of a file, for the C programs of the benches.
  *
- * A file of frames is one frame after the other. Each tells its own length. */
+ * A file of frames has one frame after another. Each frame contains its own length. */
 #include <arpa/inet.h>
 #include <netinet/in.h>
 #include <stdint.h>
@@ -37,17 +37,17 @@ static int64_t nanoseconds(void)
     return now.tv_sec * INT64_C(1000000000) + now.tv_nsec;
 }
 
-/* A socket that hears this address alone. */
+/* Opens a socket that sends to this address and receives only from it. */
 static int connected(const char *address)
 {
     struct sockaddr_in there = {.sin_family = AF_INET, .sin_port = htons(PORT)};
     if (inet_pton(AF_INET, address, &there.sin_addr) != 1)
-        fail("the address is none");
+        fail("the argument is not an IPv4 address");
     int client = socket(AF_INET, SOCK_DGRAM, 0);
     struct timeval patience = {.tv_sec = PATIENCE_MS / 1000};
     if (client < 0 || setsockopt(client, SOL_SOCKET, SO_RCVTIMEO, &patience, sizeof patience) < 0
         || connect(client, (struct sockaddr *)&there, sizeof there) < 0)
-        fail("no socket");
+        fail("cannot open a socket");
     return client;
 }
 
@@ -61,7 +61,7 @@ static struct frames frames_in(const char *path)
         memcpy(&length, head + LENGTH_AT, sizeof length);
         struct frame frame = {.length = ntohl(length)};
         if (frame.length < HEAD_BYTES || frame.length > MOST_BYTES)
-            fail("a frame of the file has another length");
+            fail("the length in a frame of the file is not possible");
         frame.bytes = malloc(frame.length);
         size_t rest = frame.length - HEAD_BYTES;
         if (!frame.bytes || fread(frame.bytes + HEAD_BYTES, 1, rest, file) != rest)
@@ -70,7 +70,7 @@ static struct frames frames_in(const char *path)
         frames.at[frames.count++] = frame;
     }
     if (frames.count == 0)
-        fail("the file has no frames");
+        fail("the file contains no frame");
     fclose(file);
     return frames;
 }

@@ -1,8 +1,8 @@
 #!/usr/bin/env python3
 """Measures clients at three proved boothd on loopback: grants that wait, 64 of them at once, and 512 attributes.
 
-Run it as `python3 bench/clients.py [BOOTHD BOOTH]`, the programs being what `make build` leaves where they are left
-out. It prints one table and takes a minute. The members share this machine with each other and with what else it does.
+Run it as `python3 bench/clients.py [BOOTHD BOOTH]`. By default the programs are those that `make build` leaves. It
+prints one table and takes a minute. All members run on this machine.
 """
 
 import contextlib
@@ -26,11 +26,11 @@ from run import cpu_seconds, one_run, status_field
 from serving import NotServing, built_program, end_by_signals, own_addresses
 
 TRIES = 20
-# as many clients as may wait, each for a ticket of its own
+# the names of 64 tickets, one for each of the 64 clients that may wait
 MANY = tuple(b"ticket-%02d" % number for number in range(64))
-# how long the clients must come before the members that were stopped continue, in seconds
+# how long the bench waits for the requests of the clients before the stopped members continue, in seconds
 SECONDS_TO_COME = 1.5
-# as many attributes as a member has room for, of eight tickets, as one ticket has
+# the limits of a member: 64 attributes of a ticket, and 512 of all tickets, so of eight tickets
 NAMES, TICKETS = 64, 8
 # the longest name and the longest value
 NAME_BYTES, VALUE_BYTES = 63, 127
@@ -40,13 +40,14 @@ ADDRESSES = own_addresses()
 
 
 def require(holds, what):
+    """Raises `NotServing` with this text if a condition is false."""
     if not holds:
         raise NotServing(what)
 
 
 @contextlib.contextmanager
 def serving(programs, folder, tickets):
-    """Three members that vote from their start on."""
+    """Runs three members that vote from their start on."""
     addresses = list(itertools.islice(ADDRESSES, 3))
     with Cluster(programs[0], folder, addresses, client=programs[1], tickets=tickets) as made:
         made.remember()
@@ -60,17 +61,18 @@ def words_of(made, ticket, *command):
 
 
 def grant_rows(programs, folder):
-    """Measures `booth grant -w` from exec to exit, each after a revocation."""
+    """Measures `booth grant -w` from exec to exit. The ticket is revoked before each grant."""
     took = []
     with serving(programs, folder, (TICKET,)) as made:
         for _ in range(TRIES):
             took.append(one_run(words_of(made, TICKET, "grant", "-w")) * 1e3)
             one_run(words_of(made, TICKET, "revoke"))
     shown = f"{statistics.median(took):.1f} ms (lowest: {min(took):.1f} ms)"
-    yield Row("booth grant -w, exec to exit, three members", shown)
+    yield Row("booth grant -w, from exec to exit, three members", shown)
 
 
 def signalled(members, number):
+    """Sends a signal to each of these members."""
     for member in members:
         os.kill(member.server.process.pid, number)
 
@@ -90,9 +92,9 @@ def waiting_rows(programs, folder):
         require(all(client.wait(timeout=30) == 0 for client in clients), "a client was not granted its ticket")
         took, cpu = time.perf_counter() - started, cpu_seconds(one.server.process) - cpu
         more = status_field(one.server.process, "VmRSS") - resident
-    yield Row("64 clients that wait: from the first vote to the last exit", f"{took * 1e3:.0f} ms")
-    yield Row("the holder's CPU for it: 64 majorities, records and replies", f"{cpu * 1e3:.1f} ms")
-    yield Row("its memory more than before", f"{more} kB")
+    yield Row("64 waiting clients, from the first vote to the last exit", f"{took * 1e3:.0f} ms")
+    yield Row("holder's CPU time for these 64 majorities, records and replies", f"{cpu * 1e3:.1f} ms")
+    yield Row("growth of the holder's resident memory through these grants", f"{more} kB")
 
 
 def attribute(number):
@@ -101,6 +103,7 @@ def attribute(number):
 
 
 def answered(member, letters, ticket, number, value=b""):
+    """Sends a request about an attribute, which must be answered with `ok`."""
     answer = member.ask(letters, frames.attribute_body(ticket, attribute(number), value))
     require(answer is not None and answer.result == "ok", f"{letters} of {number}: {answer}")
 
@@ -114,7 +117,7 @@ def get_micros(member, ticket, number):
 
 
 def attribute_rows(programs, folder):
-    """512 attributes of full length, and gets of the first and the last of 64."""
+    """Measures the memory for 512 attributes of full length, and requests for the first and the last of 64."""
     tickets = MANY[:TICKETS]
     with serving(programs, folder, tickets) as made:
         one = made.members[0]
@@ -126,7 +129,7 @@ def attribute_rows(programs, folder):
         full = status_field(one.server.process, "VmRSS")
         first, last = (get_micros(one, tickets[0], number) for number in (0, NAMES - 1))
     yield Row("resident memory with 512 attributes of full length", f"{full:,} kB ({full - resident} kB more)")
-    yield Row("daemon CPU a get: of one name; of 64, the first, the last", f"{alone:.1f}; {first:.1f}; {last:.1f} µs")
+    yield Row("daemon CPU time per geostore get, 1 name; first; last of 64", f"{alone:.1f}; {first:.1f}; {last:.1f} µs")
 
 
 def main(words):

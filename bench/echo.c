@@ -1,4 +1,4 @@
-/* The peer of bench/run.py, which builds and runs it: a bare echo of datagrams on port 9929.
+/* Sends each datagram at port 9929 back to its sender. bench/run.py builds and runs this program.
  *
  *   cc -O2 -o echo bench/echo.c && ./echo ADDRESS
  */

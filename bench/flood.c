@@ -1,12 +1,14 @@
-/* The flood of bench/run.py and bench/seals.py, which build and run it: many datagrams that have no answer.
+/* Sends many datagrams that have no answer. bench/run.py and bench/seals.py build and run this program.
  *
  *   cc -O2 -o flood bench/flood.c
- *   ./flood members ADDRESS FILE COUNT        sends the frames in FILE in turns, COUNT in all
- *   ./flood hostile ADDRESS FILE COUNT SEED   sends what a seeded generator makes of them
+ *   ./flood members ADDRESS FILE COUNT        sends COUNT frames, those in FILE one after another and
+ *                                             then again
+ *   ./flood hostile ADDRESS FILE COUNT SEED   sends COUNT datagrams that a generator with this seed
+ *                                             makes from these frames
  *
- * The first frame of FILE is none of these: it is a request, which is sent after each burst, and
- * whose answer is waited for. So the daemon's socket never has more than a burst to hold, and no
- * datagram is lost. Both print the nanoseconds that it took, and how many other answers came.
+ * The first frame of FILE is a request. The program sends it after each burst, and waits for its
+ * answer. So the daemon's socket never holds more than a burst, and no datagram is lost. Both forms
+ * print how long that took, in nanoseconds, and how many other answers came.
  */
 #include "client.h"
 
@@ -14,7 +16,7 @@ enum { BURST_FRAMES = 100, BURST_BYTES = 50000, LONGEST = 20000, COMMAND_AT = 28
 
 static uint64_t seed;
 
-/* The next number of a xorshift generator (64 bits, multiplied). */
+/* Returns the next number of a xorshift generator (64 bits, multiplied). */
 static uint64_t chance(void)
 {
     seed ^= seed >> 12;
@@ -34,32 +36,32 @@ static void scramble(uint8_t *bytes, size_t length)
         bytes[i] = chance() >> 56;
 }
 
-/* Makes a datagram from one of the frames, and returns its length. */
+/* Makes a hostile datagram from one of the frames, and returns its length. */
 static size_t make(const struct frames *frames, uint8_t *into)
 {
     struct frame frame = frames->at[1 + below(frames->count - 1)];
     size_t length = frame.length;
     memcpy(into, frame.bytes, length);
     switch (below(16)) {
-    case 0: /* random bytes, few of them long */
+    case 0: /* random bytes, mostly few */
         length = below(64) == 0 ? below(LONGEST) : below(600);
         scramble(into, length);
         break;
-    case 1: /* a head with random bytes behind it */
+    case 1: /* a frame's head, and then random bytes */
         length = HEAD_BYTES + below(600);
         scramble(into + HEAD_BYTES, length - HEAD_BYTES);
         break;
-    case 2: case 3: /* cut off */
+    case 2: case 3: /* truncated */
         length = below(length);
         break;
-    case 4: case 5: case 6: case 7: /* one bit to four turned over */
+    case 4: case 5: case 6: case 7: /* one to four bits flipped */
         for (size_t flips = 1 + below(4); flips > 0; flips--)
             into[below(length)] ^= 1 << below(8);
         break;
     case 8: /* a wrong length */
         scramble(into + LENGTH_AT + 2 * below(2), 2);
         break;
-    case 9: /* bytes too many, told or not */
+    case 9: /* too many bytes, counted in the length field or not */
         if (below(2) == 0)
             into[LENGTH_AT + 3] += 28;
         memset(into + length, 0, 28);
@@ -71,13 +73,13 @@ static size_t make(const struct frames *frames, uint8_t *into)
     case 11: case 12: /* a wrong MAC */
         scramble(into + length - MAC_AT, 20);
         break;
-    default: /* as it is */
+    default: /* unchanged */
         break;
     }
     return length;
 }
 
-/* Asks, and reads up to the answer. Returns how many other datagrams came before it. */
+/* Sends the request, and reads until its answer comes. Returns how many other datagrams came before it. */
 static uint64_t wait_for_answer(int client, struct frame request)
 {
     static uint8_t answer[MOST_BYTES];
@@ -103,7 +105,7 @@ int main(int count, char **words)
     uint64_t left = strtoull(words[4], NULL, 10), others = 0, next = 0;
     seed = is_hostile ? strtoull(words[5], NULL, 10) : 0;
     if (frames.count < 2 || (is_hostile && seed == 0))
-        fail("no frames, or a seed of 0");
+        fail("the file needs two frames or more, and the seed must not be 0");
     int64_t started = nanoseconds();
     while (left > 0) {
         size_t bytes = 0;

@@ -1,11 +1,11 @@
 #!/usr/bin/env python3
 """Measures services that follow their ticket at three proved boothd on loopback: at rest, and from a death to a start.
 
-Run it as `python3 bench/follow.py [BOOTHD BOOTH-FOLLOW]`, the programs being what `make build` leaves where they
-are left out. It prints one table and takes two minutes. The ticket has `expire = 10` and `timeout = 1`, and the
-times of the follower are those that follow from them.
+Run it as `python3 bench/follow.py [BOOTHD BOOTH-FOLLOW]`. By default the programs are those that `make build` leaves.
+It prints one table and takes two minutes. The ticket has `expire = 10` and `timeout = 1`, and the followers have the
+default times.
 
-The service writes ten lines a second: its first line shows a start, and its last line before the lease's end a stop.
+The service writes ten lines a second. Its first line shows when it started, and its last line when it ended.
 """
 
 import os
@@ -24,30 +24,33 @@ from run import cpu_seconds, status_field
 from serving import NotServing, built_program, end_by_signals, own_addresses
 
 TRIES = 4
-# how long a follower is looked at while its service runs
+# how long a follower is measured while its service runs, in seconds
 SECONDS_AT_REST = 60
 SECONDS_OF_A_DAY = 86_400
 PATIENCE = 60
 
 
 def require(holds, what):
+    """Raises `NotServing` with this text if a condition is false."""
     if not holds:
         raise NotServing(what)
 
 
 def at_rest(services, member):
-    """Returns the memory of a follower whose service runs, and its processor time in a day."""
+    """Measures the memory of a follower whose service runs, and its CPU time in a day."""
     follower = services.followers[member.address]
     before = cpu_seconds(follower)
     time.sleep(SECONDS_AT_REST)
     took = cpu_seconds(follower) - before
     memory, peak = (status_field(follower, name) for name in ("VmRSS", "VmHWM"))
-    yield Row("resident memory of a follower, and its peak", f"{memory:,} kB, {peak:,} kB")
-    yield Row("its processor time in a day, at rest", f"{took * SECONDS_OF_A_DAY / SECONDS_AT_REST:.1f} s")
+    yield Row("resident memory of a follower; peak memory", f"{memory:,} kB; {peak:,} kB")
+    yield Row("CPU time of a follower in a day without events", f"{took * SECONDS_OF_A_DAY / SECONDS_AT_REST:.1f} s")
 
 
 def dies(cluster, services, holder, other):
-    """Measures the time from the holder's death to the start elsewhere, and from the stop to the lease's end."""
+    """Kills the holder's daemon. Returns in seconds the time from the kill to the start at the other site, from the
+    lease's end to that start, and from the end of the service to the lease's end.
+    """
     died = now()
     holder.kill()
     until = holder.record().until
@@ -62,6 +65,7 @@ def dies(cluster, services, holder, other):
 
 
 def measure(programs):
+    """Measures a follower without events, and then several takeovers."""
     boothd, follower = programs
     with tempfile.TemporaryDirectory(prefix="booth-bench-") as folder:
         made = Cluster(boothd, folder, own_addresses(), times=Times(expire=10))
@@ -82,8 +86,8 @@ def measure(programs):
             require(not services.overlaps(), "two services overlapped")
             died, after, before = map(statistics.median, zip(*waits))
             yield Row("from the holder's death to the start at the other site", f"{died:.2f} s")
-            yield Row("from the lease's end to that start", f"{after:.2f} s")
-            yield Row("the stop before the lease's end", f"{before:.2f} s")
+            yield Row("from the lease's end to the start at the other site", f"{after:.2f} s")
+            yield Row("from the end of the service to the lease's end", f"{before:.2f} s")
 
 
 def main(words):

@@ -1,10 +1,10 @@
 #!/usr/bin/env python3
-"""Measures 100 services that follow 100 of 4,096 tickets at one site: what they and their daemon take of a processor.
+"""Measures the CPU time of 100 followers at one site, and of their daemon, which has 4,096 tickets.
 
-Run it as `python3 bench/followers.py [BOOTHD BOOTH-FOLLOW]`, the programs being what `make build` leaves where they are
-left out. It prints one table, has the status 1 if a mark is missed by more than a tenth, and takes two minutes. The one
-site is its own majority, and holds the followed tickets. Each follower is a process, whose program is /bin/true, so
-nothing is measured but the followers and their daemon.
+Run it as `python3 bench/followers.py [BOOTHD BOOTH-FOLLOW]`. By default the programs are those that `make build`
+leaves. It prints one table in two minutes. Its status is 1 if a mark is missed by more than a tenth. The cluster has
+only this site, so the site alone is a majority, and it holds the 100 tickets. Each follower is a process, and its
+program is /bin/true, so no program of a service is measured.
 """
 
 import os
@@ -24,19 +24,19 @@ from serving import NotServing, built_program, end_by_signals, own_addresses, wr
 
 TICKETS, FOLLOWED = 4_096, 100
 SECONDS = 30
-# how long the followers are left alone after their start
+# how long the bench waits after the start of the followers, in seconds
 SECONDS_TO_REST = 5
 PATIENCE = 60
 STARTED = b"the service has started"
 
 
 def names(count: int) -> List[bytes]:
-    """Returns the names of so many tickets."""
+    """Returns the names of `count` tickets."""
     return [b"ticket-%04d" % number for number in range(count)]
 
 
 def holder(program: str, folder: str) -> Member:
-    """Starts the one site, which holds the tickets that are followed."""
+    """Starts the daemon of the only site."""
     member = Member("site", next(own_addresses()), os.path.join(folder, "site"))
     conf = os.path.join(folder, "booth.conf")
     with open(conf, "wb") as file:
@@ -48,11 +48,11 @@ def holder(program: str, folder: str) -> Member:
 
 
 def grant_each(member: Member) -> None:
-    """Has the site acquire the tickets that are followed."""
+    """Has the site acquire the 100 tickets."""
     for name in names(FOLLOWED):
         result = member.about("CGnt", name)
         if result != "ok":
-            raise NotServing(f"a grant of {name.decode()} is answered {result}")
+            raise NotServing(f"the answer to a grant of {name.decode()} is {result}")
 
 
 def follow(program: str, member: Member, name: bytes, printed) -> subprocess.Popen:
@@ -62,7 +62,7 @@ def follow(program: str, member: Member, name: bytes, printed) -> subprocess.Pop
 
 
 def millis(*groups: List[subprocess.Popen]) -> List[float]:
-    """Returns the processor time that each group of processes takes in a second, in milliseconds."""
+    """Returns the CPU time of each group of processes per second, in milliseconds."""
     spent = lambda: [sum(map(cpu_seconds, group)) for group in groups]
     before = spent()
     time.sleep(SECONDS)
@@ -70,13 +70,13 @@ def millis(*groups: List[subprocess.Popen]) -> List[float]:
 
 
 def measured(member: Member, followers: List[subprocess.Popen], alone: float) -> Iterator[Row]:
-    """Measures the daemon with its followers, which took `alone` without them."""
+    """Measures the daemon with its followers. `alone` is its CPU time without followers."""
     daemon, theirs = millis([member.server.process], followers)
     more = daemon - alone
-    yield Row(f"processor time of {FOLLOWED} followers in a second", f"{theirs:.1f} ms")
-    yield Row("what their daemon takes for them", f"{more:.1f} ms (without them: {alone:.1f} ms)")
+    yield Row(f"CPU time of {FOLLOWED} followers per second", f"{theirs:.1f} ms")
+    yield Row("CPU time that their daemon takes for them per second", f"{more:.1f} ms (without them: {alone:.1f} ms)")
     part = (theirs + more) / 10
-    yield below(f"{FOLLOWED} services of {TICKETS:,} tickets, of one processor", part, f"{part:.2f} %", 1, "%")
+    yield below(f"share of one processor, {FOLLOWED} followers of {TICKETS:,} tickets", part, f"{part:.2f} %", 1, "%")
 
 
 def measure(boothd: str, follower: str) -> Iterator[Row]:
@@ -89,7 +89,7 @@ def measure(boothd: str, follower: str) -> Iterator[Row]:
             (alone,) = millis([member.server.process])
             followers += [follow(follower, member, name, printed) for name in names(FOLLOWED)]
             if not wait_for(lambda: written(printed).count(STARTED) == FOLLOWED, PATIENCE):
-                raise NotServing(f"not each service started: {written(printed)[-400:]!r}")
+                raise NotServing(f"not every service started: {written(printed)[-400:]!r}")
             time.sleep(SECONDS_TO_REST)
             yield from measured(member, followers, alone)
         finally:

@@ -1,5 +1,6 @@
-/* heap ask SLOTS UNTIL and heap renew SLOTS SPREAD UNTIL: what trials does of these words, with a binary heap in
-   place of the buckets. Prints how many answers were none, or how often a slot was due. */
+/* heap ask SLOTS UNTIL, heap renew SLOTS SPREAD UNTIL: does the same as the program trials with these arguments, with a
+   binary heap in place of the timer's buckets. Prints how often the answer was that no slot is due, or how often a slot
+   was due. */
 #include <stdint.h>
 #include <stdio.h>
 #include <stdlib.h>

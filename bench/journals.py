@@ -1,9 +1,9 @@
 #!/usr/bin/env python3
 """Measures the cost of a journal for a proved boothd on loopback, and the time of an audit of a million lines.
 
-Run it as `python3 bench/journals.py [PROGRAM]`, PROGRAM being what `make build` leaves if it is left out. It prints
-one table, has the status 1 if a mark is missed by more than a tenth, and takes half a minute. Rounds with and without
-a journal alternate, so that other work on the machine disturbs both equally.
+Run it as `python3 bench/journals.py [PROGRAM]`. PROGRAM is a boothd, by default the one that `make build` leaves. It
+prints one table in half a minute. Its status is 1 if a mark is missed by more than a tenth. Rounds with and without a
+journal alternate, so other work on the machine slows both down alike.
 """
 
 import contextlib
@@ -33,7 +33,7 @@ LINES_A_SECOND, TIMES_ITS_BYTES = 200_000, 4
 
 
 def dropped(member):
-    """Sends datagrams that are dropped, no faster than the daemon reads them. Returns how many turns they made."""
+    """Sends datagrams that the daemon drops, no faster than it reads them. Returns how many turns it made for them."""
     with socket.socket(socket.AF_INET, socket.SOCK_DGRAM) as sender:
         sender.connect((member.address, frames.PORT))
         for number in range(DROPPED):
@@ -44,14 +44,15 @@ def dropped(member):
 
 
 def listed(member):
+    """Asks for the list of tickets again and again. Returns the number of requests."""
     for _ in range(LISTS):
         if member.ask("CLst") is None:
-            raise NotServing("a list is not answered")
+            raise NotServing("the daemon did not answer a request for the list")
     return LISTS
 
 
 def micros(member, work):
-    """Returns the daemon's CPU time for a turn of this work, in microseconds."""
+    """Returns the daemon's CPU time per turn of `work`, in microseconds."""
     before = cpu_seconds(member.server.process)
     turns = work(member)
     return (cpu_seconds(member.server.process) - before) / turns * 1e6
@@ -73,12 +74,14 @@ def pair(program, folder):
 
 
 def turn_rows(members):
-    """A turn that drops a datagram, and one that answers a list, with a journal and without, in the best rounds."""
-    for name, work in (("dropped datagram", dropped), ("list", listed)):
+    """Measures a turn that drops a datagram, and a turn that answers a list request, each with a journal and without.
+    A value is that of the best round.
+    """
+    for name, work in (("dropped datagram", dropped), ("list request", listed)):
         took = [[micros(member, work) for member in members] for _ in range(ROUNDS)]
         journaled, bare = map(min, zip(*took))
         shown = f"{bare:.1f}; {journaled:.1f} µs ({journaled - bare:+.1f} µs)"
-        yield Row(f"daemon CPU a {name}, without a journal; with one", shown)
+        yield Row(f"daemon CPU time per {name}, without a journal; with one", shown)
 
 
 def byte_rows(member):
@@ -90,7 +93,7 @@ def byte_rows(member):
     lines = content(member.journal).decode("latin-1").split("\n")
     at = lines.index("quiet") - 1
     quiet = sum(len(line) + 1 for line in lines[at : at + 4])
-    yield Row("journal of a quiet turn; of a quiet daemon", f"{quiet} bytes; {rate * 86_400 / 1e6:.1f} MB a day")
+    yield Row("journal lines of an idle turn; of an idle daemon", f"{quiet} bytes; {rate * 86_400 / 1e6:.1f} MB a day")
 
 
 def audit_rows(program, conf, begin, address, folder):
@@ -106,10 +109,11 @@ def audit_rows(program, conf, begin, address, folder):
     rate = len(lines) / seconds
     yield at_least(f"{name}: lines a second", rate, f"{rate:,.0f} ({seconds:.2f} s)", LINES_A_SECOND)
     shown = f"{peak / 1e6:.0f} MB ({peak / size:.2f} times its bytes)"
-    yield below("its greatest memory", peak / size, shown, TIMES_ITS_BYTES, "times its bytes")
+    yield below("peak memory of this audit", peak / size, shown, TIMES_ITS_BYTES, "times its bytes")
 
 
 def rows(program, folder):
+    """Measures a daemon's journal, and then an audit, if this boothd has the command."""
     with pair(program, folder) as members:
         journaled, bare = members
         conf = journaled.conf
@@ -119,7 +123,7 @@ def rows(program, folder):
     if can_audit(program):
         yield from audit_rows(program, conf, begin, journaled.address, folder)
     else:
-        yield Row("audit", "not measured: boothd has no auditor")
+        yield Row("audit", "not measured: this boothd has no command audit")
 
 
 def main(words):

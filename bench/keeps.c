@@ -1,5 +1,5 @@
-/* keeps PATH COUNT: COUNT times the writes and syncs by which a record file is kept, and nothing else.
-   Prints the seconds that it took, and those of the processor in them. */
+/* keeps PATH COUNT: makes, COUNT times, the writes and syncs by which the host writes a record file, and nothing else.
+   Prints how long that took, and its CPU time, both in seconds. */
 #define _GNU_SOURCE
 #include <fcntl.h>
 #include <stdio.h>

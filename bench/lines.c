@@ -1,4 +1,4 @@
-/* The counter of bench/run.py, which builds and runs it: reads a file and counts its lines.
+/* Reads a file and counts its lines. bench/run.py builds and runs this program.
  *
  *   cc -O2 -o lines bench/lines.c && ./lines FILE
  */

@@ -1,10 +1,10 @@
 #!/usr/bin/env python3
-"""Measures lists over TCP at a proved boothd on loopback, on one link and on sixteen, and over UDP in the same run.
+"""Measures list requests over TCP at a proved boothd on loopback, on one link and on sixteen, and over UDP.
 
-Run it as `python3 bench/links.py [BOOTHD [BEFORE]]`, BOOTHD being what `make build` leaves if it is left out. It
-prints one table in some seconds, and has the status 1 if a mark is missed by more than a tenth. With BEFORE, a
-boothd that serves no links, it also counts the instructions of a turn of both, as bench/turn.py does, which needs
-valgrind and a minute.
+Run it as `python3 bench/links.py [BOOTHD [BEFORE]]`. BOOTHD is by default the one that `make build` leaves. The bench
+prints one table in some seconds. Its status is 1 if a mark is missed by more than a tenth. BEFORE is a boothd that
+serves no links. With it the bench also counts the instructions of a turn of both programs, as bench/turn.py does. This
+needs valgrind and a minute.
 """
 
 import contextlib
@@ -28,28 +28,30 @@ from texts import one_ticket
 from turn import a_turn
 
 LINKS, ROUNDS, LISTS = 16, 20, 500
-# how many of a thousand must come in time, which is less than the wait of a turn
+# 999 of 1,000 answers must come within 5 ms, which is less than a turn waits
 MOST, OF, MILLIS = 999, 1000, 5
 
 
 def frame_of(link):
-    """Returns the bytes of the next reply."""
+    """Reads the next reply from a link, and returns its bytes."""
     head = link.receive(frames.HEAD_BYTES)
     return head + link.receive(frames.Head.read(head).length - frames.HEAD_BYTES)
 
 
 def over_tcp(link, request):
+    """Sends a request over a link, and waits for the reply."""
     link.socket.sendall(request)
     frame_of(link)
 
 
 def over_udp(asker, request):
+    """Sends a request as a datagram, and waits for the reply."""
     asker.send(request)
     asker.recv(frames.FRAME_BYTES)
 
 
 def times_of(ask, request, count):
-    """Returns how long each of so many lists takes, in seconds."""
+    """Returns how long each of `count` requests takes, in seconds."""
     took = []
     for _ in range(count):
         begun = time.perf_counter()
@@ -59,7 +61,9 @@ def times_of(ask, request, count):
 
 
 def in_turns(asks, request, process):
-    """Measures each of these transports in alternating rounds: the times, and the daemon's CPU time for a list."""
+    """Measures the transports in alternating rounds. Returns for each the times of its requests, and the daemon's CPU
+    time per request, in seconds.
+    """
     took, cpu = [[] for _ in asks], [0.0 for _ in asks]
     for _ in range(ROUNDS):
         for place, ask in enumerate(asks):
@@ -70,7 +74,9 @@ def in_turns(asks, request, process):
 
 
 def lists_a_second(askers, ask, answer, process):
-    """Measures clients that ask at the same time: lists a second of the best round, and CPU time a list."""
+    """Measures clients that ask at the same time. Returns the requests per second of the best round, and the daemon's
+    CPU time per request, in seconds.
+    """
     best, before = 0.0, cpu_seconds(process)
     for _ in range(ROUNDS):
         begun = time.perf_counter()
@@ -85,7 +91,7 @@ def lists_a_second(askers, ask, answer, process):
 
 @contextlib.contextmanager
 def udp_askers(count, address):
-    """Opens so many sockets for requests over UDP."""
+    """Opens `count` sockets for requests over UDP."""
     with contextlib.ExitStack() as stack:
         made = [stack.enter_context(socket.socket(socket.AF_INET, socket.SOCK_DGRAM)) for _ in range(count)]
         for each in made:
@@ -100,11 +106,12 @@ def many_rows(address, request, process):
         udp = lists_a_second(made, lambda each: each.send(request), lambda each: each.recv(frames.FRAME_BYTES), process)
     with links(LINKS, address) as opened:
         tcp = lists_a_second(opened, lambda link: link.socket.sendall(request), frame_of, process)
-    yield Row(f"lists a second, {LINKS} that ask at once, over UDP; over TCP", f"{udp[0]:,.0f}; {tcp[0]:,.0f}")
-    yield Row("daemon CPU a list of these, over UDP; over TCP", f"{udp[1] * 1e6:.1f}; {tcp[1] * 1e6:.1f} µs")
+    yield Row(f"list requests a second, {LINKS} clients at once, over UDP; over TCP", f"{udp[0]:,.0f}; {tcp[0]:,.0f}")
+    yield Row("daemon CPU time per such request, over UDP; over TCP", f"{udp[1] * 1e6:.1f}; {tcp[1] * 1e6:.1f} µs")
 
 
 def rows(program, folder):
+    """Measures one client over UDP and over TCP, and then sixteen clients."""
     address = next(own_addresses())
     conf = os.path.join(folder, "one.conf")
     with open(conf, "wb") as file:
@@ -121,11 +128,11 @@ def rows(program, folder):
     middle = [statistics.median(took) * 1e6 for took in (udp, tcp)]
     late = sorted(tcp)[len(tcp) * MOST // OF] * 1e3
     ratio = middle[1] / middle[0]
-    yield Row("a list, one asker, over UDP; over TCP, medians", f"{middle[0]:.0f}; {middle[1]:.0f} µs")
-    yield below("TCP to UDP", ratio, f"{ratio:.2f}", 3, "times")
-    yield below(f"{MOST} of {OF} lists over TCP come within", late, f"{late:.2f} ms", MILLIS, "ms")
-    yield Row("the slowest list over TCP; over UDP", f"{max(tcp) * 1e3:.1f}; {max(udp) * 1e3:.1f} ms")
-    yield Row("daemon CPU a list, over UDP; over TCP", f"{cpu[0] * 1e6:.1f}; {cpu[1] * 1e6:.1f} µs")
+    yield Row("median time of a list request, one client, over UDP; over TCP", f"{middle[0]:.0f}; {middle[1]:.0f} µs")
+    yield below("ratio of TCP to UDP", ratio, f"{ratio:.2f}", 3, "times")
+    yield below(f"{MOST} of {OF} list requests over TCP are answered within", late, f"{late:.2f} ms", MILLIS, "ms")
+    yield Row("slowest list request over TCP; over UDP", f"{max(tcp) * 1e3:.1f}; {max(udp) * 1e3:.1f} ms")
+    yield Row("daemon CPU time per list request, over UDP; over TCP", f"{cpu[0] * 1e6:.1f}; {cpu[1] * 1e6:.1f} µs")
     yield from many
 
 
@@ -133,8 +140,8 @@ def turn_rows(program, before):
     """Counts the instructions of a turn without links, for a daemon that serves links and for one that does not."""
     counted = [a_turn(each, 1) for each in (before, program)]
     ratio = counted[1] / counted[0]
-    yield Row("instructions of a turn, before; with links served", "; ".join(f"{count:,.0f}" for count in counted))
-    yield below("with to before", ratio, f"{ratio:.3f}", 1.1, "")
+    yield Row("instructions of a turn, without links in the program; with them", "; ".join(f"{count:,.0f}" for count in counted))
+    yield below("ratio with links to without", ratio, f"{ratio:.3f}", 1.1, "")
 
 
 def main(words):

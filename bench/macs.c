@@ -1,11 +1,11 @@
-/* The peer of bench/seals.py, which builds and runs it: OpenSSL's HMAC of what the MACs of sealed frames are made of.
+/* OpenSSL's HMAC of the signed bytes of frames. bench/seals.py builds and runs this program.
  *
  *   cc -O2 -o macs bench/macs.c -lcrypto
  *   ./macs sha1|sha256 KEY FILE COUNT      makes the MACs of the frames in FILE in turns, COUNT in all
  *   ./macs sha1|sha256 KEY serve ADDRESS   receives frames, makes the MAC of each and compares it
  *
- * KEY is a file. The first prints the nanoseconds that it took, and those of the processor in them. The second sends
- * back what a client asks, and ends where a MAC is wrong.
+ * KEY is a file. The first form prints how long that took, and its CPU time, both in nanoseconds. The second form sends
+ * the request of a client back as its answer, and ends at a wrong MAC.
  */
 #include "client.h"
 #include <openssl/crypto.h>
@@ -21,7 +21,7 @@ static int64_t processor_nanoseconds(void)
     return now.tv_sec * INT64_C(1000000000) + now.tv_nsec;
 }
 
-/* What a daemon cannot do without: a receive for each frame, and its MAC. */
+/* Receives frames and compares the MAC of each: the least work of a daemon. */
 static void serve(const EVP_MD *hash, const uint8_t *key, size_t key_bytes, const char *address)
 {
     static uint8_t bytes[MOST_BYTES];
@@ -30,7 +30,7 @@ static void serve(const EVP_MD *hash, const uint8_t *key, size_t key_bytes, cons
     int port = socket(AF_INET, SOCK_DGRAM, 0);
     if (inet_pton(AF_INET, address, &here.sin_addr) != 1 || port < 0
         || bind(port, (struct sockaddr *)&here, sizeof here) < 0)
-        fail("no socket");
+        fail("cannot listen at this address");
     for (;;) {
         struct sockaddr_in from;
         socklen_t from_bytes = sizeof from;
@@ -39,12 +39,12 @@ static void serve(const EVP_MD *hash, const uint8_t *key, size_t key_bytes, cons
             continue;
         unsigned mac_bytes;
         if (!HMAC(hash, key, key_bytes, bytes, length - AUTH_BYTES, code, &mac_bytes))
-            fail("no MAC");
+            fail("OpenSSL makes no MAC");
         if (mac_bytes > MAC_AT)
             mac_bytes = MAC_AT;
         if (CRYPTO_memcmp(code, bytes + length - MAC_AT, mac_bytes) != 0)
             fail("a wrong MAC");
-        /* only what clients ask begins with one of these */
+        /* only the commands of a client's request begin with these letters */
         if (bytes[COMMAND_AT] == 'C' || bytes[COMMAND_AT] == 'P')
             sendto(port, bytes, length, 0, (struct sockaddr *)&from, from_bytes);
     }
@@ -60,7 +60,7 @@ int main(int count, char **words)
     FILE *file = fopen(words[2], "rb");
     size_t key_bytes = file ? fread(key, 1, sizeof key, file) : 0;
     if (key_bytes == 0)
-        fail("no key");
+        fail("cannot read the key, or the file is empty");
     if (strcmp(words[3], "serve") == 0)
         serve(hash, key, key_bytes, words[4]);
     struct frames frames = frames_in(words[3]);
@@ -69,7 +69,7 @@ int main(int count, char **words)
     for (uint64_t mac = 0; mac < macs; mac++) {
         struct frame frame = frames.at[mac % frames.count];
         if (!HMAC(hash, key, key_bytes, frame.bytes, frame.length - AUTH_BYTES, code, NULL))
-            fail("no MAC");
+            fail("OpenSSL makes no MAC");
     }
     printf("%lld %lld\n", (long long)(nanoseconds() - started), (long long)(processor_nanoseconds() - started_cpu));
     return 0;

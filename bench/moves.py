@@ -1,12 +1,12 @@
 #!/usr/bin/env python3
 """Measures `booth move -w` at three proved boothd on loopback: from exec to exit, and how long no site held the ticket.
 
-Run it as `python3 bench/moves.py [BOOTHD BOOTH]`, the programs being what `make build` leaves where they are left out.
-It prints one table and takes half a minute. The members share this machine with each other and with what else it does.
+Run it as `python3 bench/moves.py [BOOTHD BOOTH]`. By default the programs are those that `make build` leaves. It prints
+one table and takes half a minute. All members run on this machine.
 
-The time without a holder is measured from the record files alone: a look reads the records of the old holder and of the
-new one. It is the time between the last look at which the old lease was in force and the first look at which the new
-one is, so the value is too long by at most the time of two looks.
+The time without a holder is measured by the record files alone. A look reads the records of the old holder and of the
+new one. The time begins with the last look at which the old lease was in force. It ends with the first look at which
+the new lease is in force. So the value is at most two looks too long.
 """
 
 import itertools
@@ -26,21 +26,22 @@ from run import one_run
 from serving import NotServing, built_program, end_by_signals, own_addresses
 
 TRIES = 40
-# nobody holds for so long at most, in milliseconds
+# the longest allowed time without a holder, in milliseconds
 MARK = 50
-# how long the old holder and the new one are looked at, in seconds, if a move does not end
+# how long the records of both sites are read if a move does not end, in seconds
 SECONDS_OF_A_LOOK = 20
 
 ADDRESSES = own_addresses()
 
 
 def require(holds, what):
+    """Raises `NotServing` with this text if a condition is false."""
     if not holds:
         raise NotServing(what)
 
 
 class Looks(threading.Thread):
-    """Looks as often as it can, from the beginning of a move to the new holder's lease."""
+    """Reads the records without a pause, from the beginning of a move until the new holder has its lease."""
 
     def __init__(self, old, new):
         super().__init__(daemon=True)
@@ -48,10 +49,12 @@ class Looks(threading.Thread):
         self.looks, self.free = 0, None
 
     def holds(self, member):
+        """Returns whether a member has a lease in force by its record."""
         record = member.record()
         return record is not None and record.holds(now())
 
     def run(self):
+        """Counts the looks, and measures the time without a holder, in seconds."""
         last = started = time.perf_counter()
         while last - started < SECONDS_OF_A_LOOK:
             moment = time.perf_counter()
@@ -64,11 +67,14 @@ class Looks(threading.Thread):
 
 
 def move_words(made, target):
+    """Returns the arguments of a move to a site."""
     return [made.client, "move", "-w", TICKET.decode(), target.address, "-c", made.conf]
 
 
 def moved(made, old, new):
-    """Returns how long a move from one site to the other took, and how long no site held, in milliseconds."""
+    """Moves the ticket. Returns how long the move took and how long no site held the ticket, both in milliseconds, and
+    the number of looks.
+    """
     looks = Looks(old, new)
     looks.start()
     took = one_run(move_words(made, new))
@@ -88,13 +94,13 @@ def rows(programs, folder):
         seen = [moved(made, old, new) for old, new in pairs]
         made.watch.end()
         alone = [one_run(move_words(made, new)) * 1e3 for _, new in pairs]
-        require(not made.watch.wrong, f"two held at one moment: {made.watch.wrong[:3]}")
+        require(not made.watch.wrong, f"two sites held the ticket at the same time: {made.watch.wrong[:3]}")
     free = [each[1] for each in seen]
     shown = f"{statistics.median(alone):.1f} ms (lowest: {min(alone):.1f} ms, highest: {max(alone):.1f} ms)"
-    yield Row("booth move -w, exec to exit, three members", shown)
+    yield Row("booth move -w, from exec to exit, three members", shown)
     middle = statistics.median(free)
     shown = f"{middle:.1f} ms (highest: {max(free):.1f} ms)"
-    yield below("nobody held, by the record files", middle, shown, MARK, "ms")
+    yield below("time without a holder, by the record files", middle, shown, MARK, "ms")
 
 
 def main(words):

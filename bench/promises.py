@@ -1,10 +1,11 @@
 #!/usr/bin/env python3
-"""Measures what kept promises cost: keeps of an election and a renewal, votes a second, and a voter's restart.
+"""Measures what it costs that a member writes each promise to disk before it sends it.
 
-Run it as `python3 bench/promises.py [BOOTHD TRIALS]`, the programs being what `make build` and rt leave where they are
-left out. It prints one table, has the status 1 if a mark is missed by more than a tenth, and takes three minutes. All
-of it is on one disk, in the folder for temporary files: what else writes to that spoils it. A voter is asked by a site
-that is none: this program has its address.
+Run it as `python3 bench/promises.py [BOOTHD TRIALS]`. By default the programs are those that `make build` and rt leave.
+It measures how many records an election and a renewal write, how many votes a member gives per second, and how soon a
+voter votes after a restart. It prints one table in three minutes. Its status is 1 if a mark is missed by more than a
+tenth. All members write to one disk, in the folder for temporary files, so no other program should write there. The
+votes go to a site whose daemon does not run: this program has its address, and sends its requests.
 """
 
 import contextlib
@@ -34,7 +35,7 @@ MANY = tuple(b"ticket-%02d" % number for number in range(64))
 FEW = MANY[:10]
 TIMES = Times(expire=10, timeout=1, retries=3, renewal=5)
 SECONDS = 20
-# rounds of votes beside rounds of keeps, and how many votes wait for an answer at once
+# the number of rounds, the votes in a round, and the requests for a vote that are open at the same time
 ROUNDS, VOTES, AT_ONCE = 15, 400, 16
 RESTARTS = 40
 SECONDS_TO_ANSWER = 10
@@ -46,60 +47,66 @@ ADDRESSES = own_addresses()
 
 
 def require(holds, what):
+    """Raises `NotServing` with this text if a condition is false."""
     if not holds:
         raise NotServing(what)
 
 
 def made(program, folder, tickets):
-    """A cluster of members that abstained long ago."""
+    """Returns a cluster whose members vote from their start on, because their records show no abstention."""
     cluster = Cluster(program, folder, list(itertools.islice(ADDRESSES, 3)), times=TIMES, tickets=tickets)
     cluster.remember()
     return cluster
 
 
 def number(member, ticket):
-    """How often the member kept a record of this ticket: each keep has the next number."""
+    """Returns how often a member has written the record of a ticket: each write has the next number."""
     with open(member.record_path(ticket), "rb") as file:
         return record_file.in_force(record_file.slots_in(file.read(record_file.FILE_BYTES))).number
 
 
 def numbers(cluster, tickets):
+    """Returns for each member how many records of these tickets it has written."""
     return [sum(number(member, ticket) for ticket in tickets) for member in cluster.members]
 
 
 def held(member, tickets):
+    """Returns whether a member holds each of these tickets by its records."""
     return all((record := member.record(ticket)) is not None and record.holds(now()) for ticket in tickets)
 
 
 def keeps_between(cluster, tickets, what):
-    """How many keeps of a ticket each member did meanwhile."""
+    """Returns how many records each member writes per ticket while `what` runs."""
     before = numbers(cluster, tickets)
     what()
     return [(after - early) / len(tickets) for early, after in zip(before, numbers(cluster, tickets))]
 
 
 def in_words(keeps):
-    """Those of the site that asks, and of each of the two that answer."""
+    """Returns the writes of the site that asks, and of each of the two members that answer, as a text."""
     return f"{keeps[0]:.2f} at the site, {keeps[1]:.2f} and {keeps[2]:.2f} at the others"
 
 
 def grant_all(cluster, tickets, apart=0.0):
+    """Has the first site acquire each ticket, `apart` seconds one after another, and waits until it holds all."""
     one = cluster.members[0]
     for ticket in tickets:
-        require(one.about("CGnt", ticket) in ("ok", "Asyn"), "a grant is not begun")
+        require(one.about("CGnt", ticket) in ("ok", "Asyn"), "the site began no election after a grant")
         time.sleep(apart)
     require(wait_for(lambda: held(one, tickets), SECONDS_TO_ANSWER), "a ticket is not held")
-    # (the last voter answers after the majority)
+    # (the last voter answers after the majority is reached)
     time.sleep(0.5)
 
 
 def cluster_rows(program, folder, keep):
-    """64 tickets that one site holds, with the keeps of each member counted. `keep` is how long one takes alone."""
+    """Counts the records that each member writes for 64 tickets of one site. `keep` is how long one write takes alone,
+    in seconds.
+    """
     with made(program, folder, MANY) as cluster:
         one, *others = cluster.members
         cluster.start()
         keeps = keeps_between(cluster, MANY, lambda: grant_all(cluster, MANY))
-        yield Row("keeps of an election", in_words(keeps))
+        yield Row("writes of a record per election", in_words(keeps))
         ends = {ticket: one.record(ticket).until for ticket in MANY}
         cpu = [cpu_seconds(member.server.process) for member in cluster.members]
         keeps = keeps_between(cluster, MANY, lambda: time.sleep(SECONDS))
@@ -109,17 +116,17 @@ def cluster_rows(program, folder, keep):
         renewals = sum(rounds)
         require(renewals >= len(MANY), f"{renewals} renewals")
         each = [count * len(MANY) / renewals for count in keeps]
-        yield Row("keeps of a renewal", in_words(each))
+        yield Row("writes of a record per renewal", in_words(each))
         shown = f"{cpu[0] / renewals * 1e6:.0f} µs; {cpu[2] / renewals * 1e6:.0f} µs"
-        yield Row("CPU a renewal, 64 tickets held: the holder's; a voter's", shown)
+        yield Row("CPU time per renewal, 64 tickets held: holder; voter", shown)
         shares = [count * len(MANY) * keep / SECONDS for count in keeps]
         shown = f"{shares[0]:.1%}; {shares[2]:.1%}"
-        yield Row("share of the disk, 64 tickets, expire = 10: the holder's; a voter's", shown)
+        yield Row("share of the disk's time, 64 tickets, expire = 10: holder; voter", shown)
 
 
 @contextlib.contextmanager
 def heard_at(address):
-    """A socket at the address of a member that does not run."""
+    """Opens a socket at the address of a member whose daemon does not run."""
     with socket.socket(socket.AF_INET, socket.SOCK_DGRAM) as hearer:
         hearer.bind((address, frames.PORT))
         hearer.settimeout(SECONDS_TO_ANSWER)
@@ -127,7 +134,10 @@ def heard_at(address):
 
 
 def renewals(program, folder):
-    """From the turn of a renewal to what is said of the kept lease, as the arbitrator hears it, which is silent."""
+    """Measures renewals, from the first message of a renewal (HrtB) to the update after the lease is written (UpdE).
+
+    This program receives both at the address of the arbitrator, whose daemon does not run.
+    """
     with made(program, folder, FEW) as cluster:
         cluster.start(0, 1)
         with heard_at(cluster.members[2].address) as hearer:
@@ -146,16 +156,16 @@ def renewals(program, folder):
 
 
 def renewal_rows(program, folder):
-    """Renewals on this disk, and on one whose syncs take longer, at the holder and at the voter."""
-    yield Row("a renewal, from its round to what is said of the kept lease", renewals(program, f"{folder}/quick"))
+    """Measures renewals on this disk, and on a disk whose syncs take longer, at the holder and at the voter."""
+    yield Row("a renewal, from its first message to the update after the write", renewals(program, f"{folder}/quick"))
     os.makedirs(f"{folder}/slow")
     slow = SlowDisk(f"{folder}/slow", program)
     slow.sync_takes(SLOW_SYNC)
-    yield Row(f"the same with syncs of {SLOW_SYNC * 1e3:.0f} ms", renewals(slow.program, f"{folder}/slow"))
+    yield Row(f"such a renewal, if a sync takes {SLOW_SYNC * 1e3:.0f} ms", renewals(slow.program, f"{folder}/slow"))
 
 
 class Site:
-    """A site that asks an arbitrator for votes, in rising terms."""
+    """A stand-in for a site: it asks an arbitrator for votes, with a greater term each time."""
 
     def __init__(self, own, voter, hearer):
         self.id = frames.member_id(own.address)
@@ -163,23 +173,24 @@ class Site:
         self.term = 0
 
     def ask(self):
+        """Asks for a vote in the next term."""
         self.term += 1
-        require(self.term < LAST_TERM, "the terms are spent")
+        require(self.term < LAST_TERM, "no greater term is left")
         body = frames.ticket_body(TICKET, self.id, self.term, 0)
         self.hearer.sendto(frames.request_now("RVot", 0, body, sender=self.id), self.voter)
 
     def vote(self):
-        """The term of the next vote that comes."""
+        """Waits for the next vote, and returns its term."""
         while True:
             came = self.hearer.recv(frames.FRAME_BYTES)
             head = frames.Head.read(came)
-            # (at its start a member asks for the ticket's state)
+            # (a member that starts first asks for the ticket's state)
             if head.cmd == frames.code("VtFr"):
                 return int.from_bytes(came[frames.HEAD_BYTES + 68 : frames.HEAD_BYTES + 72], "big")
             require(head.cmd == frames.code("Stat"), f"{head.cmd.to_bytes(4, 'big')} is no vote")
 
     def round(self):
-        """The seconds of a vote, of many that are asked for before the last is answered."""
+        """Returns how long a vote takes, in seconds, if several requests are open at the same time."""
         first, started = self.term, time.perf_counter()
         for _ in range(AT_ONCE):
             self.ask()
@@ -191,7 +202,7 @@ class Site:
 
 
 def vote_rows(program, keeps, folder):
-    """Votes of an arbitrator beside keeps of the host alone, in turns on one disk."""
+    """Compares the votes of an arbitrator with writes of the host alone. Their rounds alternate on one disk."""
     with made(program, f"{folder}/cluster", (TICKET,)) as cluster:
         own, _, voter = cluster.members
         with heard_at(own.address) as hearer:
@@ -202,14 +213,14 @@ def vote_rows(program, keeps, folder):
             rounds = [(site.round(), host_round(keeps, f"{folder}/alone")[0]) for _ in range(ROUNDS)]
             kept = (number(voter, TICKET) - before) / (ROUNDS * VOTES)
             vote, keep = map(min, zip(*rounds))
-            yield Row("keeps of a vote", f"{kept:.2f}")
-            yield Row("votes a second, at an arbitrator", f"{1 / vote:,.0f} (keeps alone: {1 / keep:,.0f})")
-            yield at_least("the same as a ratio to its keeps", keep / vote, f"{keep / vote:.2f}", 0.8)
+            yield Row("writes of a record per vote", f"{kept:.2f}")
+            yield Row("votes a second by an arbitrator", f"{1 / vote:,.0f} (writes alone: {1 / keep:,.0f})")
+            yield at_least("ratio of this speed to that of the writes alone", keep / vote, f"{keep / vote:.2f}", 0.8)
             yield restart_row(cluster, voter, site)
 
 
 def restart_row(cluster, voter, site):
-    """From the exec of a voter that was killed to its next vote."""
+    """Measures the time from the exec of a voter that was killed to its next vote."""
     took = []
     for _ in range(RESTARTS):
         voter.kill()
@@ -222,21 +233,21 @@ def restart_row(cluster, voter, site):
             finally:
                 process.kill()
     shown = f"{statistics.median(took) * 1e3:.1f} ms (lowest: {min(took) * 1e3:.1f} ms)"
-    return below("from the start of a voter to its next vote", statistics.median(took) * 1e3, shown, 10, "ms")
+    return below("from the start of a voter to its first vote", statistics.median(took) * 1e3, shown, 10, "ms")
 
 
 def answered(site):
-    """The moment of the next vote, which is asked for until it comes."""
+    """Asks until a vote comes, and returns the time at which it came."""
     first, end = site.term + 1, time.monotonic() + SECONDS_TO_ANSWER
     site.hearer.settimeout(0.0005)
     while time.monotonic() < end:
         site.ask()
-        # (those of terms before are of the process that was killed)
+        # (a vote of an earlier term was sent by the process that was killed)
         with contextlib.suppress(socket.timeout):
             while site.vote() < first:
                 pass
             return time.perf_counter()
-    raise NotServing("a voter that started gives no vote")
+    raise NotServing("a voter gives no vote after its start")
 
 
 def main(words):

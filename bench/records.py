@@ -1,10 +1,10 @@
 #!/usr/bin/env python3
 """Measures writes of records by the real host, compared with a bare loop in C, and a start with many record files.
 
-Run it as `python3 bench/records.py [TRIALS [BOOTHD]]`, the programs being what rt and `make build` leave if
-they are left out; without boothd nothing is said of starts. It prints one table, and has the status 1 if a
-mark is missed by more than a tenth. Host and loop take turns on one disk, in the folder for temporary files,
-and a speed is that of the best round: what else writes to the disk spoils most of them.
+Run it as `python3 bench/records.py [TRIALS [BOOTHD]]`. By default the programs are those that rt and `make build`
+leave. Without a boothd the bench measures no start. It prints one table. Its status is 1 if a mark is missed by more
+than a tenth. The rounds of host and loop alternate on one disk, in the folder for temporary files. A speed is that of
+the best round, since other programs that write to the disk slow most rounds down.
 """
 
 import os
@@ -30,18 +30,22 @@ STARTS, FILES = 40, 64
 
 
 def built(name, folder):
+    """Builds a program of this folder, and returns its path."""
     made = os.path.join(folder, name)
     subprocess.run(["cc", "-O2", "-o", made, f"{HERE}/{name}.c"], check=True)
     return made
 
 
 def cpu_of_children():
+    """Returns the CPU time of all ended child processes, in seconds."""
     used = resource.getrusage(resource.RUSAGE_CHILDREN)
     return used.ru_utime + used.ru_stime
 
 
 def host_round(program, directory):
-    """Returns the seconds of a write of a record, and its processor seconds, including the start."""
+    """Runs one round of the host's writes. Returns the time and the CPU time per write, in seconds, which include a
+    share of the program's start.
+    """
     before, started = cpu_of_children(), time.perf_counter()
     subprocess.run([program, "keeps", directory, str(KEEPS_A_ROUND)], stdout=subprocess.DEVNULL, check=True)
     took = time.perf_counter() - started
@@ -49,20 +53,22 @@ def host_round(program, directory):
 
 
 def loop_round(program, path):
+    """Runs one round of the loop in C. Returns the time and the CPU time per write, in seconds."""
     said = subprocess.run([program, path, str(KEEPS_A_ROUND)], stdout=subprocess.PIPE, check=True)
     return [float(number) / KEEPS_A_ROUND for number in said.stdout.split()]
 
 
 def keep_rows(program, folder):
+    """Compares the host's writes of a record with those of the loop in C."""
     loop, directory = built("keeps", folder), os.path.join(folder, "records")
     host_round(program, directory)
     rounds = [(host_round(program, directory), loop_round(loop, f"{folder}/bare")) for _ in range(ROUNDS)]
     (host, host_cpu), (bare, bare_cpu) = (map(min, zip(*each)) for each in zip(*rounds))
-    yield Row("keeps a second, in a stream", f"{1 / host:,.0f} (the same writes and syncs in C: {1 / bare:,.0f})")
-    yield at_least("the same as a ratio to C", bare / host, f"{bare / host:.2f}", 0.8)
+    yield Row("writes of a record a second, one after another", f"{1 / host:,.0f} (the same writes and syncs in C: {1 / bare:,.0f})")
+    yield at_least("ratio of this speed to that in C", bare / host, f"{bare / host:.2f}", 0.8)
     middle = statistics.median(loop[0] / keeps[0] for keeps, loop in rounds)
-    yield Row("the ratio in the middle of the rounds", f"{middle:.2f}")
-    yield Row("CPU a keep", f"{host_cpu * 1e6:.0f} µs (C: {bare_cpu * 1e6:.0f} µs)")
+    yield Row("median of this ratio over the rounds", f"{middle:.2f}")
+    yield Row("CPU time per write of a record", f"{host_cpu * 1e6:.0f} µs (C: {bare_cpu * 1e6:.0f} µs)")
 
 
 def record_file():
@@ -72,6 +78,7 @@ def record_file():
 
 
 def start_rows(program, folder):
+    """Measures the start of a daemon that has a record of each of 64 tickets."""
     tickets = [b"ticket-%02d" % number for number in range(FILES)]
     address = next(own_addresses())
     conf, directory = os.path.join(folder, "booth.conf"), os.path.join(folder, "kept")
@@ -91,7 +98,7 @@ def start_rows(program, folder):
     took = [int(subprocess.run(start, stdout=subprocess.PIPE, check=True).stdout.split()[0]) / 1e6 for _ in range(STARTS)]
     middle, lowest = statistics.median(took), min(took)
     shown = f"{middle:.1f} ms (lowest: {lowest:.1f} ms)"
-    yield below(f"start to first answer, {FILES} record files", middle, shown, 8, "ms")
+    yield below(f"from start to first answer, {FILES} record files", middle, shown, 8, "ms")
 
 
 def main(words):

@@ -1,5 +1,5 @@
-/* Stands before the C library: a socket gets no more room than a system gives whose limits were left as they are.
-   BOOTH_ROOM names that room in bytes; the system gives twice that. */
+/* Replaces setsockopt of the C library (LD_PRELOAD): a socket gets no more room than on a system with Linux's default
+   limits. BOOTH_ROOM is this room in bytes; the system gives twice as much. */
 #define _GNU_SOURCE
 #include <stdlib.h>
 #include <sys/socket.h>

@@ -1,11 +1,10 @@
 #!/usr/bin/env python3
-"""Measures the proved boothd on loopback, beside a bare echo and a counter of lines in C.
+"""Measures the proved boothd on loopback, and compares it with two programs in C: a bare echo and a counter of lines.
 
-Run it as `python3 bench/run.py [--quick] [PROGRAM]`, PROGRAM being what `make build` leaves if
-it is left out. It prints one table, and has the status 1 if a mark is missed by more than a
-tenth. It builds four programs in C with cc, needs Linux's /proc, and takes half a minute;
---quick takes some seconds. A speed is that of the best of many short rounds, since other work on
-the machine spoils some of them; for the same reason the lowest start may tell more than the median.
+Run it as `python3 bench/run.py [--quick] [PROGRAM]`. PROGRAM is a boothd, by default the one that `make build` leaves.
+The bench prints one table. Its status is 1 if a mark is missed by more than a tenth. It builds four programs in C with
+cc, needs Linux's /proc, and takes half a minute; --quick takes some seconds. Other work on the machine slows some
+rounds down. So a speed is that of the best of many short rounds, and a start has its lowest time beside the median.
 """
 
 import itertools
@@ -32,15 +31,15 @@ SITE, VOTER, STRANGER = "192.168.202.100", "192.168.203.100", "192.168.204.100"
 SEED = 9929
 NO_MEMBER = "10.0.0.1"
 
-# the texts that are parsed, with a ticket in each 4 KiB
+# the sizes of the parsed configurations, in bytes; each 4 KiB have one ticket
 SIZES = (1 << 20, 4 << 20, 16 << 20)
 
-# how often the process waited
+# the field of /proc/PID/status that counts how often the process waited
 WAKES = "voluntary_ctxt_switches"
 
 
 class Effort(NamedTuple):
-    """How much is measured."""
+    """The numbers of rounds, requests, starts and frames of a run."""
 
     rounds: int
     lists_a_round: int
@@ -55,7 +54,7 @@ QUICK = Effort(5, 5_000, 5, 50_000, 5, 1)
 
 
 class Bench:
-    """The programs, a folder for files, and an address for each of daemon and echo."""
+    """The programs, a folder for their files, and the addresses of the daemon and of the echo."""
 
     def __init__(self, program, folder, effort):
         self.program = program
@@ -67,17 +66,20 @@ class Bench:
         self.key_file = self.file("key", KEY)
 
     def built(self, name):
+        """Builds a program of this folder, and returns its path."""
         made = f"{self.folder}/{name}"
         subprocess.run(["cc", "-O2", "-o", made, f"{HERE}/{name}.c"], check=True)
         return made
 
     def file(self, name, content):
+        """Writes a file, and returns its path."""
         path = f"{self.folder}/{name}"
         with open(path, "wb") as file:
             file.write(content)
         return path
 
     def daemon(self, text, key=None):
+        """Returns a daemon with this configuration, in which `@` stands for its address."""
         text = text.replace(b"@", self.address.encode())
         if key:
             text += b"authfile = %s\n" % self.key_file.encode()
@@ -85,27 +87,28 @@ class Bench:
         return boothd(self.program, self.file("booth.conf", text), self.address, key=key, options=places)
 
     def said(self, *words):
-        """The numbers that a program in C prints, the first of them as seconds."""
+        """Runs a program in C. Returns the numbers that it prints, the first one in seconds."""
         ran = subprocess.run(words, stdout=subprocess.PIPE, check=True)
         took, *others = map(int, ran.stdout.split())
         return [took / 1e9, *others]
 
     def requests(self, key):
+        """Writes 1,000 requests for the list of tickets, and returns the file's path."""
         return self.file("requests", b"".join(request_now("CLst", n, key=key) for n in range(1000)))
 
     def lists(self, address, key=None):
-        """The seconds of one list."""
+        """Returns how long a list request takes, in seconds: the mean of a round."""
         count, path = self.effort.lists_a_round, self.requests(key)
         return self.said(self.asker, "lists", address, path, str(count))[0] / count
 
     def starts(self, text):
-        """The seconds from the start to the first answer, of each try."""
+        """Returns the time from a start to the first answer of each start, in seconds."""
         words, path = self.daemon(text).words, self.requests(None)
         start = [self.asker, "start", self.address, path, *words]
         return [self.said(*start)[0] for _ in range(self.effort.starts)]
 
     def peers(self, key):
-        """The eight counters and all frames let in, as the daemon tells them."""
+        """Asks the daemon for its peers. Returns its eight drop counters, and how many frames it accepted."""
         with socket.socket(socket.AF_INET, socket.SOCK_DGRAM) as asker:
             asker.settimeout(5)
             asker.connect((self.address, frames.PORT))
@@ -117,47 +120,52 @@ class Bench:
 
 
 def cpu_seconds(process):
-    """What the process has had of the processors."""
+    """Returns the CPU time of a process since its start, in seconds."""
     with open(f"/proc/{process.pid}/schedstat") as file:
         return int(file.read().split()[0]) / 1e9
 
 
 def status_field(process, name):
+    """Returns a number from /proc/PID/status; sizes are in kB."""
     with open(f"/proc/{process.pid}/status") as file:
         return next(int(line.split()[1]) for line in file if line.startswith(f"{name}:"))
 
 
 def lost_datagrams(address):
-    """How many datagrams the kernel had no room for at this address's socket."""
+    """Returns how many datagrams the kernel dropped at the sockets of an address, for lack of room."""
     place = "%08X:%04X" % (int.from_bytes(socket.inet_aton(address), "little"), frames.PORT)
     with open("/proc/net/udp") as file:
-        return next(int(line.split()[-1]) for line in file if line.split()[1] == place)
+        return sum(int(line.split()[-1]) for line in file if line.split()[1] == place)
 
 
 class Speeds:
-    """The rounds of one server."""
+    """The measured rounds of one server: the seconds per list request, and the CPU time of the server."""
 
     def __init__(self):
         self.seconds = []
         self.cpu = 0
 
     def round(self, bench, server, address, key=None):
+        """Measures one more round."""
         before = cpu_seconds(server.process)
         self.seconds.append(bench.lists(address, key))
         self.cpu += cpu_seconds(server.process) - before
 
     def lists_a_second(self):
+        """Returns the list requests per second in the best round."""
         return 1 / min(self.seconds)
 
     def micros(self, bench):
+        """Returns the server's CPU time per list request, in microseconds."""
         return self.cpu / len(self.seconds) / bench.effort.lists_a_round * 1e6
 
     def ratio_to(self, other):
+        """Returns the ratio of this server's speed to that of another one."""
         return self.lists_a_second() / other.lists_a_second()
 
 
 def speed_rows(bench):
-    """The echo and the daemons in turns, so that the machine's other work falls on all."""
+    """Measures list requests. The rounds of the echo and of the daemons alternate, so other work slows all down alike."""
     echoed, plain, keyed = Speeds(), Speeds(), Speeds()
     with Server([bench.echo, bench.echo_address], bench.echo_address) as echo:
         for _ in range(bench.effort.rounds):
@@ -167,39 +175,41 @@ def speed_rows(bench):
             with bench.daemon(one_ticket(), KEY) as daemon:
                 keyed.round(bench, daemon, bench.address, KEY)
     speed, echo_speed = plain.lists_a_second(), echoed.lists_a_second()
-    yield Row("lists a second, one asker", f"{speed:,.0f} (echo: {echo_speed:,.0f})")
+    yield Row("list requests a second, one client", f"{speed:,.0f} (echo: {echo_speed:,.0f})")
     ratio = plain.ratio_to(echoed)
-    yield at_least("the same as a ratio to the echo", ratio, f"{ratio:.2f}", 0.8)
-    yield Row("lists a second, with a key", f"{keyed.lists_a_second():,.0f}")
+    yield at_least("ratio of this speed to that of the echo", ratio, f"{ratio:.2f}", 0.8)
+    yield Row("list requests a second, with a key", f"{keyed.lists_a_second():,.0f}")
     ratio = keyed.ratio_to(plain)
-    yield at_least("the same as a ratio to those without", ratio, f"{ratio:.2f}", 0.75)
+    yield at_least("ratio of this speed to that without a key", ratio, f"{ratio:.2f}", 0.75)
     micros = plain.micros(bench)
     shown = f"{micros:.1f} µs (echo: {echoed.micros(bench):.1f} µs)"
-    yield below("daemon CPU a list", micros, shown, 12, "µs")
-    yield Row("daemon CPU a list, with a key", f"{keyed.micros(bench):.1f} µs")
+    yield below("daemon CPU time per list request", micros, shown, 12, "µs")
+    yield Row("daemon CPU time per list request, with a key", f"{keyed.micros(bench):.1f} µs")
 
 
 def full_rows(bench):
+    """Measures list requests and memory with 64 tickets."""
     with bench.daemon(many_tickets()) as daemon:
         full = Speeds()
         full.round(bench, daemon, bench.address)
         resident, peak = (status_field(daemon.process, name) for name in ("VmRSS", "VmHWM"))
-    yield Row("daemon CPU a list, 64 tickets", f"{full.micros(bench):.1f} µs")
-    for name, kilobytes in (("resident memory", resident), ("its peak", peak)):
+    yield Row("daemon CPU time per list request, 64 tickets", f"{full.micros(bench):.1f} µs")
+    for name, kilobytes in (("resident memory", resident), ("peak memory", peak)):
         shown, part = f"{kilobytes:,} kB", kilobytes * 1024 / 4_000_000
         yield Row(f"{name}, 64 tickets", shown, "below 4 MB", part)
 
 
 def start_rows(bench):
+    """Measures starts with 1 ticket and with 64."""
     for name, text in (("1 ticket", one_ticket()), ("64 tickets", many_tickets())):
         took = bench.starts(text)
         millis, lowest = statistics.median(took) * 1e3, min(took) * 1e3
         shown = f"{millis:.1f} ms (lowest: {lowest:.1f} ms)"
-        yield below(f"start to first answer, {name}", millis, shown, 5, "ms")
+        yield below(f"from start to first answer, {name}", millis, shown, 5, "ms")
 
 
 def one_run(words):
-    """The seconds from exec to exit of a program, of which nothing is printed."""
+    """Runs a program without showing its output. Returns the time from exec to exit, in seconds."""
     null = [(os.POSIX_SPAWN_OPEN, 1, os.devnull, os.O_WRONLY, 0)]
     started = time.perf_counter()
     child = os.posix_spawn(words[0], words, os.environ, file_actions=null)
@@ -211,6 +221,7 @@ def one_run(words):
 
 
 def client_rows(bench):
+    """Measures `booth list`, if `booth` is built."""
     client = built_program("booth")
     if client is None:
         return
@@ -218,18 +229,18 @@ def client_rows(bench):
         words = [client, "list", "-c", f"{bench.folder}/booth.conf", "-s", bench.address]
         took = [one_run(words) for _ in range(10 * bench.effort.starts)]
     millis, lowest = statistics.median(took) * 1e3, min(took) * 1e3
-    yield below("booth list, exec to exit", millis, f"{millis:.2f} ms (lowest: {lowest:.2f} ms)", 1.5, "ms")
+    yield below("booth list, from exec to exit", millis, f"{millis:.2f} ms (lowest: {lowest:.2f} ms)", 1.5, "ms")
 
 
 def said(letters, sender, key, ticket=b"ticket-db8", leader=NO_ONE, **fields):
-    """A frame of the member with this address."""
+    """Returns a frame with this command from the member with the address `sender`."""
     leader = member_id(sender) if letters in ("RVot", "HrtB", "UpdE") else leader
     body = frames.ticket_body(ticket, leader, 7, 600)
     return request_now(letters, 0, body, key, sender=member_id(sender), **fields)
 
 
 def seeds_of_hostility():
-    """Frames of the kinds that the gate tells apart. The rest is made of them in bench/flood.c."""
+    """Yields a frame of each kind that the daemon's checks distinguish. bench/flood.c derives the others from them."""
     for letters in MEMBERS_SAY:
         yield said(letters, SITE, KEY)
         yield said(letters, SITE, None)
@@ -247,13 +258,14 @@ def seeds_of_hostility():
 
 
 def hostile_rows(bench):
+    """Sends hostile frames. Measures the daemon's counters, its memory, and its CPU time per frame."""
     count = bench.effort.hostile
     own = [said(letters, bench.address, KEY) for letters in MEMBERS_SAY]
     question = request_now("Peer", NO_ONE, key=KEY)
     path = bench.file("frames", question + b"".join([*own, *seeds_of_hostility()]))
     words = [bench.flood, "hostile", bench.address, path]
     with bench.daemon(one_ticket(), KEY) as daemon:
-        # (so that it has seen each kind before its memory is looked at)
+        # (the daemon gets each kind of frame once before its memory is read)
         _, first_answers = bench.said(*words, "10000", "1")
         drops, accepted = bench.peers(KEY)
         first, resident = sum(drops) + accepted, status_field(daemon.process, "VmRSS")
@@ -264,30 +276,31 @@ def hostile_rows(bench):
         drops, accepted = bench.peers(KEY)
         grown = status_field(daemon.process, "VmRSS") - resident
     counted = sum(drops) + accepted - first + answers
-    shown = f"{counted:,} (dropped {', '.join(f'{drop:,}' for drop in drops)}; {accepted:,} let in)"
+    shown = f"{counted:,} (dropped {', '.join(f'{drop:,}' for drop in drops)}; {accepted:,} accepted)"
     is_whole = first + first_answers == 10_000 and counted == count - lost
     due = f"all {count - lost:,}"
     yield Row("hostile frames that are counted or answered", shown, due, 0 if is_whole else 2)
     least = min(drops)
-    yield Row("the least of the eight counters", f"{least:,}", "above 0", 0 if least else 2)
-    yield Row("resident memory after them", f"{grown:+} kB", "as before", 2 if grown > 0 else 0)
+    yield Row("smallest of the eight drop counters", f"{least:,}", "above 0", 0 if least else 2)
+    yield Row("growth of resident memory through these frames", f"{grown:+} kB", "none", 2 if grown > 0 else 0)
     shown = f"{cpu / count * 1e6:.1f} µs ({count / seconds:,.0f} a second)"
-    yield Row("daemon CPU a hostile frame", shown)
+    yield Row("daemon CPU time per hostile frame", shown)
 
 
 def own_cpu(words):
-    """The seconds of CPU that a program which ends by itself takes."""
+    """Runs a program until it ends. Returns its CPU time in seconds."""
     process = subprocess.Popen(words, stdout=subprocess.DEVNULL, stderr=subprocess.PIPE)
     said = process.stderr.read()
     _, status, usage = os.wait4(process.pid, 0)
     process.returncode = exit_code(status)
-    if said not in (b"", b"boothd: %s is not a member\n" % NO_MEMBER.encode()):
+    # (a second line has the cause)
+    if said and not said.startswith(b"boothd: %s is not a member\n" % NO_MEMBER.encode()):
         raise NotServing(said.decode())
     return usage.ru_utime + usage.ru_stime
 
 
 def parse_rows(bench):
-    """Runs that end once the text is parsed, less those with a text of two lines."""
+    """Measures runs that end when the configuration is parsed, minus runs with a configuration of two lines."""
     texts = {size: bench.file(f"{size}.conf", long_text(size)) for size in SIZES}
     texts[0] = bench.file("0.conf", b"site = 10.0.0.2\nticket = t\n")
     parsed, counted = ({size: [] for size in texts} for _ in range(2))
@@ -297,26 +310,27 @@ def parse_rows(bench):
             counted[size].append(own_cpu([bench.lines, path]))
     took = {size: min(parsed[size]) - min(parsed[0]) for size in SIZES}
     shown = "; ".join(f"{took[size] * 1e3:.2f} ms" for size in SIZES)
-    yield Row("CPU of a parse of 1, 4, 16 MiB: 256, 1,024, 4,096 tickets with all keys", shown)
+    yield Row("CPU time to parse 1; 4; 16 MiB, 256 tickets with all keys in each MiB", shown)
     least, most = SIZES[0], SIZES[-1]
     lines = min(counted[most]) - min(counted[0])
     ratio = took[most] / lines
     shown = f"{ratio:.1f} (C: {lines * 1e3:.2f} ms)"
-    yield below("16 MiB, as a ratio to counting its lines in C", ratio, shown, 30, "")
+    yield below("ratio of 16 MiB to counting its lines in C", ratio, shown, 30, "")
     for size in SIZES[1:]:
         growth = took[size] / took[least] / (size / least)
-        name = f"growth of a parse from 1 to {size >> 20} MiB"
+        name = f"growth of the parsing time from 1 to {size >> 20} MiB"
         yield Row(name, f"{growth:.2f} times linear", "at most 1.3 times linear", growth / 1.3)
 
 
 def idle_rows(bench):
+    """Measures a daemon that receives nothing."""
     seconds = bench.effort.idle_seconds
     with bench.daemon(one_ticket()) as daemon:
         cpu, wakes = cpu_seconds(daemon.process), status_field(daemon.process, WAKES)
         time.sleep(seconds)
         cpu = cpu_seconds(daemon.process) - cpu
         wakes = status_field(daemon.process, WAKES) - wakes
-    yield Row(f"CPU and wake-ups in {seconds} s without requests", f"{cpu * 1e3:.1f} ms, {wakes}")
+    yield Row(f"CPU time and wake-ups in {seconds} s without requests", f"{cpu * 1e3:.1f} ms, {wakes}")
 
 
 def main(words):
@@ -336,7 +350,7 @@ def main(words):
             sys.exit(f"run.py: {why}")
         loads = f"a load of {load:.1f} before and {os.getloadavg()[0]:.1f} after"
         print(f"{time.strftime('%Y-%m-%d')}, {os.cpu_count()} processors with {loads}")
-        print(f"{effort.rounds} rounds of {effort.lists_a_round:,} lists, {effort.starts} starts\n")
+        print(f"{effort.rounds} rounds of {effort.lists_a_round:,} list requests, {effort.starts} starts\n")
         return print_table(rows)
 
 

@@ -1,9 +1,9 @@
 #!/usr/bin/env python3
-"""Measures `boothd sim`, compared with a bare loop in C that only draws the same random words.
+"""Measures `boothd sim`, and compares it with a bare loop in C that only draws the same random numbers.
 
-Run it as `python3 bench/simulation.py [PROGRAM]`, PROGRAM being the built boothd (out/boothd). It prints one table
-and takes half a minute. Both programs run in turns; a value is the processor's time of the best round, less that of
-a run of no events. Its status is 1 if a mark is missed by more than a tenth.
+Run it as `python3 bench/simulation.py [PROGRAM]`. PROGRAM is a boothd, by default out/boothd. It prints one table and
+takes half a minute. A value is the CPU time of the best round, minus the CPU time of a run without events. Its status
+is 1 if a mark is missed by more than a tenth.
 """
 
 import os
@@ -20,20 +20,22 @@ from serving import end_by_signals, exit_code
 
 ROUNDS = 5
 EVENTS = 100_000
-# (with thousands of tickets an event is long)
+# (with thousands of tickets an event takes long)
 EVENTS_OF_THOUSANDS = 4_000
 NUMBER = 7
 TICKETS = (1, 16, 64, 4_096)
-LEAST_EVENTS = 200_000  # a second, at one ticket
+# the mark: events per second, with one ticket
+LEAST_EVENTS = 200_000
 
 
 def cluster_of(tickets):
+    """Returns the configuration of two sites and an arbitrator with this number of tickets."""
     members = 'site="192.168.201.100"\nsite="192.168.202.100"\narbitrator="192.168.203.100"\n'
     return members + "".join(f'ticket="ticket-{place:04}"\n' for place in range(tickets))
 
 
 def used_by(words):
-    """Returns the processor seconds of a run, its peak memory in kB, and its output."""
+    """Runs a program. Returns its CPU time in seconds, its peak memory in kB, and its output."""
     with tempfile.TemporaryFile("w+") as said:
         child = subprocess.Popen(list(map(str, words)), stdout=said)
         _, status, used = os.wait4(child.pid, 0)
@@ -45,18 +47,20 @@ def used_by(words):
 
 
 def best_of(words_of, events):
-    """Returns the processor seconds of so many events, less those of a run without events."""
+    """Returns the CPU time of `events` events, in seconds, minus that of a run without events."""
     whole = min(used_by(words_of(events))[0] for _ in range(ROUNDS))
     idle = min(used_by(words_of(0))[0] for _ in range(ROUNDS))
     return max(whole - idle, 1e-6)
 
 
 def rows(program, words, folder):
+    """Measures the loop in C, and then the simulation with each number of tickets."""
+
     def loop(events):
         return [words, events, NUMBER]
 
     bare = best_of(loop, 100 * EVENTS) / (100 * EVENTS)
-    yield Row("an event's three words drawn in C, and nothing done", f"{bare * 1e9:.1f} ns")
+    yield Row("drawing the three random numbers of an event in C", f"{bare * 1e9:.1f} ns")
     for tickets in TICKETS:
         path = os.path.join(folder, f"cluster-{tickets}.conf")
         with open(path, "w", encoding="ascii") as file:
@@ -67,7 +71,7 @@ def rows(program, words, folder):
 
         events = EVENTS if tickets < 1_000 else EVENTS_OF_THOUSANDS
         each = best_of(simulation, events) / events
-        value = f"{1 / each:,.0f} ({each * 1e6:.2f} µs an event, {each / bare:,.0f} times the words)"
+        value = f"{1 / each:,.0f} ({each * 1e6:.2f} µs an event, {each / bare:,.0f} times the drawing)"
         name = f"events a second, {tickets:,} ticket{'s' * (tickets > 1)}"
         if tickets > 1:
             yield Row(name, value)

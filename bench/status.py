@@ -1,8 +1,8 @@
 #!/usr/bin/env python3
-"""Measures booth-status over three proved boothd on loopback that hold 64 tickets, from exec to exit.
+"""Measures booth-status from exec to exit, for a cluster of three proved boothd on loopback with 64 held tickets.
 
-Run it as `python3 bench/status.py [BOOTHD]`, BOOTHD being what `make build` leaves if it is left out. It prints
-one table, has the status 1 if the mark is missed by more than a tenth, and takes half a minute.
+Run it as `python3 bench/status.py [BOOTHD]`. BOOTHD is by default the one that `make build` leaves. It prints one table
+in half a minute. Its status is 1 if a mark is missed by more than a tenth.
 """
 
 import itertools
@@ -31,7 +31,7 @@ FORMS = (("the table", []), ("--brief", ["-b"]), ("--json", ["-j"]), ("--metrics
 
 
 def millis_of(words):
-    """Returns how long a run takes. The run must report no problem."""
+    """Runs booth-status, which must report no problem. Returns how long it takes, in milliseconds."""
     started = time.perf_counter()
     done = subprocess.run(words, stdin=subprocess.DEVNULL, stdout=subprocess.PIPE, check=False)
     took = time.perf_counter() - started
@@ -53,7 +53,7 @@ def hold_all(made):
 
 
 def rows(program, folder, key):
-    """Measures the time of each form of output, and the time of Python alone."""
+    """Measures each form of output, with a key or without."""
     addresses = list(itertools.islice(own_addresses(), 3))
     with Cluster(program, folder, addresses, tickets=MANY, key=key) as made:
         hold_all(made)
@@ -71,7 +71,7 @@ def main(words):
     if program is None:
         sys.exit("status.py: boothd is not built: run make build")
     took = [millis_of(["/usr/bin/python3", "-IS", "-c", ""]) for _ in range(TRIES)]
-    table = [Row("Python's start and end alone", f"{statistics.median(took):.0f} ms (lowest: {min(took):.0f} ms)")]
+    table = [Row("start and end of Python alone", f"{statistics.median(took):.0f} ms (lowest: {min(took):.0f} ms)")]
     try:
         for key in (None, KEY):
             with tempfile.TemporaryDirectory(prefix="booth-bench-") as folder:

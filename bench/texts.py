@@ -1,7 +1,4 @@
-"""The configurations for bench/run.py and other benches. @ stands for the daemon's address.
-
-It is imported by them, and not run by itself.
-"""
+"""The configurations for bench/run.py and other benches, which import this module. @ stands for the daemon's address."""
 
 MEMBERS = b"""site = "@"
 site = "192.168.202.100"
@@ -24,11 +21,12 @@ arbitrator-group = 'nobody'
 
 
 def one_ticket():
+    """Returns a configuration with one ticket."""
     return MEMBERS + b'ticket = "ticket-db8"\n'
 
 
 def many_tickets():
-    """Returns the largest number of tickets with the longest names, which have the longest reply."""
+    """Returns a configuration with 64 tickets, whose names have the greatest length, so that a list has full lines."""
     return MEMBERS + b"".join(b'ticket = "%02d%s"\n' % (n, b"-" * 61) for n in range(TICKETS))
 
 
@@ -51,7 +49,7 @@ ticket = "ticket-%02d"   # the number %d
 
 
 def long_text(size, address="192.168.201.100", key_file="/etc/booth/authkey"):
-    """Returns a text of this size. Each 4,096 bytes of it have one ticket with all keys; the rest is comments."""
+    """Returns a configuration of this size in bytes. Each 4,096 bytes have one ticket with all keys, and comments."""
     piece = 4_096
     made = bytearray(TOP.replace(b"/etc/booth/authkey", key_file.encode()) + MEMBERS.replace(b"@", address.encode()))
     for number in range(size // piece):

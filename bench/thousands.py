@@ -1,11 +1,12 @@
 #!/usr/bin/env python3
 """Measures three proved boothd on loopback with 4,096 tickets: starts, memory, lists, renewals, a takeover of all.
 
-Run it as `python3 bench/thousands.py [BOOTHD BOOTH [TICKETS]]`, the programs being what `make build` leaves if they
-are left out. It prints one table, has the status 1 if a mark is missed by more than a tenth, and takes four minutes.
-The members share this machine and its disk with each other and with what else it does.
+Run it as `python3 bench/thousands.py [BOOTHD BOOTH [TICKETS]]`. By default the programs are those that `make build`
+leaves. It prints one table in four minutes. Its status is 1 if a mark is missed by more than a tenth. All members run
+on this machine, and write to its disk.
 
-The bench counts the datagrams that the system drops at a socket, so a boothd without a backlog can be compared with it.
+The bench also counts the datagrams that the system drops at the sockets, to compare programs with and without a
+backlog.
 """
 
 import itertools
@@ -25,10 +26,10 @@ from serving import NotServing, boothd, built_program, end_by_signals, own_addre
 from texts import long_text
 
 TICKETS = 4_096
-# a lease of a minute, renewed each half of it
+# a lease of a minute, which is renewed every half minute
 TIMES = Times(expire=60, timeout=5, retries=3, renewal=30)
 STARTS, LISTS = 3, 1_000
-# how long what members tell each other after a start is left to end
+# how long the bench waits after a start, until the members have exchanged their states, in seconds
 SECONDS_TO_REST = 3
 MOST_TEXT = 16 << 20
 MEGABYTE = 1_000_000
@@ -37,12 +38,13 @@ ADDRESSES = own_addresses()
 
 
 def require(holds, what):
+    """Raises `NotServing` with this text if a condition is false."""
     if not holds:
         raise NotServing(what)
 
 
 def names(count, length=20):
-    """Returns names of so many bytes."""
+    """Returns `count` names of tickets, each of `length` bytes."""
     return [b"ticket-%06d-" % number + b"x" * (length - 14) for number in range(count)]
 
 
@@ -54,7 +56,7 @@ def held(member, tickets):
 
 
 def syncs_a_second(folder):
-    """Returns how many small writes with a sync the disk does in a second."""
+    """Returns how many small writes, each with a sync, the disk completes per second."""
     path, count = os.path.join(folder, "probe"), 0
     with open(path, "wb", buffering=0) as file:
         before = time.monotonic()
@@ -67,7 +69,7 @@ def syncs_a_second(folder):
 
 
 def one_list(words, path):
-    """Runs booth, which prints into this file. Returns the milliseconds that it takes, and the number of lines."""
+    """Runs booth with its output in a file. Returns how long it takes, in milliseconds, and the number of lines."""
     into = [(os.POSIX_SPAWN_OPEN, 1, path, os.O_WRONLY | os.O_CREAT | os.O_TRUNC, 0o600)]
     before = time.perf_counter()
     _, status = os.waitpid(os.posix_spawn(words[0], words, os.environ, file_actions=into), 0)
@@ -77,17 +79,18 @@ def one_list(words, path):
 
 
 def list_rows(member, count):
+    """Measures `booth list`, and counts the lists that have every ticket."""
     words = [member.client, "list", "-c", member.conf, "-s", member.address]
     runs = [one_list(words, os.path.join(member.folder, "list")) for _ in range(LISTS)]
     took = sorted(millis for millis, _ in runs)
     middle, late = statistics.median(took), took[len(took) * 99 // 100]
     shown = f"{middle:.1f} ms (lowest: {took[0]:.1f}; 99 of 100: {late:.1f})"
-    yield below(f"booth list of {count:,} tickets, exec to exit", middle, shown, 10, "ms")
-    yield all_of("of these whole", sum(lines == count for _, lines in runs), LISTS)
+    yield below(f"booth list of {count:,} tickets, from exec to exit", middle, shown, 10, "ms")
+    yield all_of("complete lists", sum(lines == count for _, lines in runs), LISTS)
 
 
 def start_row(cluster, place, count):
-    """Starts of a member with a record of each ticket."""
+    """Measures starts of a member that has a record of each ticket."""
     member, took = cluster.members[place], []
     for _ in range(STARTS):
         member.kill()
@@ -95,7 +98,7 @@ def start_row(cluster, place, count):
         cluster.start(place)
         took.append(time.monotonic() - before)
     shown = f"{statistics.median(took):.2f} s (lowest: {min(took):.2f} s)"
-    return Row(f"start with {count:,} records to the first answer", shown)
+    return Row(f"from start to first answer, {count:,} records", shown)
 
 
 def full_row(program, folder):
@@ -115,7 +118,7 @@ def full_row(program, folder):
 
 
 def grant_all(member, tickets):
-    """Grants each ticket, again if a grant fails. Returns how long it took until all tickets were held."""
+    """Grants each ticket, and repeats a grant that fails. Returns how long it took until all were held, in seconds."""
     before = time.monotonic()
     for _ in range(20):
         missing = [ticket for ticket in tickets if not held(member, [ticket])]
@@ -128,7 +131,7 @@ def grant_all(member, tickets):
 
 
 def renewal_rows(members, tickets):
-    """Measures the processor's share, and the ends of the leases, during a time in which all are renewed."""
+    """Measures the share of a processor of each member, and how many leases are renewed, in one `renewal-freq`."""
     one = members[0]
     first = [one.record(ticket).until for ticket in tickets]
     before = [cpu_seconds(member.server.process) for member in members]
@@ -138,8 +141,8 @@ def renewal_rows(members, tickets):
     renewed, share = sum(old != new for old, new in zip(first, last)), []
     for old, new in zip(before, after):
         share.append(f"{(new - old) / TIMES.renewal * 100:.1f} %")
-    yield Row(f"of a processor, renewals each {TIMES.renewal} s: holder; site; arbitrator", "; ".join(share))
-    yield Row(f"of these leases renewed in {TIMES.renewal} s", f"{renewed:,} of {len(tickets):,}")
+    yield Row(f"share of a processor, renewals each {TIMES.renewal} s: holder; site; arbitrator", "; ".join(share))
+    yield Row(f"leases renewed in these {TIMES.renewal} s", f"{renewed:,} of {len(tickets):,}")
 
 
 def takeover_rows(members, tickets):
@@ -153,18 +156,19 @@ def takeover_rows(members, tickets):
     require(wait_for(lambda: held(two, tickets) == len(tickets), 300), f"{held(two, tickets)} were taken over")
     took = now() - first
     spread = max(ends) - min(ends)
-    yield Row("leases end within", f"{spread:.1f} s")
+    yield Row("time between the first and the last end of a lease", f"{spread:.1f} s")
     mark = 10 + spread
-    yield Row("takeover of all after the first may be held", f"{took:.1f} s", f"below {mark:.1f} s", took / mark)
+    yield Row("from the first possible takeover to the last takeover", f"{took:.1f} s", f"below {mark:.1f} s", took / mark)
     lost = [lost_datagrams(member.address) - before for member, before in zip((two, voter), lost)]
-    yield Row("datagrams that the system dropped meanwhile, at the site; at the arbitrator", "; ".join(map(str, lost)))
+    yield Row("datagrams that the system dropped then: site; arbitrator", "; ".join(map(str, lost)))
 
 
 def measured(program, client, folder, count):
+    """Measures a cluster with `count` tickets, and then a member with the longest configuration."""
     tickets = names(count)
     addresses = list(itertools.islice(ADDRESSES, 3))
     syncs = syncs_a_second(folder)
-    yield Row("syncs of one file in a second; a round of all by the table", f"{syncs:,}; {6 * count / syncs:.1f} s")
+    yield Row("syncs of one file a second; a round of all tickets by SIZING.md", f"{syncs:,}; {6 * count / syncs:.1f} s")
     with Cluster(program, folder, addresses, times=TIMES, tickets=tickets, client=client) as made:
         made.remember()
         one = made.members[0]
@@ -172,15 +176,16 @@ def measured(program, client, folder, count):
         made.start(1, 2)
         time.sleep(SECONDS_TO_REST)
         yield from list_rows(one, count)
-        yield Row("grants of all, one after the other", f"{grant_all(one, tickets):.1f} s")
+        yield Row("time to grant all tickets, one after another", f"{grant_all(one, tickets):.1f} s")
         yield from renewal_rows(made.members, tickets)
         yield peak_row("peak memory of each member, names of 20 bytes", made.members)
         yield from takeover_rows(made.members, tickets)
-        yield peak_row("after the takeover", made.members[1:])
+        yield peak_row("peak memory after the takeover: site; arbitrator", made.members[1:])
     yield full_row(program, folder)
 
 
 def peak_row(name, members):
+    """Returns the row of the peak memory of each member."""
     peaks = [status_field(member.server.process, "VmHWM") * 1024 / MEGABYTE for member in members]
     return below(name, max(peaks), "; ".join(f"{peak:.1f}" for peak in peaks) + " MB", 24, "MB")
 

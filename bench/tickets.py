@@ -1,9 +1,9 @@
 #!/usr/bin/env python3
 """Measures a cluster of three proved boothd on loopback: grants, renewals, idle time, takeovers.
 
-Run it as `python3 bench/tickets.py [PROGRAM]`, PROGRAM being what `make build` leaves if it is left
-out. It prints one table, has the status 1 if a mark is missed by more than a tenth, and takes two
-minutes. The members share this machine and its disk with each other and with what else it does.
+Run it as `python3 bench/tickets.py [PROGRAM]`. PROGRAM is a boothd, by default the one that `make build` leaves. It
+prints one table in two minutes. Its status is 1 if a mark is missed by more than a tenth. All members run on this
+machine, and write to its disk.
 """
 
 import itertools
@@ -33,46 +33,49 @@ ADDRESSES = own_addresses()
 
 
 def cluster(program, folder, **settings):
+    """Returns a cluster of three members at free addresses."""
     addresses = list(itertools.islice(ADDRESSES, 3))
     return Cluster(program, folder, addresses, **settings)
 
 
 def require(holds, what):
+    """Raises `NotServing` with this text if a condition is false."""
     if not holds:
         raise NotServing(what)
 
 
 def started(cluster):
-    """The first member of a cluster whose members vote from their start on."""
+    """Starts a cluster whose members vote from their start on, and returns its first member."""
     cluster.remember()
     cluster.start()
     return cluster.members[0]
 
 
 def held(member, tickets):
+    """Returns whether a member holds each of these tickets by its records."""
     records = (member.record(ticket) for ticket in tickets)
     return all(record is not None and record.holds(now()) for record in records)
 
 
 def grant_rows(program, folder):
-    """Measures a grant from the request to its reply, and to the record on disk, each after a revocation."""
+    """Measures a grant from the request to its reply, and to the record on disk. The ticket is revoked after each."""
     replies, records = [], []
     with cluster(program, folder) as made:
         one = started(made)
         for _ in range(TRIES):
             before = time.perf_counter()
-            require(one.about("CGnt") == "Asyn", "a grant is not begun")
+            require(one.about("CGnt") == "Asyn", "the site began no election after a grant")
             replies.append(time.perf_counter() - before)
-            require(wait_for(lambda: held(one, [TICKET]), 1), "a grant is not held")
+            require(wait_for(lambda: held(one, [TICKET]), 1), "the site did not get the granted ticket")
             records.append(time.perf_counter() - before)
             require(one.about("CRvk") == "ok", "a ticket is not revoked")
-    for name, took in (("reply", replies), ("kept record", records)):
+    for name, took in (("reply", replies), ("written record", records)):
         millis = statistics.median(took) * 1e3
-        yield Row(f"grant to {name}, three members", f"{millis:.1f} ms (lowest: {min(took) * 1e3:.1f} ms)")
+        yield Row(f"from grant to {name}, three members", f"{millis:.1f} ms (lowest: {min(took) * 1e3:.1f} ms)")
 
 
 def idle_seconds(member, seconds):
-    """Returns the CPU time of the member in so many seconds without a request."""
+    """Returns the CPU time of a member in `seconds` seconds without a request, in seconds."""
     before = cpu_seconds(member.server.process)
     time.sleep(seconds)
     return cpu_seconds(member.server.process) - before
@@ -91,10 +94,10 @@ def dropped_micros(member):
 
 
 def list_micros(member):
-    """Returns the CPU time of a list, in microseconds."""
+    """Returns the CPU time of a list request, in microseconds."""
     before = cpu_seconds(member.server.process)
     for _ in range(LISTS):
-        require(member.ask("CLst"), "a list is not answered")
+        require(member.ask("CLst"), "the daemon did not answer a request for the list")
     return (cpu_seconds(member.server.process) - before) / LISTS * 1e6
 
 
@@ -106,25 +109,25 @@ def held_rows(program, folder):
         with cluster(program, f"{folder}/{count}", tickets=tickets, times=times) as made:
             one = started(made)
             for ticket in tickets:
-                require(one.about("CGnt", ticket) in ("Asyn", "ok"), "a grant is not begun")
+                require(one.about("CGnt", ticket) in ("Asyn", "ok"), "the site began no election after a grant")
             require(wait_for(lambda: held(one, tickets), 5), "a ticket is not held")
             turns[count] = dropped_micros(one)
             if count == 1:
                 continue
-            yield Row("daemon CPU a list, 64 tickets held", f"{list_micros(one):.1f} µs")
+            yield Row("daemon CPU time per list request, 64 tickets held", f"{list_micros(one):.1f} µs")
             before = [one.record(ticket).until for ticket in tickets]
             cpu = idle_seconds(one, SECONDS)
             after = [one.record(ticket).until for ticket in tickets]
             renewals = sum(late != early for early, late in zip(before, after))
             require(renewals == len(tickets), f"{renewals} of 64 leases were renewed")
             rounds = SECONDS // times.renewal * len(tickets)
-            yield Row("holder's CPU a renewal, 64 tickets held", f"{cpu / rounds * 1e6:.0f} µs")
-            yield Row("holder's CPU a second", f"{cpu / SECONDS * 1e3:.2f} ms")
+            yield Row("holder's CPU time per renewal, 64 tickets held", f"{cpu / rounds * 1e6:.0f} µs")
+            yield Row("holder's CPU time per second, 64 tickets held", f"{cpu / SECONDS * 1e3:.2f} ms")
             peak = status_field(one.server.process, "VmHWM")
             yield Row("peak memory, 64 tickets held", f"{peak:,} kB", "below 4 MB", peak * 1024 / 4e6)
     ratio = turns[64] / turns[1]
     shown = f"{ratio:.2f} ({turns[1]:.1f} µs and {turns[64]:.1f} µs)"
-    yield below("a turn without a due deadline, 64 tickets to 1", ratio, shown, 1.2, "")
+    yield below("ratio of a turn with nothing due, 64 tickets to 1", ratio, shown, 1.2, "")
 
 
 def takeover_rows(program, folder):
@@ -133,8 +136,8 @@ def takeover_rows(program, folder):
     with cluster(program, folder, times=times) as made:
         one = started(made)
         two = made.members[1]
-        require(one.about("CGnt") == "Asyn", "a grant is not begun")
-        require(wait_for(lambda: held(one, [TICKET]), 2), "a grant is not held")
+        require(one.about("CGnt") == "Asyn", "the site began no election after a grant")
+        require(wait_for(lambda: held(one, [TICKET]), 2), "the site did not get the granted ticket")
         first = one.record().until
         require(wait_for(lambda: one.record().until != first, times.renewal + 2), "no renewal")
         renewed = one.record().until - times.expire

@@ -1,9 +1,9 @@
 #!/usr/bin/env python3
 """Measures the timer alone, compared with a binary heap in C, at 64, 4,096 and 1,000,000 slots.
 
-Run it as `python3 bench/timer.py [PROGRAM]`, PROGRAM being the built `trials`, which rt leaves at
-crates/trials/out/trials. It prints one table and takes half a minute. Both programs run the same words in turns; a
-value is the processor's time of the best round, less that of the best round that only sets the slots.
+Run it as `python3 bench/timer.py [PROGRAM]`. PROGRAM is the program `trials`, by default crates/trials/out/trials,
+where rt leaves it. It prints one table and takes half a minute. Both programs run with the same arguments, and their
+rounds alternate. A value is the CPU time of the best round, minus that of the best round that only sets the slots.
 """
 
 import os
@@ -23,16 +23,16 @@ PROGRAM = f"{TOP}/crates/trials/out/trials"
 SIZES = (64, 4_096, 1_000_000)
 ROUNDS = 7
 
-# the last moment before the far deadline's bucket, and how often each moment asks
+# the last millisecond before the bucket of the far deadline, and the questions in each millisecond
 UNTIL, ASKS = 65_407, 16
 
-# a lease of ten minutes is renewed after five
+# each slot is due again within this time, in milliseconds: a lease of ten minutes is renewed after five
 SPREAD = 300_000
 MOMENTS = {64: 300_000, 4_096: 300_000, 1_000_000: 3_000}
 
 
 def cpu_of(words):
-    """Returns the processor time of a run, in seconds, and the first number that it prints."""
+    """Runs a program. Returns its CPU time in seconds, and the first number that it prints."""
     before = resource.getrusage(resource.RUSAGE_CHILDREN)
     said = subprocess.run(list(map(str, words)), stdout=subprocess.PIPE, check=True).stdout
     after = resource.getrusage(resource.RUSAGE_CHILDREN)
@@ -41,7 +41,9 @@ def cpu_of(words):
 
 
 def nanos(programs, whole, idle):
-    """Returns the nanoseconds of each program for `whole` less `idle`, and the number that all of them print."""
+    """Returns the CPU time of each program with the arguments `whole`, minus its time with `idle`, in nanoseconds, and
+    the number that all programs print.
+    """
     best, numbers = {}, set()
     for _ in range(ROUNDS):
         for program in programs:
@@ -56,18 +58,20 @@ def nanos(programs, whole, idle):
 
 
 def shown(buckets, heap, calls):
+    """Returns the nanoseconds per call of the timer and of the heap, as a text."""
     return f"{buckets / calls:,.0f} ns (heap: {heap / calls:,.0f} ns)"
 
 
 def rows(programs):
+    """Measures both programs with each number of slots."""
     for slots in SIZES:
         (buckets, heap), none = nanos(programs, ("ask", slots, UNTIL), ("ask", slots, 0))
         calls = none - ASKS
-        yield Row(f"an answer none, {slots:,} slots, all far away", shown(buckets, heap, calls))
+        yield Row(f"an answer 'nothing due', {slots:,} slots, all far away", shown(buckets, heap, calls))
         moments = MOMENTS[slots]
         (buckets, heap), due = nanos(programs, ("renew", slots, SPREAD, moments), ("renew", slots, SPREAD, 0))
         calls = moments + due
-        yield Row(f"a call, {slots:,} slots, each renewed in {SPREAD // 1000} s", shown(buckets, heap, calls))
+        yield Row(f"a call, {slots:,} slots, each due again within {SPREAD // 1000} s", shown(buckets, heap, calls))
 
 
 def main(words):

@@ -1,13 +1,16 @@
 #!/usr/bin/env python3
 """Counts the instructions of a turn in which nothing is due, at 1, 64 and 4,096 tickets, and of one in which all are.
 
-Run it as `python3 bench/turn.py [PROGRAM]`, PROGRAM being what `make build` leaves if it is left out. It needs
-valgrind, whose callgrind counts the daemon's own instructions, and takes some minutes. In a turn in which nothing is
-due an empty datagram is dropped; after every 50 datagrams a request for the list of members waits until they are read.
-A value is the cost of 10,000 more such turns. A turn in which all tickets are due is the first turn of a site whose
-records have a lease of each: it starts an election for each of them. Its instructions are those of three functions of
-booth_node: the search for the due tickets (`deadlines::drain`, with the timer's walk), the action of each, and its next
-deadline. Finally it measures the processor time of a start. The status is 1 if a mark is missed by more than a tenth.
+Run it as `python3 bench/turn.py [PROGRAM]`. PROGRAM is a boothd, by default the one that `make build` leaves. It needs
+valgrind, whose callgrind counts the daemon's own instructions, and takes some minutes. Its status is 1 if a mark is
+missed by more than a tenth.
+
+In a turn in which nothing is due the daemon drops an empty datagram. After every 50 datagrams the bench asks for the
+list of members, and waits for the answer, so that the daemon has read them all. A value is the cost of 10,000 more such
+turns. In a turn in which all tickets are due a site makes its first turn, and its records have a lease of each ticket:
+it starts an election for each. The counted instructions are those of three functions of booth_node: the search for the
+due tickets (`deadlines::drain`, with the timer's walk), the action of each ticket, and its next deadline. Finally the
+bench measures the CPU time of a start.
 """
 
 import os
@@ -35,10 +38,10 @@ from texts import MEMBERS
 FEW, MANY, EACH = 1_000, 11_000, 50
 TICKETS = (1, 64, 4_096)
 DUE = (64, 1_024, 4_096)
-# the functions of a turn in which tickets are due, as the program names them, the search first
+# the functions of a turn in which tickets are due, by their names in the program; the first one is the search
 WORK = ("booth_node::deadlines::drain", "booth_node::tickets::TicketTable::act", "booth_node::deadlines::set_deadline")
 STARTS = 5
-# (under callgrind a start whose thousands of tickets are due takes minutes)
+# (under callgrind a start with thousands of due tickets takes minutes)
 SECONDS_TO_COUNT, SECONDS_OF_LEASE = 400, 500
 # (under callgrind a start with thousands of tickets takes long)
 SECONDS_TO_START = 120
@@ -62,7 +65,7 @@ def ask(client):
 
 
 def instructions(program, tickets, turns):
-    """Returns the instructions of a daemon with so many tickets that drops so many datagrams."""
+    """Returns the instructions of a daemon that has `tickets` tickets and drops a datagram in each of `turns` turns."""
     address = next(ADDRESSES)
     with tempfile.TemporaryDirectory(prefix="booth-bench-") as folder:
         conf = os.path.join(folder, "booth.conf")
@@ -92,24 +95,25 @@ def instructions(program, tickets, turns):
 
 
 def a_turn(program, tickets):
+    """Returns the instructions of one turn in which nothing is due."""
     more = instructions(program, tickets, MANY) - instructions(program, tickets, FEW)
     return more / (MANY - FEW)
 
 
 class Counted(NamedTuple):
-    """Returns the instructions for the due tickets of a turn, and those of the search for them."""
+    """The instructions for all due tickets of a turn, and those of the search for them."""
 
     total: int
     search: int
 
 
 def names(count: int) -> List[bytes]:
-    """Returns the names of so many tickets."""
+    """Returns the names of `count` tickets."""
     return [b"ticket-%04d" % number for number in range(count)]
 
 
 def words_of(program: str, folder: str, tickets: int, record: bytes) -> List[str]:
-    """Returns the command of a daemon that makes one turn, with a record of each ticket."""
+    """Writes a record of each ticket. Returns the command of a daemon that makes one turn with them."""
     address, conf = next(ADDRESSES), os.path.join(folder, "booth.conf")
     with open(conf, "wb") as file:
         file.write(MEMBERS.replace(b"@", address.encode()))
@@ -144,9 +148,9 @@ def due_rows(program: str) -> Iterator[Row]:
     counts = "; ".join(f"{tickets:,}" for tickets in DUE)
     yield Row(f"instructions of a turn in which {counts} are due", "; ".join(f"{turn.total:,}" for turn in turns))
     parts = "; ".join(f"{turn.search / turn.total * 100:.0f} %" for turn in turns)
-    yield Row("the search for what is due, as a part of it", parts)
+    yield Row("share of the search for the due tickets", parts)
     ratio = turns[-1].total / turns[0].total
-    yield below(f"{DUE[-1]:,} due to {DUE[0]}", ratio, f"{ratio:.0f}", 80, "times")
+    yield below(f"ratio of {DUE[-1]:,} due tickets to {DUE[0]}", ratio, f"{ratio:.0f}", 80, "times")
 
 
 def start_rows(program: str) -> Iterator[Row]:
@@ -162,17 +166,17 @@ def start_rows(program: str) -> Iterator[Row]:
                     raise NotServing(f"the program ended with status {status}")
                 took.append((used.ru_utime + used.ru_stime) * 1000)
         shown = f"{statistics.median(took):.1f} ms (lowest: {min(took):.1f})"
-        name = f"processor time of a start, {tickets:,} tickets"
+        name = f"CPU time of a start, {tickets:,} tickets"
         yield below(name, statistics.median(took), shown, 80, "ms") if tickets == DUE[-1] else Row(name, shown)
 
 
 def quiet_rows(program: str) -> Iterator[Row]:
     """Measures a turn in which nothing is due."""
     counted = [a_turn(program, tickets) for tickets in TICKETS]
-    yield Row("instructions of a turn, 1; 64; 4,096 tickets", "; ".join(f"{count:,.0f}" for count in counted))
+    yield Row("instructions per turn with nothing due, 1; 64; 4,096 tickets", "; ".join(f"{count:,.0f}" for count in counted))
     for tickets, count in zip(TICKETS[1:], counted[1:]):
         ratio = count / counted[0]
-        yield below(f"{tickets:,} tickets to 1", ratio, f"{ratio:.3f}", 1.1, "")
+        yield below(f"ratio of {tickets:,} tickets to 1", ratio, f"{ratio:.3f}", 1.1, "")
 
 
 def main(words):

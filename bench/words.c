@@ -1,6 +1,7 @@
-/* Draws the words of a simulation's events and does nothing with them: what `boothd sim` cannot be faster than.
+/* Draws the random numbers of a simulation's events, and does nothing with them. `boothd sim` cannot be faster.
  *
- * PCG32 as it is defined: a state of 64 bits, a stream of which the increment is made, and a rotation of what is left. */
+ * The generator is PCG32: a state of 64 bits, an increment that is made from the number of a stream, and a rotation of
+ * the upper bits. */
 #include <inttypes.h>
 #include <stdint.h>
 #include <stdio.h>

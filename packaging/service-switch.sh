@@ -56,7 +56,7 @@ look_at_systemd() {
   fi
 }
 
-# Arms a timer of this name, which runs the switch after so many milliseconds. The timer has a time from now and times
+# Arms a timer of this name, which runs the switch after this many milliseconds. The timer has a time from now and times
 # from the start of systemd, because a daemon-reload restarts the time from now. The later times are for the case that
 # the first one falls into a reload and is lost.
 arm() {

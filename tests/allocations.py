@@ -1,12 +1,12 @@
 #!/usr/bin/env python3
 """Refuses each allocation of a daemon in turn, and compares the end of each run with a stored table.
 
-Run it as `python3 tests/allocations.py [TRIALS]`, TRIALS being the proved program that the gate leaves at
-crates/trials/out/trials. It runs `boothd daemon` over a host in memory that stores nothing (`trials play runs`), once
-for each allocation that the whole run makes, with that one refused. Each run must end as tests/allocations.txt says.
-The status is 1 if one does not, and 77 if there is no C compiler, so that nothing was checked.
+Run it as `python3 tests/allocations.py [TRIALS]`. TRIALS is by default crates/trials/out/trials, where the gate leaves
+the proved program. It runs `boothd daemon` over a host in memory that stores nothing (`trials play runs`), once for
+each allocation of the whole run, and refuses this allocation. Each run must end as tests/allocations.txt says. The
+status is 1 if one does not, and 77 if nothing was checked because there is no C compiler.
 
-The driver that plays the run allocates too, before the daemon's first allocation and behind its last one. So the table
+The driver that plays the run allocates too, before the daemon's first allocation and after its last one. So the table
 begins with the first allocation whose refusal ends the daemon, and ends with the last one.
 """
 
@@ -34,10 +34,11 @@ authfile = /k
 """
 KEY = b"secret-key"
 WORDS = ["daemon", "-c", "/etc/booth.conf", "-s", "192.168.201.100"]
-# nothing comes five times, and then the end: so a daemon that serves makes six turns, of which the last is the end
+# nothing arrives five times, and then the end arrives: so a daemon that serves makes six turns, the last one with the
+# end
 STEPS = 5
 
-# how a run of which an allocation was refused may end
+# the possible ends of a run in which one allocation was refused
 DRIVER, OUT_OF_MEMORY, SERVES, OTHER = "the driver's own", "out of memory", "serves", "other"
 
 

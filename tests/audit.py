@@ -1,13 +1,13 @@
 #!/usr/bin/env python3
 """Checks `boothd audit` with journals that real clusters wrote: whole, changed by line, cut, joined, and forged.
 
-Run it as `python3 tests/audit.py [--every-byte] [BOOTHD]`, by default what `make build` leaves. It takes half a minute,
-prints a line for each check, ends all that it started, and has the status 1 if a check failed. If boothd is not
-built, or has no auditor, only the rule by which changes are judged is checked, and the status is 77. With --every-byte
-journals are cut at each byte too, and not at three of each line alone, which takes two minutes more.
+Run it as `python3 tests/audit.py [--every-byte] [BOOTHD]`. BOOTHD is by default the one that `make build` leaves. It
+takes half a minute, prints a line for each check, ends all programs that it started, and has the status 1 if a check
+failed. If boothd is not built or has no command audit, only the rule about changes is checked, and the status is 77.
+Journals are cut at three bytes of each line. With --every-byte they are cut at each byte, which takes two minutes more.
 
-Which changes leave a journal is said by tests/journal_changes.py, with which line is named if none is left, and what
-an audit prints of one: it asks no auditor.
+tests/journal_changes.py has the rule about changes. Without an auditor it computes whether a changed journal is still
+valid, which line is named if it is not, and what an audit prints if it is.
 """
 
 import concurrent.futures
@@ -56,11 +56,11 @@ from shells import read, run
 NOTHING_CHECKED = 77
 SEED = 9929
 EVERY_BYTE = "--every-byte"
-# how many audits run at once, and how many digits of a line are changed, one at a time
+# the number of audits at the same time, and the digits of a line that are changed, one at a time
 AT_ONCE, DIGITS = 4, 4
 # one byte more than a file may have
 TOO_LARGE = 2**30 + 1
-# the line with which the first start of a journal of one ticket says what it read
+# the line in which the first start of a journal with one ticket has the answer to its read of the record
 FIRST_READ = 6
 # the sessions of the second site: its journal is rotated between them
 SESSIONS = 3
@@ -69,7 +69,8 @@ SESSIONS = 3
 BY_HAND = """\
 now 1000 open_10.0.0.1 ok kept_db8 none next quiet now 1100 next quiet now 1200
 now 1300 open_10.0.0.1 ok kept_db8 none next quiet now 1400"""
-# of each kind of change the lines whose change leaves a journal, and those whose change has a later call not demanded
+# for each kind of change: the lines after whose change the journal is still valid, and the lines after whose change a
+# later call is the one that the rules do not demand
 BY_HAND_DUE = (
     (journal_changes.left_out, {12, 14, 22, 24}, {8: 10}),
     (journal_changes.doubled, {1, 13, 15, 23}, {9: 12}),
@@ -95,7 +96,7 @@ def the_rule_is_as_by_hand():
 
 
 def good_journals(boothd, folder):
-    """The journals of members that live through a first start, a grant, renewals, a restart, and a revoke."""
+    """Returns the journals of members that live through a first start, a grant, renewals, a restart, and a revoke."""
     with cluster_in(boothd, folder) as (cluster, forward):
         one, two, _ = cluster.members
         cluster.start()
@@ -215,7 +216,7 @@ def rotated_files_are_joined(good):
 
 
 def audit_of(good, place, text):
-    """The audit's output for the journals with this one in place of another, and their paths."""
+    """Returns the audit's output for the journals, with this one in place of another, and their paths."""
     folder = os.path.join(good.folder, f"changed-{threading.get_ident()}")
     os.makedirs(folder, exist_ok=True)
     paths = [*good.paths]
@@ -226,7 +227,7 @@ def audit_of(good, place, text):
 
 
 def whole_due(good, place, text):
-    """The due result of an audit if each of the journals is whole: a fault, or the printed lines."""
+    """Returns the expected result of an audit in which each journal is whole: a fault, or the printed lines."""
     texts = [*good.texts]
     texts[place] = text
     unsent = journal_changes.first_unsent(good.roster, texts)
@@ -242,7 +243,7 @@ def due_of(good, place, change):
 
 
 def fits(good, place, change, due, told):
-    """Whether the audit of a changed journal, which is a fault or the printed lines, is the due one."""
+    """Returns whether the audit of a changed journal has the expected result, which is a fault or the printed lines."""
     if isinstance(told, tuple) and told[0] == place and due.allows(*told[1:]):
         return True
     return due.may_pass and told == whole_due(good, place, change.text)
@@ -265,7 +266,7 @@ def count_of(outcomes):
 
 
 def judged_all(good, works, judge):
-    """The outcomes of all these changes, many at once."""
+    """Returns the outcomes of all these changes, several at the same time."""
     with concurrent.futures.ThreadPoolExecutor(AT_ONCE) as pool:
         outcomes = list(pool.map(functools.partial(judge, good), works))
     wrong = [why for _, why in outcomes if why is not None]
@@ -315,7 +316,7 @@ def each_digit_changed(good):
 
 
 def judge_cut(good, work):
-    """Returns the same of a journal that is cut."""
+    """Returns which journal was cut where, and what is wrong with the audit's result, or nothing."""
     place, size, due = work
     found, paths = audit_of(good, place, good.texts[place][:size])
     if found.told(paths) == due:
@@ -324,8 +325,8 @@ def judge_cut(good, work):
 
 
 def cuts_of(good, place, within):
-    """The places at which a journal is cut: within each line as this says, and after the last; each with the due
-    result.
+    """Returns the places at which a journal is cut: so many within each line, and one after the last; each with the
+    expected result.
     """
     size, due = 0, whole_due(good, place, b"")
     for line in good.texts[place].splitlines(keepends=True):
@@ -370,7 +371,7 @@ WRONG = (Misjudged, journal.Wrong, NotServing, OSError, LookupError, ValueError,
 
 
 def passes(check, *words):
-    """Whether a check passes, or is left out. Prints its line."""
+    """Runs a check, and prints its line. Returns whether it passed or was left out."""
     begun = time.monotonic()
     try:
         told = check(*words)
@@ -394,7 +395,7 @@ def in_folder():
 
 
 def checked_over_good(boothd, checks):
-    """The results of these checks over the journals of one cluster; or why there are no such journals."""
+    """Returns the results of these checks over the journals of one cluster, or why there are no such journals."""
     with in_folder() as folder:
         made = []
 

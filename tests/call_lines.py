@@ -1,10 +1,9 @@
-"""Reads the lines of stories, and writes them as the driver's player `runs` prints calls.
+"""Converts the lines of stories to calls in the form of the driver's player `runs`, and back.
 
-It is imported by the programs in tests/, and not run by itself. Its frames are those of tools/frames.py, so that what
-a story expects is spelled by nothing in crates/.
+It is imported by the programs in tests/, and not run by itself. Its frames are made by tools/frames.py, so the expected
+bytes of a story do not come from crates/.
 
-`S1`, `S2` and `AR` are the members of the configurations, and `client` is who asks. A frame stands in one of these
-forms:
+`S1`, `S2` and `AR` are the members of the configurations, and `client` is the client. A frame has one of these forms:
 
     SENDER COMMAND REQUEST OPTIONS REASON RESULT TICKET LEADER TERM SECONDS   a frame of a ticket
     SENDER COMMAND REQUEST OPTIONS REASON RESULT @ TICKET NAME VALUE          of an attribute; - is no NAME
@@ -12,9 +11,9 @@ forms:
     SENDER COMMAND REQUEST OPTIONS REASON RESULT                              without a body
     # HEX ..                                                                  all its bytes
 
-A record is its term, and then the term and the end of its lease if it has one. Behind `bound`, `promise` (to whom,
-the term and the end) and `abstain`, in this order, stands what it pledges. Behind `first` stands a record of version
-1.
+A record is its term, and then the term and the end of its lease if it has one. Its pledges follow, in this order:
+`bound` and the member that it voted for; `promise`, the member, the term and the end; `abstain` and the time until when
+it abstains. `first` precedes a record of version 1.
 """
 
 from typing import Dict, List, Optional, Tuple

@@ -1,22 +1,23 @@
 #!/usr/bin/env python3
 """Checks the lines that the built programs print about a refusal: the refusal and its cause.
 
-Run it as `python3 tests/causes.py [FOLDER [WORD]]`, FOLDER having the programs, which is out/ if it is left out;
-with WORD only the rows with it in their sentences run. It prints a line for each file of tests/rows/causes/, and
-has the status 1 if a row differs. If the programs are not built it checks nothing, with status 0.
+Run it as `python3 tests/causes.py [FOLDER [WORD]]`. FOLDER has the programs, and is out/ by default. With WORD only the
+rows run whose sentences have this word. It prints a line for each file of tests/rows/causes/, and has the status 1 if a
+row differs. If the programs are not built it checks nothing, with status 0.
 
-A file has groups of rows below a sentence, which begins with `* `. In a group:
+A file has groups of rows. A group begins with a sentence after `* `, and has these lines:
 
-    | TEXT                  a line of the configuration; if there is none, it is that of CONFIGURATION
-    key TEXT                what the key file has, with \\x7f and \\n for bytes
+    | TEXT                  a line of the configuration; without such a line the configuration is CONFIGURATION
+    key TEXT                the content of the key file, with \\x7f and \\n for bytes
     env NAME=VALUE          a variable of the environment
-    answer RESULT HOLDER N  what the member at {a} answers each request: its result, the holder that it names, or `-`,
-                            and for how many seconds
-    run PROGRAM WORDS       a run, as a shell reads it; `1 TEXT` below is its first line, without the name of the
-                            program, and `2 TEXT` the second; `2 -` is none. `0` below is a run that prints no error
+    answer RESULT HOLDER N  the answer of the member at {a} to each request: its result, the holder that it names or
+                            `-`, and the seconds that its lease has left
+    run PROGRAM WORDS       a run, as a shell reads it. Below it, `1 TEXT` is the first line that it must print, without
+                            the name of the program, `2 TEXT` is the second line, `2 -` means that there is none, and
+                            `0` means that the run prints no error
 
 {a}, {b} and {c} stand for addresses of this machine, {conf} and {key} for the paths of the files, {good} for a file
-with a key, and {folder} for the directory of all, which has the clock of a daemon.
+with a key, and {folder} for the directory with all these files and the clock of a daemon.
 """
 
 import glob

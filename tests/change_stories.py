@@ -26,7 +26,7 @@ def takes(cluster, name, tickets):
 
 
 def lists_it(member, ticket):
-    """Whether the member lists this ticket."""
+    """Returns whether the member lists this ticket."""
     return any(line.split(b" ")[0] == ticket for line in member.ask("CLst").body.splitlines())
 
 

@@ -16,7 +16,7 @@ from serving import built_program
 from status_runs import TOP, document, first_text, problems_of, require, require_same, run_apart, story
 
 ROOT = 0
-# of a file without faults; a key comes with each
+# the members of a file without faults; most stories add a key
 PLAIN = "site = 192.0.2.10\nsite = 198.51.100.10\narbitrator = 203.0.113.10\n"
 TICKET = "ticket = db8\n"
 
@@ -41,7 +41,7 @@ class Checked:
         os.chmod(f"{self.programs}/boothd", 0o755)
 
     def of(self, text, *words, programs=None):
-        """The JSON document of a check of this text."""
+        """Returns the JSON document of a check of this text."""
         with open(self.path, "w", encoding="ascii") as file:
             file.write(text)
         os.environ["PATH"], before = f"{programs or self.programs}:/usr/bin:/bin", os.environ["PATH"]
@@ -51,8 +51,8 @@ class Checked:
             os.environ["PATH"] = before
 
     def kinds(self, text, *words, **more):
-        """Severity, kind, and ticket or address of each problem, except those of a user that this machine does not
-        have.
+        """Returns the severity, the kind, and the ticket or address of each problem, except problems of a user that
+        this machine does not have.
         """
         told = self.of(text, *words, **more)
         found = {(severity, kind, ticket or member) for severity, kind, member, _, ticket in problems_of(told)}
@@ -97,7 +97,7 @@ def the_verdict_of_the_program(folder):
         ("expire = 60\nrenewal-freq = 60\n", f"{checked.path}: ticket db8: renewal-freq is not below expire"),
     ):
         told = checked.of(text + more, programs=real)
-        # (tests/causes.py looks at the cause behind it)
+        # (tests/causes.py checks the line with the cause)
         require_same((told["problems"][0]["kind"], first_text(told).partition("; ")[0]), ("refused", said))
     require_same(sorted(os.listdir(folder)), ["authkey", "checked.conf", "empty", "programs"])
 
@@ -138,7 +138,7 @@ def what_is_in_the_file(folder):
     ]
     for text, wanted in cases:
         require_same(checked.kinds(text), wanted, f"{text!r}: ")
-    # (those of 16 ms take 6.144 s, of 2.5 ms 0.96 s, and of 5.5 ms 2.112 s, where a lease runs on for 2 s)
+    # (at 16 ms a sync the renewals take 6.144 s, at 2.5 ms 0.96 s, and at 5.5 ms 2.112 s, while a lease has 2 s left)
     longer = many.replace("expire = 12", "expire = 14\nrenewal-freq = 12")
     too_long = ("critical", "syncs", "t0")
     restarts = {("warning", "restart", f"t{number}") for number in range(64)}
@@ -148,7 +148,9 @@ def what_is_in_the_file(folder):
 
 
 def owned_by_another(folder, checked):
-    """Whether the daemon's user may read the key, and who else may; here that user is one that every machine has."""
+    """Checks whether the daemon's user can read the key, and who else can. Here that user is one that every machine
+    has.
+    """
     user, other = pwd.getpwnam("nobody"), pwd.getpwnam("daemon")
     path = key_in(folder)
     before, key_file.DAEMON = key_file.DAEMON, user.pw_name
@@ -189,7 +191,7 @@ def the_file_of_the_key(folder):
     for content, mode, wanted in cases:
         path = key_in(folder, content, mode)
         if daemon and os.geteuid() == ROOT:
-            # (of a group that is not that user's)
+            # (the group is not that of the daemon's user)
             os.chown(path, daemon.pw_uid, ROOT)
         found = {(severity, kind) for severity, kind, _ in checked.kinds(f"{PLAIN}authfile = {path}\n{TICKET}")}
         require(found == wanted, f"{content} with mode {mode:o}: {found}")
@@ -198,7 +200,7 @@ def the_file_of_the_key(folder):
         require(found == {("critical", "key", None)}, f"{path}: {found}")
     told = problems_of(checked.of(f"{PLAIN}authfile = {key_in(folder)}\n{TICKET}"))
     owner = {(severity, kind) for severity, kind, *_ in told}
-    # (root's key is not for the user booth; where there is no such user, it cannot be told)
+    # (the user booth cannot read a key of root; without this user the check cannot know)
     due = ("critical", "key-owner") if daemon and os.geteuid() == ROOT else ("notice", "key-owner")
     require(owner == {due} or daemon and os.geteuid() != ROOT, f"{owner}")
 
@@ -236,7 +238,8 @@ def what_follows_a_ticket_here(folder):
     short = f"{text}expire = 69\nrenewal-freq = 60\n"
     late, enabled = ("warning", "restart", "db8"), ("warning", "enabled", "db8")
     unit = "/usr/share/booth-proved/follow-unit"
-    # the file's text, the follower's unit and its variables, which units the system starts, and what is told
+    # each row: the file's text, the follower's unit and its variables, the units that the system starts, and the
+    # problems
     cases = [
         (short, None, None, {}, {("notice", "restart", None)}),
         (short, "loaded inactive dead", None, {}, {late}),

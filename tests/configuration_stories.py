@@ -11,13 +11,13 @@ import refusals
 from status_runs import require, require_same, story
 
 MEMBERS = "site = 192.0.2.10\narbitrator = 192.0.2.11\n"
-# of a ticket without keys: expire, acquire-after, timeout, retries, renewal-freq, no handler
+# the values of a ticket without keys: expire, acquire-after, timeout, retries, renewal-freq, no handler
 TABLE = (600, 0, 5, 10, 300, None, ())
 FIRST, OLD = b"the-first-key", b"the-key-before"
 
 
 def read(folder, text):
-    """The configuration in this text, or the refusal without the file's name."""
+    """Returns the configuration in this text, or the refusal without the file's name."""
     path = os.path.join(folder, "read.conf")
     with open(path, "wb") as file:
         file.write(text if isinstance(text, bytes) else text.encode("latin-1"))
@@ -62,7 +62,7 @@ def defaults_are_inherited(folder):
     require(abs(promise - 616.203) < 1e-9, f"a promise of {promise} s")
 
 
-# which keys' values are looked at here: the others boothd alone judges
+# (this reader checks the values of these keys only; boothd alone judges the others)
 @story
 def keys_are_a_ring(folder):
     """the ring has the keys of the configuration's files, with its hash; without the first file there is no ring"""

@@ -1,16 +1,16 @@
 #!/usr/bin/env python3
 """A crowd of TCP peers that only occupy the places of a daemon, for tests/links.py.
 
-It is run as `python3 tests/crowds.py KIND ADDRESS COUNT` by the class `Crowd`, and goes on until it is ended. Each peer
-connects again as soon as the daemon has closed its connection. KIND is one of
+The class `Crowd` runs it as `python3 tests/crowds.py KIND ADDRESS COUNT`, and ends it. Each peer connects again as soon
+as the daemon has closed its connection. KIND is one of
 
-    slow     COUNT connections, each of which sends a byte a second of a frame that is never whole
-    heads    the same, but for the first 64 bytes of the frame, which are sent at once
-    garbage  COUNT connections, each of which sends a byte of garbage every 50 ms
-    silent   COUNT connections at most, opened as fast as that goes: the oldest is closed for a new one
-    brief    connections that are closed as soon as they are there; COUNT is not used
+    slow     COUNT connections; each sends a frame that never gets complete, one byte a second
+    heads    the same, but each connection sends the first 64 bytes of the frame at once
+    garbage  COUNT connections; each sends a byte of garbage every 50 ms
+    silent   at most COUNT connections, opened as fast as possible: the oldest one is closed for each new one
+    brief    connections that are closed as soon as they are open; COUNT is not used
 
-It prints a line once the first COUNT connections were opened.
+It prints a line when the first COUNT connections are open.
 """
 
 import contextlib
@@ -34,7 +34,7 @@ import frames
 SECONDS_BETWEEN_BYTES, SECONDS_BETWEEN_GARBAGE = 1.0, 0.05
 SECONDS_TO_GATHER, SAID_AT_ONCE = 20, 64
 SEED = 9929
-# a connection that is closed with this leaves nothing behind: the system would keep its port for a minute
+# with this option a closed connection leaves its port free at once; otherwise the system keeps the port for a minute
 AT_ONCE = struct.pack("ii", 1, 0)
 
 
@@ -74,7 +74,7 @@ class Senders:
         self.opener, self.count, self.pause, self.content, self.first = opener, count, pause, content, first
         self.ready = selectors.DefaultSelector()
         self.rest: Dict[socket.socket, bytes] = {}
-        # a place for each byte's moment, so that the connections do not send all at once
+        # for each connection the part of a second in which it sends, so that they do not all send at the same time
         self.wheel: List[List[socket.socket]] = [[] for _ in range(20)]
 
     def begin(self) -> None:
@@ -115,8 +115,7 @@ class Senders:
                 return
 
     def turn(self, place: int) -> None:
-        """Sends a byte of each connection at this place of the wheel, and listens to the others until the next place.
-        """
+        """Sends a byte on each connection whose time has come, and listens to the others until the next time."""
         self.wheel[place] = [peer for peer in self.wheel[place] if peer in self.rest]
         for peer in self.wheel[place]:
             self.send(peer)
@@ -133,7 +132,7 @@ class Senders:
 
 
 def silent(opener: Opener, count: int) -> Iterator[None]:
-    """Opens connections as fast as possible, and keeps the last ones open, up to this many."""
+    """Opens connections as fast as possible, and leaves the last ones open, up to this many."""
     kept: List[socket.socket] = []
     while True:
         peer = opener.connect()

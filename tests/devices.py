@@ -1,11 +1,11 @@
 #!/usr/bin/env python3
-"""Steps the wall clock of running daemons, silences their neighbours, and replaces their files by other things.
+"""Steps the wall clock of running daemons, silences their neighbours, and replaces their files by files of other kinds.
 
-Run it as `python3 tests/devices.py [BOOTHD [TRIALS]]`, by default what `make build` and the gate leave. It takes 40
-seconds at most, prints a line for each check, ends all that it started, and has the status 1 if a check failed. What
-this machine does not let it do, or has no program for, is left out with a line.
+Run it as `python3 tests/devices.py [BOOTHD [TRIALS]]`. By default the programs are those that `make build` and the gate
+leave. It takes 40 seconds at most, prints a line for each check, ends all programs that it started, and has the status
+1 if a check failed. It prints a line about each check that this machine does not allow, or has no program for.
 
-The wall clock is stepped for the daemons alone, by a function that stands before the C library's; the machine's stays.
+Only the daemons see the steps of the wall clock, by a library that replaces a function of the C library (LD_PRELOAD).
 """
 
 import contextlib
@@ -26,20 +26,21 @@ from serving import NotServing, built_program, end_by_signals, own_addresses
 
 RECORD = b"ticket-db8".hex() + ".rec"
 CLOCK = "booth.clock"
-# how long what ends by itself may take
+# the limit for a run that ends by itself, in seconds
 SECONDS_OF_A_RUN = 10
 TIMES = Times(expire=8, timeout=1, retries=3, renewal=5)
 HOUR_MS = 3_600_000
-# how far off the wall clock is, what is said of it, and how long the lease is looked at: beyond its end, but for the last
+# how far the wall clock is stepped, in seconds; the line that the daemon prints about it; and how long the lease is
+# watched, which is beyond its end except for the last step
 STEPS = (
     (-60, "ms behind the daemon's clock", TIMES.expire + 1),
     (30, "ms ahead of the daemon's clock", TIMES.expire + 1),
     (0, "agrees with the daemon's clock", 1),
 )
-# a network of its own, whose last numbers of silent members these are
+# a network of its own, with the last numbers of its silent members
 NET, SILENT = "10.99.0", range(3, 11)
 TICKETS, SECONDS_OF_SILENCE = 60, 8
-# the word of a run in a network of its own, and its status where it could not be had
+# the argument of a run in such a network, and its status if the network cannot be made
 WITHIN, NOT_CHECKED = "within", 77
 SHIFT = """
 #define _GNU_SOURCE
@@ -63,7 +64,7 @@ int clock_gettime(clockid_t clock, struct timespec *time)
 }
 """
 
-# puts a pipe in the place of the lock, once the lock was looked at
+# a library that puts a pipe in the place of the lock after the check of the lock
 SWAP = """
 #define _GNU_SOURCE
 #include <stdio.h>
@@ -97,7 +98,7 @@ def require(holds, why):
 
 
 def run_keeps(keeps, directory, count=0):
-    """The status of a run, its standard output and its standard error."""
+    """Returns the status of a run, its standard output and its standard error."""
     if keeps is None:
         raise LeftOut("trials is not built")
     how = {"stdin": subprocess.DEVNULL, "capture_output": True, "text": True, "timeout": SECONDS_OF_A_RUN}
@@ -106,11 +107,13 @@ def run_keeps(keeps, directory, count=0):
 
 
 def what_is_no_regular_file_is_refused(folder, keeps, **_):
-    """In the place of a record and of the clock file. A pipe that nobody writes to delays nothing."""
+    """A file of another kind in the place of a record or of the clock file is refused. A pipe to which nobody writes
+    delays nothing.
+    """
     directory, away = os.path.join(folder, "kinds"), os.path.join(folder, "away")
     require(run_keeps(keeps, directory, 1)[0] == 0, "a run in a new directory")
     makers = {"pipe": os.mkfifo, "directory": os.mkdir, "link": lambda path: os.symlink(away, path)}
-    for name, refusal in ((RECORD, "cannot read the record of ticket"), (CLOCK, "cannot tell the time of the records")):
+    for name, refusal in ((RECORD, "cannot read the record of ticket"), (CLOCK, "cannot read the clock of the records")):
         path = os.path.join(directory, name)
         os.rename(path, away)
         for kind, make in makers.items():
@@ -129,7 +132,8 @@ def number_at(clock, at):
 
 
 def a_boot_takes_the_wall_clock_anew(folder, keeps, **_):
-    """If the clock file is of another boot, and the wall clock is not behind the time that was reached."""
+    """In a new boot the daemon takes the wall clock, if it is not behind the time that the daemon had reached before.
+    """
     directory = os.path.join(folder, "boots")
     path = os.path.join(directory, CLOCK)
     require(run_keeps(keeps, directory)[0] == 0, "a run in a new directory")
@@ -156,13 +160,13 @@ def a_boot_takes_the_wall_clock_anew(folder, keeps, **_):
     require(anew[24:] == first[24:], "by the id of this boot")
     for name, clock in (("short", first[:59]), ("long", first + b"\0"), ("of another version", b"\1" + first[1:])):
         status, said, left = run_with(clock)
-        is_refused = status == 1 and "booth.clock keeps no clock" in said and left == clock
+        is_refused = status == 1 and "booth.clock has no valid content" in said and left == clock
         require(is_refused, f"a file that is {name}: {said}")
     return "its own boot keeps it, and a file that is no clock is refused and stays"
 
 
 def built_library(folder, name, text):
-    """A library of this source, whose functions replace those of the C library if LD_PRELOAD names it."""
+    """Returns a library of this source, whose functions replace those of the C library if LD_PRELOAD names it."""
     if shutil.which("cc") is None:
         raise LeftOut("there is no cc")
     source, library = (os.path.join(folder, f"{name}.{kind}") for kind in ("c", "so"))
@@ -173,7 +177,8 @@ def built_library(folder, name, text):
 
 
 def a_pipe_in_the_place_of_a_lock_holds_up_nobody(folder, boothd, **_):
-    """If a pipe takes the lock's place between the look at the lock and its opening. (As root a status hung forever.)
+    """A pipe that takes the lock's place between the check of the lock and its opening delays nobody. (As root, a
+    status command waited for ever.)
     """
     if boothd is None:
         raise LeftOut("boothd is not built")
@@ -192,7 +197,7 @@ def a_pipe_in_the_place_of_a_lock_holds_up_nobody(folder, boothd, **_):
 
 @contextlib.contextmanager
 def wall_clock(folder):
-    """A function that steps the wall clock of all programs that are started in the block."""
+    """Yields a function that steps the wall clock of all programs that are started in the block."""
     library, shift = built_library(folder, "shift", SHIFT), os.path.join(folder, "shift")
 
     def step(seconds):
@@ -209,12 +214,12 @@ def wall_clock(folder):
 
 
 def said_of(member, words):
-    """The lines of a member that have these words."""
+    """Returns the lines of a member that have these words."""
     return [line for line in member.printed().decode().splitlines() if words in line]
 
 
 def is_told(line, seconds):
-    """Whether a line reports this step, except for rounding."""
+    """Returns whether a line reports this step, except for rounding."""
     amount = re.search(r"is (\d+) ms", line)
     return abs(int(amount.group(1)) - 1000 * abs(seconds)) <= 2 if amount else seconds == 0
 
@@ -263,7 +268,8 @@ def ip(*words):
 
 
 def file_of_silent_members(folder):
-    """A file with a site, a live arbitrator, and silent members, with many tickets that nobody can be granted."""
+    """Returns a file with a site, a live arbitrator, and silent members, with many tickets that nobody can be granted.
+    """
     lines = [f'site = "{NET}.1"', f'arbitrator = "{NET}.2"', *(f'site = "{NET}.{last}"' for last in SILENT)]
     for number in range(TICKETS):
         lines += [f'ticket = "t{number}"', *TIMES.text().splitlines()]
@@ -275,7 +281,7 @@ def file_of_silent_members(folder):
 
 @contextlib.contextmanager
 def live_member(boothd, folder, path):
-    """The arbitrator, in its own network, with a cable to this one."""
+    """Yields the arbitrator, in its own network, with a cable to this one."""
     places = ["-l", f"{folder}/live.lock", "-d", f"{folder}/live"]
     words = [boothd, "daemon", "-c", path, "-s", f"{NET}.2", *places]
     # (it waits for its end of the cable)
@@ -326,7 +332,7 @@ def within_a_network(boothd, folder):
 
 
 def silent_neighbours_cost_a_live_one_nothing(folder, boothd, **_):
-    """On a network with one live member, whose other addresses do not answer."""
+    """On a network with one live member, the live member is served although the other addresses do not answer."""
     if boothd is None:
         raise LeftOut("boothd is not built")
     words = ["unshare", "-n", sys.executable, os.path.abspath(__file__), WITHIN, boothd, folder]
@@ -338,7 +344,7 @@ def silent_neighbours_cost_a_live_one_nothing(folder, boothd, **_):
 
 
 def run_within(boothd, folder):
-    """The status of a run in its own network."""
+    """Returns the status of a run in its own network."""
     try:
         print(within_a_network(boothd, folder))
         return 0

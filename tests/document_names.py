@@ -1,8 +1,8 @@
 """Checks files and titles in documents against the tree. It is imported by tests/names.py, and not run by itself.
 
-The index of decisions names each section of docs/decisions/ and no other. A table of docs/HEADLINE.md says how many
-lines a file has, and how many of them are definitions: those that are neither empty nor a comment nor an import. A row
-of docs/DEFINITIONS.md names files of its crate, in which each word in code stands.
+The index of decisions must name each section of docs/decisions/ and no other. A table of docs/HEADLINE.md has the
+number of lines of each file, and the number of its lines of definitions: these are not empty, no comments and no
+imports. Each word in code in a row of docs/DEFINITIONS.md must be in the files that the row names.
 """
 
 import glob
@@ -15,23 +15,23 @@ TITLE = re.compile(r"^### (.+)$", re.M)
 COUNTED = re.compile(r"^\| `(booth\w+/[\w/.]+)` \| (\d+) \|(?: (\d+) \|)?", re.M)
 DEFINED = re.compile(r"^\| (.+?) \| .+ \| (`.+`) \|$")
 IN_CODE = re.compile(r"`([^`]+)`")
-# what no definition begins with
+# a line of a definition begins with neither of these
 NO_DEFINITION = ("--", "use ")
 
 
 def read(path: str) -> str:
-    """The text of a file."""
+    """Returns the text of a file."""
     with open(path, encoding="utf-8") as file:
         return file.read()
 
 
 def anchor(title: str) -> str:
-    """The anchor of a heading."""
+    """Returns the anchor of a heading."""
     return re.sub(r"[^a-z0-9 -]", "", title.lower()).replace(" ", "-")
 
 
 def decisions(top: str) -> list[str]:
-    """The faults of the index of decisions, and of their titles."""
+    """Returns the faults of the index of decisions, and of their titles."""
     wrong, there, titles = [], set(), set()
     for path in sorted(glob.glob(f"{top}/docs/decisions/*.md")):
         text, name = read(path), os.path.basename(path)[: -len(".md")]
@@ -47,7 +47,7 @@ def decisions(top: str) -> list[str]:
 
 
 def counts(top: str) -> list[str]:
-    """The files for which docs/HEADLINE.md has a wrong number of lines or of definitions."""
+    """Returns the files for which docs/HEADLINE.md has a wrong number of lines or of definitions."""
     wrong = []
     rows = COUNTED.findall(read(f"{top}/docs/HEADLINE.md"))
     for name, lines, definitions in rows:
@@ -63,7 +63,7 @@ def counts(top: str) -> list[str]:
 
 
 def definitions(top: str) -> list[str]:
-    """The words of docs/DEFINITIONS.md that the files of their row do not have."""
+    """Returns the words of docs/DEFINITIONS.md that the files of their row do not have."""
     wrong, crate, rows = [], "", 0
     for line in read(f"{top}/docs/DEFINITIONS.md").splitlines():
         if line.startswith("## "):

@@ -13,20 +13,20 @@ from typing import Dict, Iterator, List, Set
 TOP = os.path.dirname(os.path.dirname(os.path.abspath(__file__)))
 MOST_LINES_OF_README = 100
 MOST_BYTES_OF_OPERATING = 20_000
-# folders of the build, and the one text whose old entries name what was there then
+# (the folders of builds; and the text with entries about earlier files)
 SKIPPED_FOLDERS = {"out", "__pycache__"}
-# the folders of the tree, beside which a checkout may have others
+# the folders of the tree; a checkout may have others too
 FOLDERS = [".ci", "bench", "crates", "docs", "examples", "man", "packaging", "tests", "tools"]
 OLD_TEXTS = {"packaging/changelog"}
 OPERATING = "docs/OPERATING.md"
 NAMED_FILE = re.compile(r"`([\w.][\w./-]*\.(?:md|py|rt|antt|rows|svg|sh|edit)|man/[\w.-]+\.[58])`")
-# a name that stands for others, as `tests/row_NAME.py`
+# a name with a variable part, such as `tests/row_NAME.py`
 PATTERN = re.compile(r"[A-Z]{4}[A-Z_]*\.(?!md)")
 BOLD, OPENING = re.compile(r"\*\*([^*]+)\*\*"), re.compile(r"^(\w+):", re.M)
-# how a manual page names a document
+# the name of a document in a manual page
 DOCUMENT_IN_PAGE = re.compile(r"\b[A-Z][A-Z-]+\.md\b")
 LINK = re.compile(r"\]\(([^)\s]+)\)")
-# a file and a section behind it, and the same of a page: `boothd(8)`, "LOG"
+# a file and one of its sections, and the same for a manual page: `boothd(8)`, "LOG"
 SECTION_OF_DOCUMENT = re.compile(r"`?((?:\.\./)*\b[\w./-]+\.md)`?,\s+\\?[\"“]([^\"\\]+)\\?\"")
 SECTION_IN_DOCUMENT = re.compile(r"\"([A-Z`][^\"]+)\"\s+in\s+`([\w./-]+\.md)`")
 SECTION_OF_PAGE = re.compile(r"`([\w.-]+)\((\d)\)`,\s+\"([A-Z ]+)\"")

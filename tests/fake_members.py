@@ -48,10 +48,10 @@ class FakeMember:
                 self.socket.sendto(answer, asker)
 
     def answers(self, request):
-        """The datagrams that are sent to the client that asks this."""
+        """Returns the datagrams that are sent to the client that asks this."""
         head = frames.Head.read(request)
         letters = next(each for each in self.texts if frames.code(each) == head.cmd)
-        # (a member takes what a client says only as the page has it)
+        # (a member accepts a client's request only in the form that docs/PROTOCOL.md has)
         assert request == frames.sealed(self.key, letters, request=head.request, secs=head.secs, usecs=head.usecs)
         lines = self.texts[letters]
         if lines is None:

@@ -30,10 +30,10 @@ from stories import PATIENCE, grants, passed
 
 TIMES = Times(expire=10)
 NAME = TICKET.decode()
-# how long a service writes before it is paused, and after it was let go
+# in seconds: how long a service writes before it is paused, and after it continues
 SECONDS_OF_WRITES = 2.0
 
-# what the store in examples/ is shown, in this order: the ticket, the term, and the status of its answer
+# the requests to the store of examples/, in this order: the ticket, the term, and the status of the answer
 SHOWN = [
     ("db8", "3", 200),
     ("db8", "3", 200),
@@ -129,7 +129,8 @@ class Scene:
 
 
 def pauses(scene: Scene, targets: List[str]) -> float:
-    """Pauses the holder until the other site writes, lets its service continue, and returns when the other one began.
+    """Pauses the holder until the other site writes, and then lets its service continue. Returns when the other site
+    began.
     """
     one, two = scene.one, scene.two
     service = scene.services.process(one)
@@ -139,7 +140,7 @@ def pauses(scene: Scene, targets: List[str]) -> float:
     need(scene.services.await_up(two, until - now() + PATIENCE), "the other site's service does not start")
     scene.await_writes(two, targets)
     os.killpg(service, signal.SIGCONT)
-    # (two answers of each: the first one may be to a write that was made before the pause)
+    # (it waits for two answers from each target: the first one may be about a write before the pause)
     scene.await_writes(one, targets, 3)
     scene.signal(one, signal.SIGCONT, None)
     need(scene.services.await_down(one, PATIENCE), "the old holder's follower does not end its service")
@@ -195,7 +196,7 @@ def judge(scene: Scene, target: str) -> None:
 
 @contextlib.contextmanager
 def scene_of(programs: List[str], folder: str, targets: Dict[str, str]) -> Iterator[Scene]:
-    """A cluster and its followers, whose services write to these targets."""
+    """Yields a cluster and its followers, whose services write to these targets."""
     words = " ".join(f"'{target}'" for target in targets.values())
     work = f'exec {sys.executable} {HERE}/fenced_writer.py "$0" {NAME} "answers.$0" {words.replace(chr(39), chr(34))}'
     with Cluster(programs[0], folder, own_addresses(), times=TIMES, client=programs[1]) as cluster:

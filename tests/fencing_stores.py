@@ -18,7 +18,7 @@ TOP = os.path.dirname(os.path.dirname(os.path.abspath(__file__)))
 STORE = f"{TOP}/examples/fenced_store.py"
 SQL = f"{TOP}/examples/fence.sql"
 SECONDS_OF_A_COMMAND = 60
-# both tables take the same rows, and one asks the fence
+# (both tables take the same rows, and only one of them uses the fence)
 TABLES = """
 CREATE TABLE plain (number serial, site text, count int);
 CREATE TABLE fenced (LIKE plain INCLUDING ALL);

@@ -23,7 +23,9 @@ TEXT = re.compile(rb"[ -~\n]{0,16384}")
 
 
 class Station(NamedTuple):
-    """A daemon: its address, the others in the file's order as (role, address), and so on."""
+    """A daemon: its address, the other members in the order of the file as (role, address), and what else decides its
+    answers.
+    """
 
     address: str
     others: tuple = (("site", "192.168.202.100"), ("arbitrator", "192.168.203.100"))
@@ -38,13 +40,13 @@ class Station(NamedTuple):
         return [self.address, *others] if self.is_site else others
 
     def member(self, number):
-        """The address of the member with this id, or None."""
+        """Returns the address of the member with this id, or None."""
         members = [self.address, *(address for _, address in self.others)]
         return next((address for address in members if member_id(address) == number), None)
 
 
 class Parts(NamedTuple):
-    """A frame that was read."""
+    """A frame, parsed."""
 
     letters: str
     head: Head
@@ -52,7 +54,7 @@ class Parts(NamedTuple):
 
 
 def split(datagram):
-    """The parts of a frame, or None if the datagram is not a frame."""
+    """Returns the parts of a frame, or None if the datagram is not a frame."""
     if not HEAD_BYTES <= len(datagram) <= frames.FRAME_BYTES:
         return None
     head = Head.read(datagram)
@@ -70,7 +72,7 @@ def split(datagram):
 
 
 def has_form(letters, body):
-    """Whether the bytes are a body of this command."""
+    """Returns whether the bytes are a body of this command."""
     kind = BODY_OF[letters]
     if kind == frames.BARE:
         return not body
@@ -85,7 +87,9 @@ def has_form(letters, body):
 
 
 def verdict(station, datagram, seconds):
-    """The number of the datagram's first fault, or its parts if it is accepted. `seconds` is the daemon's clock."""
+    """Returns the number of the datagram's first fault, or its parts if it is accepted. `seconds` is the daemon's
+    clock.
+    """
     parts = split(datagram)
     if parts is None:
         return FRAME
@@ -95,7 +99,7 @@ def verdict(station, datagram, seconds):
             return NOMAC
         before, part = datagram[:-AUTH_BYTES], datagram[-AUTH_BYTES:]
         hash_id = int.from_bytes(part[:4], "big")
-        # (of SHA-1 the last four bytes are not looked at)
+        # (a MAC by SHA-1 leaves the last four bytes unused)
         size = AUTH_BYTES if hash_id == 3 else AUTH_BYTES - 4
         if frames.auth_part(station.key, before, hash_id)[:size] != part[:size]:
             return BADMAC

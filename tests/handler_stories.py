@@ -11,7 +11,7 @@ from members import MANUAL, SECONDS_OF_BOOTH, Ran, now, wait_for
 from show_stories import shown_by
 from stories import BY_HAND, NAME, PATIENCE, grants, is_held_by, passed, require, says, slack, story
 
-# What a site's handler does: it notes each run and its descriptors, and then prints, sleeps or fails if a file says so.
+# the handler of a site: it records each run and its descriptors, and then prints, sleeps or fails if a file says so
 HANDLER = """#!/bin/sh
 cd {folder}
 echo "$BOOTH_TICKET $BOOTH_TICKET_EXPIRES $1" >> "ran.$BOOTH_LOCAL"
@@ -22,7 +22,7 @@ if [ -e "prints.$BOOTH_LOCAL" ]; then set -e; echo checking; echo checking >&2; 
 [ ! -e "fails.$BOOTH_LOCAL" ] || exit 3
 [ ! -e "sleeps.$BOOTH_LOCAL" ] || exec sleep "$(cat "sleeps.$BOOTH_LOCAL")"
 """
-# a daemon whose standard streams are closed, and one whose standard error is
+# a daemon whose standard streams are closed, and a daemon whose standard error is closed
 CLOSED = """#!/bin/sh
 exec {program} "$@" <&- >&- 2>&-
 """
@@ -39,7 +39,7 @@ def script(path, text):
 
 
 def handler_in(folder):
-    """The setting that names the handler, which is made in this folder."""
+    """Returns the setting that names the handler, which is made in this folder."""
     return f'before-acquire-handler = "{script(folder + "/check", HANDLER.format(folder=folder))} db8"\n'
 
 
@@ -64,11 +64,11 @@ class Handler:
         os.remove(self.path(name))
 
     def runs(self):
-        """What each of its runs was told: the ticket, the end of its lease, and its word."""
+        """Returns for each run of the handler the ticket, the end of the lease, and the last argument."""
         return [line.split() for line in self.read("ran").splitlines()]
 
     def terms(self):
-        """The terms that it was told before an acquisition, and those before a renewal."""
+        """Returns the terms that the handler got before an acquisition, and those before a renewal."""
         told = [line.split() for line in self.read("terms").splitlines()]
         return [term for end, term in told if end == "0"], [term for end, term in told if end != "0"]
 
@@ -77,7 +77,7 @@ class Handler:
 
 
 def answered_meanwhile(member, asker):
-    """Asks for the list until this run of booth is over. The longest that an answer took."""
+    """Asks for the list until this run of booth has ended. Returns the longest time of an answer."""
     longest, end = 0, time.monotonic() + SECONDS_OF_BOOTH
     while asker.poll() is None:
         asked = time.monotonic()
@@ -170,14 +170,15 @@ def a_handler_and_the_term_of_its_lease(cluster):
     grants(cluster, 0)
     first = shown_by(one)["term"]
     require(wait_for(lambda: handler.terms()[1], in_a_renewal), "no renewal started the handler")
+    # (on a loaded machine the first round may fail, and then the handler is asked again)
     acquired, renewed = handler.terms()
-    # (an acquisition may need a second election, and each has a run of the handler)
-    require(set(acquired) == {"0"} and renewed == [f"{first}"], f"the lease of term {first}, and told {handler.terms()}")
+    told = set(acquired) == {"0"} and renewed == [f"{first}"]
+    require(told, f"the lease of term {first}, and told {acquired}, {renewed}")
     passed("a handler is told the term 0 before an acquisition, and before a renewal the one that booth shows")
 
     one.kill()
     one.start(cluster.program, cluster.conf)
-    # (the first renewal of a daemon that was started again has a new term)
+    # (a daemon that was restarted renews first with a new term)
     shown = wait_for(lambda: (term := shown_by(one)["term"]) not in (None, first) and term, in_a_renewal)
     require(shown, "the lease has no new term")
     before = handler.terms()[1]
@@ -189,7 +190,8 @@ def a_handler_and_the_term_of_its_lease(cluster):
 
 
 def lists_by_hand(cluster, owner):
-    """Every member that runs lists this owner of the manual ticket, whose lease has no end, by booth."""
+    """Checks that `booth list` at every running member shows this owner of the manual ticket, and no end of its lease.
+    """
     address = owner.address if owner else "none"
     text = f"ticket: {NAME}, leader: none\nticket: {BY_HAND}, leader: {address}\n"
     for member in cluster.members:

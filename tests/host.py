@@ -27,7 +27,7 @@ HOUR = 3_600_000
 
 
 def mode(path: str) -> int:
-    """Returns who may do what with a file."""
+    """Returns the mode of a file: who may read, write and run it."""
     return os.stat(path).st_mode & 0o777
 
 
@@ -39,20 +39,20 @@ def content(path: str) -> bytes:
 
 @contextlib.contextmanager
 def opened(folder: str, records: str = "") -> Iterator[Host]:
-    """Gives a host without an address that keeps its records in this directory."""
+    """Yields a host without an address that stores its records in this directory."""
     with Host(folder) as host:
         require(host.open(records=records), "it is not opened")
         yield host
 
 
 def waited(host: Host) -> "tuple[str, float]":
-    """Returns what a wait of 100 ms gives, and how many milliseconds it takes."""
+    """Returns the result of a wait of 100 ms, and how many milliseconds it took."""
     started = time.monotonic()
     return host.next(100), (time.monotonic() - started) * 1000
 
 
 def a_next_waits_its_time(folder: str) -> None:
-    """Also if it fails. (The system's timer may be some milliseconds off.)"""
+    """`next` waits as long as it must, also if it fails. (The system's timer may be some milliseconds off.)"""
     with Host(folder) as host:
         answer, took = waited(host)
         require(answer == "failed" and took >= 80, f"unopened: {answer}, {took} ms")
@@ -62,7 +62,7 @@ def a_next_waits_its_time(folder: str) -> None:
 
 
 def a_file_is_read_whole(folder: str) -> None:
-    """One of no byte, of one piece and of more."""
+    """The host reads a file without bytes, a file of one piece and a file of several pieces."""
     with Host(folder) as host:
         for content in (b"", b'site="127.0.0.1"\n', b"x" * 4096 + b"y" + b"x" * 4902 + b"z"):
             with open(f"{folder}/file", "wb") as file:
@@ -71,7 +71,7 @@ def a_file_is_read_whole(folder: str) -> None:
 
 
 def no_other_file_is_read(folder: str) -> None:
-    """One that is too long, one that is missing, a directory and a device."""
+    """The host refuses a file that is too long, a missing file, a directory and a device."""
     with open(f"{folder}/long", "wb") as file:
         file.truncate((1 << 30) + 1)
     with Host(folder) as host:
@@ -80,7 +80,7 @@ def no_other_file_is_read(folder: str) -> None:
 
 
 def the_clock_tells_milliseconds_since_1970(folder: str) -> None:
-    """And runs."""
+    """The clock tells the milliseconds since 1970, and it runs."""
     with Host(folder) as host:
         system = int(time.time() * 1000)
         one = host.now()
@@ -92,7 +92,7 @@ def the_clock_tells_milliseconds_since_1970(folder: str) -> None:
 
 
 def a_kept_record_is_read_by_another_host(folder: str) -> None:
-    """With a lease and without."""
+    """A second host reads the record that a first one wrote, with a lease and without."""
     with opened(folder, "records") as host:
         require(host.kept() == "none", "nothing was kept")
     for record in (plain(7), plain(7, 1_600_000)):
@@ -103,7 +103,7 @@ def a_kept_record_is_read_by_another_host(folder: str) -> None:
 
 
 def a_commit_byte_before_no_record_is_a_failure(folder: str) -> None:
-    """Without it nothing is kept."""
+    """If a slot has a commit byte and no record, reading fails. Without the commit byte the slot counts as empty."""
     with opened(folder, "records") as host:
         for commit, answer in ((0, "none"), (1, "failed")):
             with open(f"{folder}/records/{FILE}", "wb") as file:
@@ -112,20 +112,22 @@ def a_commit_byte_before_no_record_is_a_failure(folder: str) -> None:
 
 
 def slot(number: int, version: int, term: int) -> bytes:
-    """Returns an open slot with a record of this version and term, and what stands behind it."""
+    """Returns an open slot with a record of this version and term, followed by these bytes."""
     fields = (number.to_bytes(8, "big"), version.to_bytes(4, "big"), term.to_bytes(4, "big"))
     return (b"\1" + bytes(7) + b"".join(fields)).ljust(64 if version == 1 else 128, b"\0")
 
 
 def the_next_record_goes_into_the_other_slot(folder: str) -> None:
-    """A file of 64 bytes is from before there were two slots. The next records go into those of version 2, in turn."""
+    """A file of 64 bytes is from a version with one slot. The next records go into the two slots of version 2,
+    alternately.
+    """
     with opened(folder, "records") as host:
         path = f"{folder}/records/{FILE}"
         with open(path, "wb") as file:
             file.write(slot(1, 1, 7))
         require(host.kept() == first(7), "the old record")
         old = slot(1, 1, 7).ljust(128, b"\0")
-        # (nothing is written behind the last record, which has 80 bytes with its number)
+        # (the file ends with the last record, which has 80 bytes with its number)
         second, third = slot(2, 2, 8), slot(3, 2, 9)[:80]
         for term, slots in ((8, second[:80]), (9, second + third), (10, slot(4, 2, 10) + third)):
             require(host.keep(plain(term)) and host.kept() == plain(term), f"term {term}")
@@ -133,7 +135,9 @@ def the_next_record_goes_into_the_other_slot(folder: str) -> None:
 
 
 def the_slot_of_the_next_record_is_closed_ahead(folder: str) -> None:
-    """By a call in which nothing comes, that may wait. All else of the file stays, and so does the record."""
+    """A call that may wait, and in which nothing arrives, closes the slot of the next record. The record and the rest
+    of the file are unchanged.
+    """
     path = f"{folder}/records/{FILE}"
     with Host(folder) as host, Host(folder) as other:
         peer = host.open_somewhere(LOOPBACK, "records")
@@ -149,7 +153,9 @@ def the_slot_of_the_next_record_is_closed_ahead(folder: str) -> None:
 
 
 def a_file_that_changed_is_not_prepared(folder: str) -> None:
-    """One that is gone is not made, and one that is torn stays as it is. The next keep of it has its answer."""
+    """A call that may wait does not make a file that is gone, and does not change a torn file. The next write of it
+    reports its own result.
+    """
     path, torn = f"{folder}/records/{FILE}", b"\1" + bytes(63)
     with opened(folder, "records") as host:
         require(host.keep(plain(8)) and host.keep(plain(9)), "it is not kept")
@@ -163,7 +169,7 @@ def a_file_that_changed_is_not_prepared(folder: str) -> None:
 
 
 def records_are_made_for_their_owner(folder: str) -> None:
-    """The directory, its lock and a record's file."""
+    """Only their owner can use the directory, its lock and a record's file."""
     with opened(folder, "records") as host:
         require(mode(f"{folder}/records") == 0o700, "the directory")
         require(mode(f"{folder}/records/booth.lock") == 0o600, "the lock")
@@ -172,7 +178,9 @@ def records_are_made_for_their_owner(folder: str) -> None:
 
 
 def a_directory_that_was_there_is_kept_in(folder: str) -> None:
-    """Its mode stays. (Whoever runs this as root may look anywhere.)"""
+    """The host uses a directory that exists, and leaves its mode unchanged. (Whoever runs this as root can read
+    everything.)
+    """
     os.makedirs(f"{folder}/above/records")
     os.chmod(f"{folder}/above/records", 0o755)
     os.chmod(f"{folder}/above", 0o311)
@@ -185,7 +193,7 @@ def a_directory_that_was_there_is_kept_in(folder: str) -> None:
 
 
 def a_record_that_has_no_place_is_a_failure(folder: str) -> None:
-    """Of a host that is not open, and of one without a directory."""
+    """A write fails if the host is not open, or has no directory."""
     with Host(folder) as host:
         require(not host.keep(plain(1)) and host.kept() == "failed", "it is not open")
     with opened(folder) as host:
@@ -193,7 +201,7 @@ def a_record_that_has_no_place_is_a_failure(folder: str) -> None:
 
 
 def a_directory_of_records_has_one_host(folder: str) -> None:
-    """Until that one ends; and it may be opened again."""
+    """A second host cannot open a directory of records until the first one ends. The first host may open it again."""
     with Host(folder) as second:
         with opened(folder, "records"):
             require(not second.open(records="records"), "two hosts")
@@ -202,7 +210,9 @@ def a_directory_of_records_has_one_host(folder: str) -> None:
 
 
 def a_directory_without_its_lock_file_has_one_host(folder: str) -> None:
-    """The file may be taken away, and another one made in its place, while a host has the directory."""
+    """A second host cannot open the directory even if the lock file is removed, and another one is made, while the
+    first host runs.
+    """
     with Host(folder) as second:
         with opened(folder, "records"):
             os.remove(f"{folder}/records/booth.lock")
@@ -212,7 +222,7 @@ def a_directory_without_its_lock_file_has_one_host(folder: str) -> None:
 
 
 def a_directory_that_cannot_be_is_not_opened(folder: str) -> None:
-    """A file in its place, and one in a directory that is missing."""
+    """The host refuses a directory if a file has its name, or if the directory above it is missing."""
     open(f"{folder}/file", "wb").close()
     with Host(folder) as host:
         for records in ("file", "missing/below"):
@@ -220,7 +230,9 @@ def a_directory_that_cannot_be_is_not_opened(folder: str) -> None:
 
 
 def a_lock_is_held_by_one_host(folder: str) -> None:
-    """Which may ask again. The file that is left behind is no lock."""
+    """A second host cannot take the lock. The first host may ask for it again. A lock file that is left over is no
+    lock.
+    """
     with Host(folder) as second:
         with Host(folder) as host:
             require(host.lock("lock") == "got" and mode(f"{folder}/lock") == 0o600, "the first")
@@ -230,14 +242,14 @@ def a_lock_is_held_by_one_host(folder: str) -> None:
 
 
 def a_lock_that_cannot_be_is_a_failure(folder: str) -> None:
-    """In a directory that is missing, and a second one of a host."""
+    """A lock fails if its directory is missing, and if the host holds another lock already."""
     with Host(folder) as host:
         require(host.lock("missing/lock") == "failed", "no directory")
         require(host.lock("one") == "got" and host.lock("other") == "failed", "one lock is held")
 
 
 def a_lock_is_of_a_regular_file(folder: str) -> None:
-    """To open a named pipe that nobody writes to would not end."""
+    """The host refuses a named pipe as a lock: opening one to which nobody writes would wait for ever."""
     os.mkfifo(f"{folder}/pipe")
     os.makedirs(f"{folder}/records/booth.lock")
     with Host(folder) as host:
@@ -247,7 +259,9 @@ def a_lock_is_of_a_regular_file(folder: str) -> None:
 
 
 def a_record_is_kept_in_a_regular_file(folder: str) -> None:
-    """A link to a file of zeros, which keeps no record if it is in the place itself, a pipe and a directory."""
+    """A link to a file of zeros, a pipe and a directory cannot be the file of a record; the same file in the place
+    itself can, and has no record.
+    """
     with opened(folder, "records") as host:
         path = f"{folder}/records/{FILE}"
         with open(f"{folder}/records/zeros", "wb") as file:
@@ -259,7 +273,7 @@ def a_record_is_kept_in_a_regular_file(folder: str) -> None:
 
 
 def kept_clock(folder: str) -> bytes:
-    """Returns what a directory keeps of its clock."""
+    """Returns the content of the clock file of a directory."""
     with open(f"{folder}/records/booth.clock", "rb") as file:
         kept = file.read()
     require(len(kept) == 60 and kept[:8] == (1).to_bytes(8, "big"), f"{len(kept)} bytes")
@@ -267,7 +281,7 @@ def kept_clock(folder: str) -> bytes:
 
 
 def is_opened(folder: str, kept: bytes) -> bool:
-    """Whether a host opens the directory with this clock."""
+    """Returns whether a host opens the directory with this clock."""
     with open(f"{folder}/records/booth.clock", "wb") as file:
         file.write(kept)
     with Host(folder) as host:
@@ -285,7 +299,9 @@ def number_at(kept: bytes, at: int) -> int:
 
 
 def a_clock_goes_on_in_its_boot_and_starts_again_in_another(folder: str) -> None:
-    """Its offset is at byte 8, and the reading that was reached at byte 16."""
+    """In the same boot the clock continues, and in another boot it starts again. Its file has the offset at byte 8, and
+    the latest reading at byte 16.
+    """
     with opened(folder, "records") as host:
         reading = host.now()
     clock = kept_clock(folder)
@@ -301,7 +317,9 @@ def a_clock_goes_on_in_its_boot_and_starts_again_in_another(folder: str) -> None
 
 
 def a_start_that_was_told_another_time_is_refused(folder: str) -> None:
-    """The directory's clock is a minute ahead of the wall clock, in the same boot."""
+    """A start fails if it was given another time: the directory's clock is a minute ahead of the wall clock, in the
+    same boot.
+    """
     with opened(folder, "records"):
         pass
     clock = kept_clock(folder)

@@ -10,7 +10,8 @@ from real_host import FILE, Host, Wrong, plain, require
 CONF = "/etc/booth/cluster-a.conf"
 # when a lease ends, in milliseconds since 1970
 UNTIL = 1_700_000_600_000
-# the words of a job's program, and the arguments and the term that it then has beside others of its ticket
+# the arguments of a job's program, and the arguments and the term that the program then gets together with others of
+# its ticket
 TERMS = [
     ("a renew 5 term=7", "a renew 5 7"),
     ("start term=4294967295", "start 4294967295"),
@@ -19,20 +20,20 @@ TERMS = [
     ("start term=7x", "start term=7x 0"),
     ("start", "start 0"),
 ]
-# a program that notes its process under its arguments, and runs on
+# a program that writes its process id to a file named by its arguments, and keeps running
 RUNS_ON = 'echo $$ >"new" && mv new "$*.pid"; exec sleep 30'
 
 
 @contextlib.contextmanager
 def opened(folder: str) -> Iterator[Host]:
-    """Gives a host that is open, without records, under a configuration of this name."""
+    """Yields an open host without records, with a configuration of this name."""
     with Host(folder) as host:
         require(host.open(conf=CONF), "it is not opened")
         yield host
 
 
 def over(host: Host) -> "tuple[int, int]":
-    """Returns the number and the status of the next job that is over, in ten seconds."""
+    """Returns the number and the status of the next job that ends, within ten seconds."""
     for _ in range(200):
         word, *given = host.next(50).split(" ")
         if word == "handler":
@@ -42,7 +43,7 @@ def over(host: Host) -> "tuple[int, int]":
 
 
 def status(folder: str, handler: str) -> int:
-    """Returns how a handler ends."""
+    """Runs a handler, and returns its status."""
     with opened(folder) as host:
         require(host.start(7, handler), "it is not started")
         number, ended = over(host)
@@ -69,20 +70,22 @@ def content(path: str) -> str:
 
 
 def a_program_that_refuses_has_another_status(folder: str) -> None:
-    """`cat` of a file that is there, and of one that is not."""
+    """`cat` has the status 0 for a file that exists, and another status for a missing file."""
     write(f"{folder}/service", "runs\n")
     require(status(folder, "/bin/cat service") == 0, "it runs")
     require(status(folder, "/bin/cat missing") == 1, "it refuses")
 
 
 def a_signal_counts_as_a_status(folder: str) -> None:
-    """255."""
+    """A program that a signal ends has the status 255."""
     write(f"{folder}/signal", "kill -TERM $$\n")
     require(status(folder, "/bin/sh signal") == 255, "another status")
 
 
 def programs_of_a_directory_run_until_one_refuses(folder: str) -> None:
-    """In the order of their names' bytes; names that begin with a dot are passed by."""
+    """The programs of a directory run in the order of their names' bytes, until one refuses. Names that begin with a
+    dot are skipped.
+    """
     os.mkdir(f"{folder}/programs")
     for name in ("b", "a", "B"):
         write_script(f"{folder}/programs/{name}", f"echo {name} $1 >> order\nexit 0")
@@ -95,14 +98,14 @@ def programs_of_a_directory_run_until_one_refuses(folder: str) -> None:
 
 
 def a_directory_without_programs_refuses_nothing(folder: str) -> None:
-    """One with a hidden file alone."""
+    """A directory that has only a hidden file refuses nothing."""
     os.mkdir(f"{folder}/programs")
     write(f"{folder}/programs/.hidden", "")
     require(status(folder, "programs") == 0, "another status")
 
 
 def a_program_knows_what_it_is_run_for(folder: str) -> None:
-    """Seven variables, the arguments, an empty standard input, and no other descriptor."""
+    """A program gets seven variables, its arguments, an empty standard input, and no other descriptor."""
     script = "env | grep '^BOOTH_' | sort > seen; echo $# $1 $2 >> seen; cat; ls /proc/self/fd | wc -l >> seen"
     write_script(f"{folder}/sees", script)
     require(status(folder, "sees\tone   two ") == 0, "another status")
@@ -115,7 +118,9 @@ def a_program_knows_what_it_is_run_for(folder: str) -> None:
 
 
 def a_program_knows_how_long_its_lease_runs(folder: str) -> None:
-    """By the clock of the host, when the program is started: in a directory the second has less than the first."""
+    """A program gets the time that its lease has left when the program starts, by the host's clock. In a directory the
+    second program gets less than the first.
+    """
     os.mkdir(f"{folder}/programs")
     for name in ("1", "2"):
         write_script(f"{folder}/programs/{name}", "echo $BOOTH_TICKET_LEFT >>left; sleep 0.3")
@@ -131,19 +136,21 @@ def a_program_knows_how_long_its_lease_runs(folder: str) -> None:
 
 
 def told_term(folder: str, host: Host, expires: int) -> int:
-    """Returns the term that a handler is told whose lease ends in this second."""
+    """Returns the term that a handler gets if its lease ends in this second."""
     require(host.start(1, "./tells", expires) and over(host) == (1, 0), "it is not run")
     return int(content(f"{folder}/term"))
 
 
 def check_terms(folder: str, host: Host, term: int, what: str) -> None:
-    """Checks that a handler is told this term before a renewal, and none before an acquisition."""
+    """Checks that a handler gets this term before a renewal, and none before an acquisition."""
     told = [told_term(folder, host, expires) for expires in (0, UNTIL // 1000)]
     require(told == [0, term], f"{what}: {told}")
 
 
 def a_program_has_the_term_of_the_lease_that_was_kept_last(folder: str) -> None:
-    """A lease counts though its record is not kept, and its end only once that is kept. No record has none."""
+    """A program gets the term of the last lease even if its record was not written, and the lease's end only if it was
+    written. Without a record it gets no term.
+    """
     write_script(f"{folder}/tells", "echo $BOOTH_TICKET_TERM >term")
     path = f"{folder}/records/{FILE}"
     with Host(folder) as host:
@@ -169,7 +176,7 @@ def a_program_has_the_term_of_the_lease_that_was_kept_last(folder: str) -> None:
 
 
 def process(folder: str, words: str) -> int:
-    """Returns the process of the program that was started with these arguments, once it has noted that."""
+    """Returns the process of the program that was started with these arguments, when it has written its id."""
     path = f"{folder}/{words}.pid"
     for _ in range(500):
         if os.path.exists(path):
@@ -179,7 +186,7 @@ def process(folder: str, words: str) -> int:
 
 
 def runs(process_id: int) -> bool:
-    """Returns whether a process runs. One that was ended is defunct until it is waited for."""
+    """Returns whether a process runs. An ended process is defunct until its parent waits for it."""
     try:
         with open(f"/proc/{process_id}/stat", "rb") as file:
             return file.read().rpartition(b")")[2].split()[0] not in (b"Z", b"X")
@@ -188,7 +195,7 @@ def runs(process_id: int) -> bool:
 
 
 def ends(process_id: int) -> bool:
-    """Returns whether a process ends in five seconds."""
+    """Returns whether a process ends within five seconds."""
     for _ in range(500):
         if not runs(process_id):
             return True
@@ -197,13 +204,15 @@ def ends(process_id: int) -> bool:
 
 
 def begun(folder: str, host: Host, number: int, words: str) -> int:
-    """Starts a program that runs on with these arguments, and returns its process."""
+    """Starts a program with these arguments that keeps running, and returns its process."""
     require(host.start(number, f"./program {words}"), f"{words} is not started")
     return process(folder, words)
 
 
 def a_program_of_a_word_runs_beside_another(folder: str) -> None:
-    """Each of the two ends a former one of its own kind. The word is the last one that is no number."""
+    """With `run_beside`, a program with the word runs at the same time as one without it, and each ends a former
+    program of its own kind. The word is the last argument that is no number.
+    """
     write_script(f"{folder}/program", RUNS_ON)
     with opened(folder) as host:
         host.run_beside()
@@ -220,7 +229,7 @@ def a_program_of_a_word_runs_beside_another(folder: str) -> None:
 
 
 def a_program_beside_others_has_the_term_of_its_lease(folder: str) -> None:
-    """A last word with a term is no argument then, and without `run_beside` it is one."""
+    """With `run_beside`, the term after the word is no argument of the program. Without it, it is one."""
     write_script(f"{folder}/program", 'echo "$* ${BOOTH_TICKET_TERM-none}" >said')
     with opened(folder) as host:
         require(host.start(1, "./program start term=7") and over(host) == (1, 0), "a handler")
@@ -232,7 +241,7 @@ def a_program_beside_others_has_the_term_of_its_lease(folder: str) -> None:
 
 
 def without_such_a_word_each_ends_the_one_before(folder: str) -> None:
-    """As a daemon's handlers do."""
+    """Without the word, each program ends the one before, as a daemon's handlers do."""
     write_script(f"{folder}/program", RUNS_ON)
     with opened(folder) as host:
         start = begun(folder, host, 1, "start")
@@ -242,7 +251,7 @@ def without_such_a_word_each_ends_the_one_before(folder: str) -> None:
 
 
 def a_program_is_not_waited_for(folder: str) -> None:
-    """Its ticket's next job ends it."""
+    """The host does not wait for a program: the ticket's next job ends it."""
     with opened(folder) as host:
         require(host.start(1, "/bin/sleep 30"), "it is not started")
         started = time.monotonic()
@@ -254,7 +263,7 @@ def a_program_is_not_waited_for(folder: str) -> None:
 
 
 def what_cannot_be_run_is_a_failure(folder: str) -> None:
-    """A program is never looked for in PATH."""
+    """A program that cannot be run is a failure. The host never looks for a program in PATH."""
     with Host(folder) as host:
         require(not host.start(1, "/bin/true"), "it is not open")
     write(f"{folder}/no-program", "exit 0\n")
@@ -264,7 +273,7 @@ def what_cannot_be_run_is_a_failure(folder: str) -> None:
 
 
 def a_later_program_that_cannot_be_run_ends_the_row(folder: str) -> None:
-    """With the status 255."""
+    """A later program that cannot be run ends the programs of a directory, with the status 255."""
     os.mkdir(f"{folder}/programs")
     write_script(f"{folder}/programs/1", "exit 0")
     write(f"{folder}/programs/2", "exit 0\n")

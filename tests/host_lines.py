@@ -9,7 +9,7 @@ from typing import Callable, Dict, Iterator, List, Tuple
 from host_handlers import content, over, write
 from real_host import Host, require
 
-# what systemd puts into a service's environment
+# the variables that systemd sets for a service
 OF_SYSTEMD = ("JOURNAL_STREAM", "NOTIFY_SOCKET", "WATCHDOG_USEC")
 NO_FILE = "No such file or directory (os error 2)"
 NO_DIRECTORY = "Not a directory (os error 20)"
@@ -19,13 +19,15 @@ UNRUN = f"cannot run the handler of ticket ticket-db8: {NO_FILE}\n"
 
 
 def surroundings(**variables: str) -> Dict[str, str]:
-    """Returns the environment with only these variables of systemd."""
+    """Returns the environment, with only these of systemd's variables."""
     others = {name: value for name, value in os.environ.items() if name not in OF_SYSTEMD}
     return {**others, **variables}
 
 
 def said(folder: str, journal: str) -> str:
-    """Returns the host's lines about a missing program and about some texts. `{}` stands for its standard error."""
+    """Returns the host's lines about a missing program and about several texts. `{}` in a text stands for its standard
+    error.
+    """
     path = f"{folder}/said"
     with open(path, "wb") as errors:
         own = os.fstat(errors.fileno())
@@ -40,7 +42,9 @@ def said(folder: str, journal: str) -> str:
 
 
 def a_line_begins_with_the_programs_name(folder: str) -> None:
-    """If the journal does not read the line: the variable is missing, or names another file."""
+    """A line begins with the program's name if the journal does not read it: the variable is missing, or names another
+    file.
+    """
     wanted = f"boothd: {UNRUN}{''.join(TEXTS)}"
     for journal in ("", "1:2", "{}0", "{}:", "{}:1", ":", "no journal", "x" * 500):
         got = said(folder, journal)
@@ -48,14 +52,14 @@ def a_line_begins_with_the_programs_name(folder: str) -> None:
 
 
 def a_line_for_the_journal_begins_with_its_priority(folder: str) -> None:
-    """Each line of a text has the priority, and no line has the program's name."""
+    """Each line of a text for the journal begins with the priority, and none with the program's name."""
     got = said(folder, "{}")
     lines = "<3>bad site\n<3>error: one\n<3>usage: two\n<3>ends without a line feed\n"
     require(got == f"<3>{UNRUN}{lines}", repr(got))
 
 
 def a_long_line_is_cut_for_the_journal_alone(folder: str) -> None:
-    """It is cut at 1,024 bytes, including its line end."""
+    """A line for the journal is cut at 1,024 bytes, including its line end. Another line is not cut."""
     path, text = f"{folder}/said", "x" * 120
     for is_journal in (False, True):
         with open(path, "wb") as errors:
@@ -81,7 +85,7 @@ class Manager:
         return self.socket.recv(4096).decode()
 
     def all_told(self) -> List[str]:
-        """Returns the notifications that arrived and were not read yet."""
+        """Returns the notifications that have arrived and are not read yet."""
         told = []
         self.socket.settimeout(0)
         with contextlib.suppress(BlockingIOError):
@@ -100,7 +104,9 @@ def manager(name: str) -> Iterator[Manager]:
 
 
 def the_service_manager_is_told(folder: str) -> None:
-    """By a socket that is a file, and by a socket with an abstract name; also with the longest path."""
+    """The host notifies the service manager by a socket that is a file, also with the longest path, and by a socket
+    with an abstract name.
+    """
     long = f"{folder}/{'m' * (107 - len(folder) - 1)}"
     for name, variable in ((f"{folder}/m", f"{folder}/m"), (long, long), (f"\0{folder}", f"@{folder}")):
         with manager(name) as systemd, Host(folder, surroundings(NOTIFY_SOCKET=variable)) as host:
@@ -111,7 +117,7 @@ def the_service_manager_is_told(folder: str) -> None:
 
 
 def nobody_is_told_without_a_socket(folder: str) -> None:
-    """And no line reports that."""
+    """Without a socket the host notifies nobody, and prints no line about it."""
     path = f"{folder}/said"
     with open(path, "wb") as errors, Host(folder, surroundings(), errors) as host:
         host.notify("READY=1")
@@ -120,7 +126,7 @@ def nobody_is_told_without_a_socket(folder: str) -> None:
 
 
 def turns_are_told_once_a_second(folder: str) -> None:
-    """Or twice within the time that the environment has, if that is more often."""
+    """The host reports each second that it is alive, or twice within the watchdog's time if that is more often."""
     for usec, often in (("", 1), ("60000000", 1), ("400000", 0.2)):
         with manager(f"{folder}/{usec}m") as systemd:
             names = {"NOTIFY_SOCKET": f"{folder}/{usec}m", **({"WATCHDOG_USEC": usec} if usec else {})}
@@ -134,7 +140,8 @@ def turns_are_told_once_a_second(folder: str) -> None:
 
 
 def a_service_manager_that_cannot_be_told_is_said_once(folder: str) -> None:
-    """A manager that ended, a socket of another kind, and a manager that reads nothing. The host never waits for them.
+    """The host prints one line if the manager ended, the socket is of another kind, or the manager reads nothing. The
+    host never waits for the manager.
     """
     rows = (
         (f"{folder}/gone", NO_FILE),
@@ -149,7 +156,7 @@ def a_service_manager_that_cannot_be_told_is_said_once(folder: str) -> None:
                 for _ in range(600):
                     host.notify("READY=1")
             got = content(path)
-            require(got == f"trials: cannot tell the service manager: {why}\n", f"{name}: {got!r}")
+            require(got == f"trials: cannot notify the service manager: {why}\n", f"{name}: {got!r}")
     require(time.monotonic() - started < 30, "it is waited for")
 
 
@@ -164,8 +171,8 @@ def a_program_has_no_socket_of_the_host(folder: str) -> None:
 
 
 def a_refusal_has_the_systems_words(folder: str) -> None:
-    """For files, locks, directories of records and sockets that cannot be opened. (192.0.2.1 is reserved for
-    documents.)
+    """A refusal has the system's words if a file, a lock, a directory of records or a socket cannot be opened.
+    (192.0.2.1 is reserved for documents.)
     """
     path = f"{folder}/said"
     os.mkfifo(f"{folder}/pipe")

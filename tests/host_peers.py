@@ -12,7 +12,7 @@ from real_host import (
 
 
 def a_host_without_an_address_reaches_both_families(folder: str) -> None:
-    """48 bytes go one way and 66 the other."""
+    """A host without an address sends 48 bytes to one family and receives 66 from it, and the same with the other."""
     with Host(folder) as client:
         require(client.open(), "it is not opened")
         for address in (LOOPBACK, LOOPBACK_6):
@@ -24,7 +24,7 @@ def a_host_without_an_address_reaches_both_families(folder: str) -> None:
 
 
 def a_port_is_opened_by_one_host(folder: str) -> None:
-    """The other one can send nothing."""
+    """A second host cannot open the port, and cannot send."""
     with Host(folder) as first, Host(folder) as second:
         at = first.open_somewhere(LOOPBACK)
         require(not second.open(at.address, at.port), "two hosts")
@@ -32,7 +32,7 @@ def a_port_is_opened_by_one_host(folder: str) -> None:
 
 
 def check_pair(one: Host, address: str, two: Host, other_address: str) -> None:
-    """Two members send to one another, each at the address that the other listens at."""
+    """Checks that two members send to one another, each at the address at which the other listens."""
     at_one, at_two = one.open_somewhere(address), two.open_somewhere(other_address)
     first = carried(one, two, at_two, b"\x51" * 48)
     require(first == carried(one, two, at_two, b"\x52" * 66), "from another port")
@@ -41,13 +41,15 @@ def check_pair(one: Host, address: str, two: Host, other_address: str) -> None:
 
 
 def members_of_both_families_reach_one_another(folder: str) -> None:
-    """A member on IPv4 and one on IPv6."""
+    """A member on IPv4 and one on IPv6 reach one another."""
     with Host(folder) as one, Host(folder) as two:
         check_pair(one, LOOPBACK, two, LOOPBACK_6)
 
 
 def a_member_that_moves_to_the_other_family_reaches_both(folder: str) -> None:
-    """A host sends by sockets of its own after it was opened again."""
+    """A host that is opened again at an address of the other family sends by its new sockets, and reaches members of
+    both families.
+    """
     with Host(folder) as one, Host(folder) as two:
         for address in (LOOPBACK, LOOPBACK_6):
             for other in (LOOPBACK, LOOPBACK_6):
@@ -55,19 +57,21 @@ def a_member_that_moves_to_the_other_family_reaches_both(folder: str) -> None:
 
 
 def check_quiet(host: Host, wait: int = 200) -> None:
-    """Nothing comes for so many milliseconds."""
+    """Checks that nothing arrives for this many milliseconds."""
     answer = host.next(wait)
     require(answer == "quiet", answer)
 
 
 def check_heard(host: Host, peer: Peer, content: bytes) -> None:
-    """These bytes of this peer come, and nothing before them."""
+    """Checks that these bytes of this peer arrive, and nothing before them."""
     came = host.heard()
     require((came.peer, came.content) == (peer, content), f"{came} in place of {content!r} from {peer}")
 
 
 def a_client_hears_the_peer_that_it_asked_alone(folder: str) -> None:
-    """And nobody at the same address with another port, or at another address with the same port."""
+    """A client receives only from the peer that it asked: not from the same address with another port, and not from
+    another address with the same port.
+    """
     with Host(folder) as client, Host(folder) as daemon, Host(folder) as neighbour, Host(folder) as other:
         require(client.open(), "it is not opened")
         at = daemon.open_somewhere(LOOPBACK)
@@ -81,7 +85,7 @@ def a_client_hears_the_peer_that_it_asked_alone(folder: str) -> None:
 
 
 def a_client_that_asks_another_peer_hears_that_one(folder: str) -> None:
-    """As if a revoke is redirected."""
+    """A client that asks another peer, as for a redirected revoke, receives from that peer."""
     with Host(folder) as client, Host(folder) as first:
         require(client.open(), "it is not opened")
         at_first = first.open_somewhere(LOOPBACK)
@@ -101,7 +105,7 @@ def a_client_that_asks_another_peer_hears_that_one(folder: str) -> None:
 
 
 def a_client_that_nobody_hears_is_quiet(folder: str) -> None:
-    """A daemon that is not there yet is no failure of a client's devices."""
+    """A client whose peer does not run yet reports no failure."""
     with Host(folder) as client:
         with Host(folder) as daemon:
             at = daemon.open_somewhere(LOOPBACK)
@@ -114,19 +118,21 @@ def a_client_that_nobody_hears_is_quiet(folder: str) -> None:
             require(daemon.open(at.address, at.port), "the daemon is not opened")
             where = carried(client, daemon, at, b"who has it?")
             require(daemon.send(where, b"nobody"), "it is not sent")
-            # (at once, or behind what the network told of an earlier request)
+            # (the answer arrives at once, or after an error of the network about an earlier request)
             if client.next(5000) == "quiet":
                 check_heard(client, at, b"nobody")
 
 
-# more than the system holds for a socket, and than the backlog has room for: what is behind that stays with the system
+# more datagrams than a socket and the backlog have room for: the rest stays with the system
 ROUNDS, EACH = 82, 200
-# longer ones, which have no more room after the 261st
+# longer datagrams: there is no room for them after the 261st
 LONG_ROUNDS, LONG_EACH, LONG_BYTES = 54, 5, 16_000
 
 
 def check_load(folder: str, rounds: int, each: int, size: int, turn: Callable[[Host, Peer], bool]) -> None:
-    """Sends so many rounds of so many datagrams to a member, which does this after each; all come in their order."""
+    """Sends datagrams to a member in rounds. The member does this after each round; all datagrams arrive in their
+    order.
+    """
     with Host(folder) as sender, Host(folder) as member:
         origin = sender.open_somewhere(LOOPBACK)
         at = member.open_somewhere(LOOPBACK, "records")
@@ -142,27 +148,27 @@ def check_load(folder: str, rounds: int, each: int, size: int, turn: Callable[[H
 
 
 def keep(member: Host, _origin: Peer) -> bool:
-    """Keeps a record."""
+    """Writes a record."""
     return member.keep(plain(1))
 
 
 def send_many(member: Host, origin: Peer) -> bool:
-    """Sends as often as it takes to look for what came."""
+    """Sends so many datagrams that the host reads some of them between the sends."""
     return all([member.send(origin, b"x") for _ in range(32)])
 
 
 def all_that_comes_between_keeps_is_given_in_order(folder: str) -> None:
-    """16,400 datagrams."""
+    """16,400 datagrams that arrive between writes are returned in their order."""
     check_load(folder, ROUNDS, EACH, 48, keep)
 
 
 def all_that_comes_between_sends_is_given_in_order(folder: str) -> None:
-    """16,400 datagrams."""
+    """16,400 datagrams that arrive between sends are returned in their order."""
     check_load(folder, ROUNDS, EACH, 48, send_many)
 
 
 def the_backlog_has_a_bound_in_bytes(folder: str) -> None:
-    """More bytes than the backlog has room for."""
+    """More bytes arrive than the backlog has room for."""
     check_load(folder, LONG_ROUNDS, LONG_EACH, LONG_BYTES, keep)
 
 
@@ -174,7 +180,7 @@ HALF_OF_THE_BACKLOG = 8_192
 
 @contextlib.contextmanager
 def three_members(folder: str) -> Iterator[Tuple[Host, Peer, Host, Host]]:
-    """Gives a host that keeps records, its place, and two hosts that it expects, at the same port."""
+    """Yields a host that stores records, its place, and two hosts that it expects, at the same port."""
     with Host(folder) as member, Host(folder) as other, Host(folder) as third:
         for address in (LOOPBACK, OTHER_LOOPBACK, THIRD_LOOPBACK):
             member.expect(address)
@@ -184,13 +190,13 @@ def three_members(folder: str) -> Iterator[Tuple[Host, Peer, Host, Host]]:
 
 
 def send_numbers(sender: Host, to: Peer, first: int, count: int) -> None:
-    """Sends so many numbers from this one on."""
+    """Sends this many numbers, beginning with this one."""
     for number in range(first, first + count):
         require(sender.send(to, number.to_bytes(4, "big")), f"{number} is not sent")
 
 
 def heard_numbers(member: Host) -> List[Tuple[str, int]]:
-    """Returns the numbers that come, each with the address of its sender, until none comes."""
+    """Returns the numbers that arrive until none arrives, each with the address of its sender."""
     found = []
     while True:
         word, *given = member.next(50).split(" ")
@@ -201,7 +207,9 @@ def heard_numbers(member: Host) -> List[Tuple[str, int]]:
 
 
 def a_flood_of_one_member_leaves_the_others_their_room(folder: str) -> None:
-    """It fills its part of the backlog, and what is over stays with the system. All that another one sends comes."""
+    """The flood of one member fills only its part of the backlog, and the rest of it stays in the system. All datagrams
+    of another member arrive.
+    """
     with three_members(folder) as (member, at, flooding, other):
         for turn in range(FLOOD_ROUNDS):
             send_numbers(flooding, at, turn * FLOOD_EACH, FLOOD_EACH)
@@ -220,7 +228,7 @@ def a_flood_of_one_member_leaves_the_others_their_room(folder: str) -> None:
 
 
 def a_stranger_waits_behind_what_members_sent(folder: str) -> None:
-    """What strangers sent is not taken in if each member has a socket, and is heard later."""
+    """If each member has a socket, the host reads a stranger's datagrams only after what members sent."""
     with three_members(folder) as (member, at, other, third), Host(folder) as stranger:
         stranger.open_somewhere(LOOPBACK)
         for sender in (stranger, other, third):
@@ -243,7 +251,7 @@ def checksum(content: bytes) -> bytes:
 
 
 def forge_error(kind: int, code: int, at: Peer, to: Peer) -> None:
-    """Tells a host that a datagram of its own could not be delivered. Only root can."""
+    """Tells a host that one of its datagrams could not be delivered. Only root can do this."""
     ends = [socket.inet_aton(peer.address) for peer in (at, to)]
     ip = struct.pack("!BBHHHBBH4s4s", 0x45, 0, 28, 0, 0, 64, socket.IPPROTO_UDP, 0, *ends)
     datagram = ip[:10] + checksum(ip) + ip[12:] + struct.pack("!HHHH", at.port, to.port, 8, 0)
@@ -254,7 +262,9 @@ def forge_error(kind: int, code: int, at: Peer, to: Peer) -> None:
 
 
 def a_forged_error_of_the_network_is_no_failure(folder: str) -> None:
-    """A member is heard after it, and `next` fails for none. (Nothing is checked unless this is root.)"""
+    """After a forged error the host still receives from the member, and `next` does not fail. (Only root can check
+    this.)
+    """
     with three_members(folder) as (member, at, other, _):
         for kind, code in NETWORK_ERRORS:
             try:

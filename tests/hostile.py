@@ -1,17 +1,16 @@
 #!/usr/bin/env python3
 """Floods a daemon that holds a ticket with 1,000,000 datagrams, and stops one for longer than its lease.
 
-Run it as `python3 tests/hostile.py [BOOTHD [DATAGRAMS]]`, by default the one that `make build` leaves.
-It takes less than a minute on an idle machine, prints a line for each check with what it measured,
-ends all that it started, and has the status 1 if a check failed. If boothd is not built it checks nothing, with
-status 0.
+Run it as `python3 tests/hostile.py [BOOTHD [DATAGRAMS]]`. BOOTHD is by default the one that `make build` leaves. It
+takes less than a minute on an idle machine, prints a line for each check with what it measured, ends all programs that
+it started, and has the status 1 if a check failed. If boothd is not built it checks nothing, with status 0.
 
-Each datagram has to be counted by its fault, counted for its member, or answered, as tests/gate.py reads
-docs/PROTOCOL.md: what was sent is compared with the daemon's counters and with its answers. Who holds the ticket is
-read from the record files and this machine's clock.
+The daemon must count each datagram by its fault, count it for its member, or answer it, as tests/gate.py computes from
+docs/PROTOCOL.md. The sent datagrams are compared with the daemon's counters and answers. The holder of the ticket is
+read from the record files, by this machine's clock.
 
-Behind it a second cluster writes journals in a shorter flood, which has nothing that would be heard as a member's: an
-auditor has to let these pass, and to name the first of those messages that nobody sent, where they come too.
+Afterwards a second cluster writes journals during a shorter flood without messages of members. An auditor must accept
+these journals. Then forged messages of a member arrive, and the auditor must name the first one.
 """
 
 import collections
@@ -39,29 +38,29 @@ from scratch import scratch
 from serving import NotServing, built_program, end_by_signals, own_addresses
 
 DATAGRAMS = 1_000_000
-# how many different ones there are: each is sent again and again, in another order each time
+# the number of different datagrams; each is sent several times, in a new order each time
 DIFFERENT = 50_000
-# how many a daemon meets that writes a journal, of how many different ones, and how many of those that members say
+# for a daemon that writes a journal: the number of datagrams, of different ones, and of those that come from members
 JOURNALED, DIFFERENT_JOURNALED, FORGED = 20_000, 5_000, 20
-# after how many the daemon's memory is looked at first: by then it has met each kind
+# the number of datagrams before the daemon's memory is read first: by then it has got each kind
 FIRST = 5_000
 SEED = 20_26
 KEY = b"a-key-of-the-cluster"
-# with room for a machine that others use: a renewal is begun half a lease before the lease's end
+# (others may use the machine: a renewal begins half a lease before the lease's end)
 TIMES = Times(expire=10, timeout=1, retries=3, renewal=5)
-# how late a thing may be on such a machine, in seconds
+# the additional time on a busy machine, in seconds
 SLACK = 10
-# how long the flood may take before the rest of it is left out
+# the longest time of the flood, in seconds; the rest of it is then left out
 SECONDS_OF_FLOOD = 90
-# the median time of a list in the flood: where the machine has a processor for it, and where it has not, up to a load
-# of two for each processor; beyond, it may grow as the load does
+# the limits for the median time of a list request in the flood, in seconds: if the machine has a free processor, and if
+# it has none, up to a load of two for each processor; beyond that it may grow with the load
 SECONDS_OF_LIST, SECONDS_OF_LIST_LOADED = 0.010, 0.100
-# how much the daemon's memory may grow after the first datagrams
+# how much the daemon's memory may grow after the first datagrams, in bytes
 BYTES_MORE = 1 << 20
 
 
 class Wrong(Exception):
-    """The daemon did not what it has to."""
+    """The daemon did something wrong."""
 
 
 def require(holds, why):
@@ -70,7 +69,7 @@ def require(holds, why):
 
 
 def receive_room():
-    """How many bytes of datagrams a socket keeps that nobody reads, as the system counts them."""
+    """Returns how many bytes of datagrams a socket holds that nobody reads, as the system counts them."""
     try:
         with open("/proc/sys/net/core/rmem_default", encoding="ascii") as file:
             return int(file.read())
@@ -79,23 +78,25 @@ def receive_room():
 
 
 def room_of(datagram):
-    """How many of them this one takes at most."""
+    """Returns how many of these bytes a datagram takes at most."""
     return 1280 if len(datagram) <= 600 else 2 * len(datagram) + 2048
 
 
 def lost(address):
-    """How many datagrams the system has dropped before the socket at this address, or None where it does not tell."""
+    """Returns how many datagrams the system has dropped at the sockets of this address, or None if it does not count
+    them.
+    """
     local = socket.inet_aton(address)[::-1].hex().upper() + f":{frames.PORT:04X}"
     try:
         with open("/proc/net/udp", encoding="ascii") as file:
             lines = [line.split() for line in file]
     except OSError:
         return None
-    return next((int(words[-1]) for words in lines if words[1] == local), None)
+    return sum(int(words[-1]) for words in lines if words[1] == local)
 
 
 class Memory(collections.namedtuple("Memory", "data resident files")):
-    """What a process has: bytes of data, bytes in memory, open files."""
+    """The use of a process: bytes of data, bytes in memory, open files."""
 
     @classmethod
     def of(cls, process):
@@ -114,15 +115,15 @@ class Flood:
         self.socket.setsockopt(socket.SOL_SOCKET, socket.SO_RCVTIMEO, struct.pack("ll", SLACK, 0))
         self.socket.connect((member.address, frames.PORT))
         self.room = receive_room() // 2
-        # (those of the datagrams are below)
+        # (the datagrams have smaller request numbers)
         self.numbers = itertools.count(2**31)
         self.waiting = 0
         self.due = collections.Counter()
-        # what was sent, by what has to come of it
+        # the sent datagrams, by their expected effect
         self.drops = [0] * 8
         self.heard = collections.Counter()
         self.answered = 0
-        # how long each list took, and the ends of the lease that were seen
+        # the time of each list request, in seconds, and the ends of the lease that were seen
         self.took = []
         self.ends = set()
 
@@ -156,7 +157,7 @@ class Flood:
         self.ends.add(record.until)
 
     def answer(self):
-        """The command and the request of the next answer, which is due."""
+        """Returns the command and the request of the next answer, which is due."""
         try:
             came = self.socket.recv(frames.FRAME_BYTES + 1)
         except BlockingIOError:
@@ -172,7 +173,7 @@ class Flood:
         return answer
 
     def run(self, foes, seconds=None):
-        """Sends these, or as many as it takes in so many seconds."""
+        """Sends these datagrams, or as many of them as are sent in `seconds`."""
         end = seconds and time.monotonic() + seconds
         for foe in foes:
             self.send(foe)
@@ -183,7 +184,7 @@ class Flood:
 
 
 def again_and_again(foes):
-    """All of them without end, in another order each time."""
+    """Yields all of them without end, in another order each time."""
     chance = random.Random(SEED)
     while True:
         chance.shuffle(foes)
@@ -191,7 +192,7 @@ def again_and_again(foes):
 
 
 def heard_of(member, other):
-    """How many datagrams of the other this member heard that the other did not count as sent to it."""
+    """Returns how many datagrams of the other member this one received that the other one did not count as sent."""
     for _ in range(100):
         before = other.counts()[1][member.address][1]
         heard = member.counts()[1][other.address][0]
@@ -245,7 +246,7 @@ def holds(member):
 
 
 def lack_at_most(got, due, most):
-    """Whether each of these counts is what is due, or up to so many below it."""
+    """Returns whether each of these counts is as expected, or up to this many below."""
     return all(0 <= due[key] - got[key] <= most for key in {*got, *due})
 
 
@@ -260,7 +261,7 @@ def every_datagram_is_met(scene):
     heard = {address: scene.heard[1][address] - scene.heard[0][address] for address in scene.heard[0]}
     met = sum(drops) + sum(heard.values()) + flooded.answered
     require(met + (gone or 0) >= sent, f"of {sent} {met} are met, and {gone or 0} never came")
-    # (one that the system dropped is of any kind, and is counted nowhere)
+    # (a datagram that the system dropped may be of any kind, and is counted nowhere)
     fits = lack_at_most(dict(enumerate(drops)), dict(enumerate(flooded.drops)), gone or 0)
     require(fits, f"the drops are {drops}, and not {flooded.drops}, of which {gone or 0} never came")
     fits = lack_at_most(collections.Counter(heard), flooded.heard, gone or 0)
@@ -305,7 +306,7 @@ def who_was_stopped_holds_nothing(scene):
     """a daemon that is stopped for longer than its lease comes back and holds nothing"""
     one, two, process = scene.one, scene.two, scene.one.server.process
     require(holds(one), "the lease does not run")
-    # a site that gave the ticket back says so for two timeouts, and then waits for no takeover before the next renewal
+    # (a site that released the ticket repeats this for two timeouts, and then expects no takeover before a renewal)
     seen = one.record().until
     require(wait_for(lambda: one.record().until != seen, TIMES.expire), "the lease is not renewed")
     process.send_signal(signal.SIGSTOP)
@@ -317,7 +318,7 @@ def who_was_stopped_holds_nothing(scene):
     with socket.socket(socket.AF_INET, socket.SOCK_DGRAM) as asker:
         asker.settimeout(SLACK)
         asker.connect((one.address, frames.PORT))
-        # it finds this, and what members said meanwhile
+        # when the daemon continues, this request and the messages of the members are waiting for it
         asker.send(frames.request_now("CLst", 1, key=KEY))
         process.send_signal(signal.SIGCONT)
         shown = asker.recv(frames.FRAME_BYTES)[frames.HEAD_BYTES : -frames.AUTH_BYTES].decode()
@@ -371,7 +372,8 @@ def meets(member, foes):
 
 
 def judged(cluster, forged=()):
-    """What was found of the journals of all members, which are killed: they pass, or one of these is named."""
+    """Returns the result for the journals of all members, which are killed: they pass, or one of these faults is found.
+    """
     for member in cluster.members:
         member.kill()
     paths = [member.journal for member in cluster.members]

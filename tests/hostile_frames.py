@@ -13,9 +13,9 @@ import gate
 from frames import ANSWER_TO, BODY_OF, FRAME_BYTES, MEMBERS_SAY, NO_ONE, attribute_body, member_id, sealed, ticket_body
 
 OTHER_KEY = b"not-the-key-of-this-cluster"
-# more than a clock may be behind, and less
+# in seconds: one time that is further behind than a clock may be, and one that is not
 SECONDS_OLD, SECONDS_LATE = 100_000, 100
-# the holder's term is a later one
+# (the holder's term is greater than the terms in these messages)
 EARLIER_TERMS = (0, 1)
 MOST_UDP_BYTES = 65_507
 NAMES = [b"name-%d" % number for number in range(80)]
@@ -23,7 +23,7 @@ REASONS = [0, *map(frames.code, ("Admn", "Hndl", "Splt", "JAcq"))]
 
 
 class Foe(NamedTuple):
-    """A datagram with its due effect: the counter that rises, or the member that is heard, or the answer."""
+    """A datagram with its expected effect: the counter that rises, the member for which it counts, or the answer."""
 
     datagram: bytes
     counter: Optional[int] = None
@@ -54,7 +54,7 @@ class Foes:
         return foes
 
     def judged(self, datagram):
-        """The datagram with its effect by docs/PROTOCOL.md."""
+        """Returns the datagram with its effect by docs/PROTOCOL.md."""
         found = gate.verdict(self.station, datagram, self.seconds)
         if isinstance(found, int):
             return Foe(datagram, counter=found)
@@ -65,17 +65,17 @@ class Foes:
     # ---- what a client or a member may have sent
 
     def clock(self):
-        # (a clock may be ahead as far as it likes)
+        # (a clock may be ahead by any time)
         ahead = self.chance.choice([0, 0, 0, 0, 10**9])
         secs = self.seconds - self.chance.randrange(SECONDS_LATE) + ahead
         return {"secs": secs, "usecs": self.chance.randrange(1000) * 1000}
 
     def fields(self, letters):
-        """The fields of a head, except for the clock, and a body."""
+        """Returns the fields of a head, except for the clock, and a body."""
         chance, ticket = self.chance, self.station.tickets[0]
         request = chance.randrange(2**31)
         if letters in MEMBERS_SAY:
-            # (an arbitrator leads nothing)
+            # (an arbitrator cannot be a leader)
             sender = chance.choice(self.sites if letters in gate.LEADERS_ALONE else self.others)
             leader = member_id(sender) if letters in gate.LEADERS_ALONE else chance.choice([NO_ONE, member_id(self.sites[0])])
             body = ticket_body(ticket, leader, chance.choice(EARLIER_TERMS), chance.choice([0, 1, 600, 2**32 - 1]))
@@ -90,7 +90,7 @@ class Foes:
         if kind == frames.TEXT:
             return b"%s none 0\n" % ticket
         if kind == frames.TICKET:
-            # (a client with the key could have the ticket given back: that is what the key is for)
+            # (a client with the key may release the ticket: the key allows this)
             named = b"other" if letters == "CRvk" else ticket
             return ticket_body(named, NO_ONE, 0, 0)
         name = b"" if letters == "ALst" else chance.choice(NAMES)
@@ -98,31 +98,31 @@ class Foes:
         return attribute_body(chance.choice([ticket, ticket, b"other"]), name, value)
 
     def whole(self, letters):
-        """A frame with the right MAC."""
+        """Returns a frame with the right MAC."""
         fields, body = self.fields(letters)
         return sealed(self.station.key, letters, body, **fields, **self.clock())
 
     # ---- what others make of it
 
     def forged(self, letters):
-        """A frame with another key's MAC, or with the MAC of another frame."""
+        """Returns a frame with another key's MAC, or with the MAC of another frame."""
         if self.chance.random() < 0.5:
             fields, body = self.fields(letters)
             return sealed(OTHER_KEY, letters, body, **fields, **self.clock())
         return self.whole(letters)[: -frames.AUTH_BYTES] + self.whole(letters)[-frames.AUTH_BYTES :]
 
     def unsigned(self, letters):
-        """A frame without a MAC."""
+        """Returns a frame without a MAC."""
         fields, body = self.fields(letters)
         return frames.frame(letters, body, **fields, **self.clock())
 
     def old(self, letters):
-        """A frame that was sent long ago."""
+        """Returns a frame that was sent long ago."""
         fields, body = self.fields(letters)
         return sealed(self.station.key, letters, body, **fields, secs=self.seconds - SECONDS_OLD)
 
     def foreign(self, letters):
-        """A frame with the right MAC whose sender, ticket or leader is not allowed."""
+        """Returns a frame with the right MAC whose sender, ticket or leader is not allowed."""
         chance = self.chance
         fields, body = self.fields(letters)
         what = chance.randrange(3)
@@ -135,7 +135,7 @@ class Foes:
         return sealed(self.station.key, letters, body, **fields, **self.clock())
 
     def flipped(self, letters):
-        """A frame with a flipped bit."""
+        """Returns a frame with a flipped bit."""
         made = bytearray(self.whole(letters))
         made[self.chance.randrange(len(made))] ^= 1 << self.chance.randrange(8)
         return bytes(made)
@@ -148,13 +148,13 @@ class Foes:
         return self.whole(letters) + bytes(self.chance.choice((1, 4, 28, 76)))
 
     def overwritten(self, letters):
-        """A frame whose end is overwritten with random bytes."""
+        """Returns a frame whose end is overwritten with random bytes."""
         whole = self.whole(letters)
         keep = self.chance.randrange(len(whole))
         return whole[:keep] + self.chance.randbytes(len(whole) - keep)
 
     def oversized(self, letters):
-        """A datagram longer than the longest frame; its head may have this length or not."""
+        """Returns a datagram longer than the longest frame; its head may have this length or not."""
         length = MOST_UDP_BYTES if self.chance.random() < 0.02 else FRAME_BYTES + self.chance.randrange(1, 400)
         made = bytearray(self.whole(letters).ljust(length, b"\0"))
         if self.chance.random() < 0.5:

@@ -20,7 +20,14 @@ TOP = os.path.dirname(HERE)
 sys.path[:0] = [HERE, f"{TOP}/tools"]
 
 from completions import completion_joins_addresses, completion_offers
-from installed_package import package_comes_and_goes, package_has_no_fault, package_is_whole
+from installed_package import (
+    package_comes_and_goes,
+    package_has_no_fault,
+    package_is_the_same_each_time,
+    package_is_whole,
+    package_lists_what_is_linked,
+    package_says_what_is_not_proved,
+)
 from installed_pages import (
     page,
     pages_are_well_formed_for_groff,
@@ -31,23 +38,27 @@ from installed_pages import (
 )
 from installed_parts import NEEDRESTART, PROGRAMS, SERVICES, files_below, make, on_loopback
 from installed_tools import TOOLS, pages_have_all_options_of_tools, run_alone
-from installed_units import unit_is_confined, unit_is_sound, unit_waits_for_an_answer
+from installed_units import console_is_confined, unit_is_confined, unit_is_sound, unit_waits_for_an_answer
 from scratch import scratch
 from serving import built_program, end_by_signals, turn
 from shells import Wrong, need, read, run
 
-# what units, followers, daemons and resources run
+# the programs that units, followers, daemons and resources run
 HELPERS = ("follow-service", "follow-unit", "follow-postgresql", "follow-pacemaker", "handler-follow", "clock-wait")
-HELPERS += ("site-keep", "service-runnable")
-# the resource agent under its two names
+HELPERS += ("site-keep", "service-runnable", "arbitrator-ready")
+# the names of the resource agent
 AGENTS = ("booth/boothd", "pacemaker/booth-site")
-# units that have no instances
-PLAIN_SERVICES = ("booth-lease-guard.service", "booth-arbitrator.service")
-# what an operator reads
-DOCUMENTS = ("OPERATING.md", "CHANGES.md", "SIZING.md", "MANUAL-TICKETS.md", "HANDLERS.md")
-# documents for developers of Booth, which stay in the source tree
+# the units without instances
+PLAIN_SERVICES = ("booth-lease-guard.service", "booth-arbitrator.service", "booth-console.service")
+# the documents for operators
+DOCUMENTS = ("OPERATING.md", "MONITORING.md", "CHANGES.md", "SIZING.md", "MANUAL-TICKETS.md", "HANDLERS.md")
+DOCUMENTS += ("SECURITY.md",)
+# the files for a monitor
+MONITORS = ("prometheus-rules.yml", "grafana-dashboard.json", "nagios.cfg")
+MONITORS += ("booth-metrics.service", "booth-metrics.timer")
+# documents for developers of Booth, which are not installed
 DEVELOPER_DOCS = ("ARCHITECTURE.md", "DECISIONS.md", "DEFINITIONS.md")
-# how long the walk through the first cluster may take
+# the limit for the commands of the first cluster, in seconds
 SECONDS_OF_A_WALK = 120
 
 
@@ -59,7 +70,9 @@ def installs_and_uninstalls(room):
     named += [f"usr/share/man/man8/{name}.8" for name in (*PROGRAMS, *TOOLS, "booth-keygen")]
     named += ["usr/share/man/man5/booth.conf.5"]
     named += [f"usr/share/bash-completion/completions/{name}" for name in (*PROGRAMS, *TOOLS)]
-    named += [f"usr/share/doc/booth-proved/{name}" for name in (*DOCUMENTS, "examples/manual.conf", "examples/fence.sql")]
+    named += [f"usr/share/doc/booth-proved/{name}" for name in DOCUMENTS]
+    named += [f"usr/share/doc/booth-proved/examples/{name}" for name in (*MONITORS, "manual.conf", "fence.sql")]
+    named += [f"usr/share/doc/booth-proved/console-{name}.png" for name in ("good", "cut", "service-down")]
     named += [f"usr/lib/systemd/system/{name}" for name in (*SERVICES, *PLAIN_SERVICES)]
     named += [f"usr/lib/ocf/resource.d/{name}" for name in AGENTS]
     named += ["usr/share/booth-proved/journal.conf", "usr/share/booth-proved/timeline.py"]
@@ -138,7 +151,7 @@ def keys_are_made_once(room):
 
 def keys_are_given(room):
     """booth-keygen as root makes the daemon's user the owner of the key, if that user exists"""
-    # (programs in the place of these two stand for a machine that has the user, and note what they are asked)
+    # (stand-ins for id and chown: the machine seems to have the user, and the calls are recorded)
     os.makedirs(f"{room}/stand-ins")
     for name, text in (("id", '[ "$1" = booth ] || echo 0'), ("chown", f'echo "$*" >"{room}/given"')):
         with open(f"{room}/stand-ins/{name}", "w", encoding="ascii") as file:
@@ -161,7 +174,7 @@ def examples_are_served(room):
         file.write(in_page[1])
     for path in (*(f"{TOP}/examples/{name}" for name in names), f"{room}/page.conf"):
         name = os.path.basename(path)
-        # an address that no example has is refused only after the whole file was read
+        # (an address that is in no example is refused only after the whole file was read)
         words = [built_program(), "daemon", "-l", f"{room}/{name}.lock", "-d", f"{room}/{name}.records", "-n", "3"]
         done = run(*words, "-c", path, "-s", "10.255.255.1")
         need(done.stderr.startswith("boothd: 10.255.255.1 is not a member\n"), f"{name}: {done.stderr.strip()}")
@@ -172,7 +185,7 @@ def examples_are_served(room):
 
 
 def walked(text, room):
-    """Each command of the indented lines that begin with $, with the lines that it must print."""
+    """Runs each command of the indented lines that begin with $, and checks that it prints the lines that follow."""
     steps = []
     for line in text.splitlines():
         if line.startswith("    $ "):
@@ -188,7 +201,8 @@ def walked(text, room):
         ["bash"], cwd=folder, stdin=subprocess.PIPE, stdout=subprocess.PIPE, stderr=subprocess.DEVNULL, text=True,
         env={**os.environ, "PATH": f"{room}/kept/usr/sbin:{os.environ['PATH']}"}, start_new_session=True,
     ) as shell:
-        # (all that it started is of its group, whose number is nobody else's until the shell is waited for)
+        # (all programs that it starts are in its process group, whose number stays in use until the shell is waited
+        # for)
         end = lambda: os.killpg(shell.pid, signal.SIGKILL)
         bound = threading.Timer(SECONDS_OF_A_WALK, end)
         bound.start()
@@ -205,7 +219,7 @@ def walked(text, room):
 
 
 def step_lines(shell):
-    """The lines that a step prints."""
+    """Yields the lines that a step prints."""
     for line in shell.stdout:
         if line == "end-of-step\n":
             return
@@ -215,7 +229,7 @@ def step_lines(shell):
 
 def first_cluster_is_as_written(room):
     """the first cluster of docs/OPERATING.md prints the lines that the document shows"""
-    # (its addresses and its port stand in the example)
+    # (the example has fixed addresses and a fixed port)
     with turn("installed"):
         walked(read(f"{TOP}/docs/OPERATING.md"), room)
 
@@ -231,12 +245,16 @@ CHECKS = [
     texts_name_their_own_place,
     unit_is_sound,
     unit_is_confined,
+    console_is_confined,
     keys_are_made_once,
     keys_are_given,
     unit_waits_for_an_answer,
     completion_offers,
     completion_joins_addresses,
+    package_is_the_same_each_time,
+    package_says_what_is_not_proved,
     package_is_whole,
+    package_lists_what_is_linked,
     package_has_no_fault,
     package_comes_and_goes,
     examples_are_served,
@@ -245,7 +263,7 @@ CHECKS = [
 
 
 def outcome(check, room):
-    """Whether a check passed, failed or was left out."""
+    """Returns whether a check passed, failed or was left out."""
     try:
         left_out = check(room)
     except (Wrong, OSError, subprocess.TimeoutExpired) as why:

@@ -13,12 +13,12 @@ from shells import need, read, run
 
 
 def page(name):
-    """A manual page without its macros' escapes."""
+    """Returns a manual page without its macros' escapes."""
     return read(f"{TOP}/man/{name}").replace("\\-", "-")
 
 
 def pages():
-    """The paths of the manual pages."""
+    """Returns the paths of the manual pages."""
     return [f"{TOP}/man/{name}" for name in sorted(os.listdir(f"{TOP}/man"))]
 
 
@@ -53,7 +53,7 @@ def pages_have_all_options(room):
 
 
 def said_in(crate, name):
-    """The texts in a crate's file that are printed on standard error."""
+    """Returns the texts in a crate's file that are printed on standard error."""
     source = re.sub(r"\\\n\s*", "", read(f"{TOP}/crates/{crate}/src/{name}"))
     return {text.strip() for text in re.findall(r'b"([^"]+)"', source)}
 
@@ -68,7 +68,7 @@ def pages_have_all_texts(room):
     texts = said_in("booth_outcomes", "texts.rt") - {"line", "ticket"}
     faults = {text for text in texts if re.fullmatch("[a-z_ -]+", text)}
     need("misplaced key" in faults, f"no fault was found in the program, but {sorted(faults)}")
-    # (what is wrong with the times of a ticket stands there in other words)
+    # (booth.conf(5) describes faults of a ticket's times in other words)
     faults -= {"renewal-freq is not below expire", "timeout and retries do not fit renewal-freq"}
     words = {"bad ticket", "bad name", "bad value", "is not a site"}
     follows = {"bad program", "cannot follow ticket"}

@@ -13,7 +13,7 @@ from serving import own_addresses
 from shells import Wrong, need, read, run
 
 TOP = os.path.dirname(os.path.dirname(os.path.abspath(__file__)))
-# each program with its commands; one that is not built yet is left out
+# each program with its commands; programs that are not built are skipped
 PROGRAMS = {
     "boothd": ["daemon", "status", "sim", "audit"],
     "booth": ["list", "show", "peers", "status", "grant", "revoke", "move"],
@@ -35,7 +35,7 @@ def files_below(folder):
 
 
 def on_loopback(example, room):
-    """A file like the example, with its members on loopback and a key that exists, and its first member."""
+    """Returns a file like the example, with its members on loopback and a key that exists, and its first member."""
     text, own = read(example), own_addresses()
     members = re.findall(r"^ *(?:site|arbitrator) *= *\W?([0-9a-f.:]+)", text, re.M)
     addresses = {member: next(own) for member in members}

@@ -11,11 +11,13 @@ from records import slot
 from shells import need, read, run
 
 TOP = os.path.dirname(os.path.dirname(os.path.abspath(__file__)))
-# what is written in Python, and in the shell: all of it is there whatever is built
+# the programs that are written in Python or for the shell: they are there even if nothing is built
 TOOLS = ("booth-status", "booth-record", "booth-switchover", "booth-postgresql", "booth-setup", "booth-service")
 TOOLS += ("booth-pacemaker", "booth-lease-guard")
-# how many lines the help of each may have; those of three programs have the options of a setup
-LINES_OF_HELP, MOST_LINES = 24, {"booth-postgresql": 36, "booth-setup": 37, "booth-pacemaker": 30}
+# the greatest number of lines of each help; those of three programs list the options of a setup, and booth-status has
+# four uses
+LINES_OF_HELP = 24
+MOST_LINES = {"booth-postgresql": 36, "booth-setup": 37, "booth-pacemaker": 30, "booth-status": 26}
 
 
 def pages_have_all_options_of_tools(room):
@@ -38,7 +40,7 @@ def pages_have_all_options_of_tools(room):
 
 
 def run_alone(folder):
-    """The tools in this folder run without the repository, from another directory."""
+    """Checks that the tools in this folder run without the repository, from another directory."""
     for name in TOOLS:
         is_moved = not any(place in read(f"{folder}/{name}") for place in ("../tools", "\nSHARE=.\n"))
         need(is_moved, f"the installed {name} names the repository")
@@ -47,12 +49,12 @@ def run_alone(folder):
 
 
 def tools_look(folder, conf, room):
-    """The installed tools look at a daemon that holds nothing and has no majority, and at a record file."""
+    """Checks that the installed tools show a daemon that holds nothing and has no majority, and a record file."""
     done = run(f"{folder}/booth-status", "-b", "-t", "20", "-c", conf)
     need(done.returncode == 2 and "1 of 3 members answer" in done.stdout, f"booth-status: {done.stdout}{done.stderr}")
     done = run(f"{folder}/booth-status", "--check", conf, "-j")
     kinds = {problem["kind"] for problem in json.loads(done.stdout)["problems"]}
-    # (whose the key may be hangs on the users of this machine)
+    # (the users of this machine decide who may own the key)
     need(kinds <= {"key-owner", "no-key"} and not done.stderr, f"--check: {done.stdout}{done.stderr}")
     path = f"{room}/{b'ticket-db8'.hex()}.rec"
     with open(path, "wb") as file:

@@ -11,15 +11,15 @@ import subprocess
 from installed_parts import SERVICES, TOP, on_loopback
 from shells import need, read, run
 
-# how exposed each service may be at most, as `systemd-analyze security` counts it, in the order of HANDLERS.md
+# the greatest exposure of each service, by `systemd-analyze security`, in the order of HANDLERS.md
 MOST_EXPOSED = {"booth-follow@": 4.9, "booth@": 2.0}
 
 
 def unit_in(room, name, more=""):
-    """The path of the daemon's unit with the installed program, in a directory of this name, with these additional
-    lines.
+    """Returns the path of the daemon's unit with the installed program, in a directory of this name, with these
+    additional lines.
     """
-    # (the programs stand below the scratch root)
+    # (the programs are below the scratch root)
     os.makedirs(f"{room}/{name}")
     for service in SERVICES:
         unit = read(f"{room}/kept/usr/lib/systemd/system/{service}").replace("/usr/s", f"{room}/kept/usr/s")
@@ -33,7 +33,7 @@ def unit_in(room, name, more=""):
 
 
 def drop_ins():
-    """The drop-ins that HANDLERS.md shows, and the installed one."""
+    """Returns the drop-ins that HANDLERS.md shows, and the installed one."""
     text = read(f"{TOP}/docs/HANDLERS.md")
     found = re.findall(r"^ {4,}\[Service\]\n(?: {4,}.*\n)+", text, re.M)
     need(len(found) > 1, f"HANDLERS.md has the drop-ins {found}")
@@ -68,18 +68,37 @@ def unit_is_confined(room):
         found = re.search(r"exposure level for \S+: ([0-9.]+)", done.stdout)
         need(found, done.stderr.strip() or "it tells no exposure")
         need(float(found[1]) <= most, f"the exposure of {name} is {found[1]}")
-        # (another version of systemd may count a little differently)
+        # (another version of systemd may compute a slightly different exposure)
         is_told = number < len(written) and abs(float(written[number]) - float(found[1])) <= 0.3
         need(is_told, f"{found[1]} of {name}, and not what HANDLERS.md says")
     return None
 
 
+def console_is_confined(room):
+    """systemd accepts the console's unit, and its exposure is as low as that of the daemon"""
+    if not shutil.which("systemd-analyze"):
+        return "systemd-analyze is not here"
+    os.makedirs(f"{room}/console")
+    path, installed = f"{room}/console/booth-console.service", f"{room}/kept/usr"
+    with open(path, "w", encoding="utf-8") as file:
+        file.write(read(f"{installed}/lib/systemd/system/booth-console.service").replace("/usr/s", f"{installed}/s"))
+    done = run("systemd-analyze", "verify", "--man=no", path)
+    told = [line for line in (done.stdout + done.stderr).splitlines() if "booth" in line]
+    need(not told, "; ".join(told))
+    done = run("systemd-analyze", "security", "--offline=true", "--no-pager", path)
+    if "offline" in done.stderr:
+        return "this systemd-analyze judges no file"
+    found = re.search(r"exposure level for \S+: ([0-9.]+)", done.stdout)
+    need(found and float(found[1]) <= MOST_EXPOSED["booth@"], f"{done.stdout[-200:]}{done.stderr}")
+    return None
+
+
 def start_waits(room, conf, address, pid):
-    """The status of the unit's wait for the daemon, if the daemon has this process id."""
+    """Returns the status of the unit's wait for the daemon, if the daemon has this process id."""
     unit = read(f"{room}/kept/usr/lib/systemd/system/booth@.service")
     found = re.search(r"^ExecStartPost=/bin/sh -c '(.*)'$", unit, re.M)
     need(found, "the unit waits for nothing")
-    # (what systemd makes of the line: its own variables, the instance, and a doubled dollar)
+    # (as systemd expands the line: its own variables, the instance, and a doubled dollar)
     words = found[1].replace("/usr/sbin/", f"{room}/kept/usr/sbin/").replace("/etc/booth/%i.conf", conf)
     words = words.replace("%i", "a").replace("$$", "\0").replace("${ADDRESS}", address).replace("\0", "$")
     return run("/bin/sh", "-c", words, env={**os.environ, "MAINPID": str(pid)})
@@ -96,7 +115,7 @@ def unit_waits_for_an_answer(room):
             need((done.returncode, done.stdout + done.stderr) == (0, ""), f"status {done.returncode}: {done.stderr}")
         finally:
             daemon.kill()
-    # (its number is nobody's now)
+    # (no process has this number now)
     done = start_waits(room, conf, address, daemon.pid)
     line = f"booth@a: the daemon at {address} does not answer\n"
     need((done.returncode, done.stderr) == (1, line), f"gone: {done.stderr}")

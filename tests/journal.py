@@ -35,11 +35,12 @@ from serving import NotServing, built_program, end_by_signals, own_addresses
 
 TIMES = Times()
 LOST = "is not written any more"
-# how large a file of the daemon may get if the disk is full
+# the size at which a file of the daemon ends if the disk counts as full, in bytes
 ROOM = 8192
-# kills inside keeps, each of which takes as long as this at least, and so long after a start at most
+# in seconds, for the kills during writes of records: the least time of such a write, and the latest time of a kill
+# after a start
 KILLS, SLOW_MS, LATEST = 60, 8, 0.25
-# of so many kills one at least must come within a keep
+# at least one of 20 kills must interrupt a write of a record
 KILLS_OF_ONE_CUT = 20
 SEED = 9929
 SLOW = """
@@ -58,7 +59,7 @@ int fdatasync(int file)
 
 
 class Wrong(Exception):
-    """The journal is not as it must be."""
+    """The journal has the wrong content."""
 
 
 class LeftOut(Exception):
@@ -72,7 +73,7 @@ def require(holds, why):
 
 @contextlib.contextmanager
 def cluster_in(boothd, folder):
-    """A cluster whose members write journals, and may answer immediately."""
+    """Yields a cluster whose members write journals, and may answer immediately."""
     with Cluster(boothd, folder, own_addresses(), times=TIMES) as cluster:
         for member in cluster.members:
             member.journals = True
@@ -86,7 +87,7 @@ def content(path):
 
 
 def is_held(cluster):
-    """Lets the first site get the ticket."""
+    """Has the first site acquire the ticket. Returns whether it did."""
     one = cluster.members[0]
     granted = one.about("CGnt")
     require(wait_for(lambda: cluster.shown_by_all() == one.address, 10), f"a grant is told {granted}: {one.printed()}")
@@ -99,20 +100,20 @@ def spelled(digits):
 
 
 def kept_by(entries):
-    """The records that the ticket's keeps wrote, each with its answer."""
+    """Returns the records that the ticket's keeps wrote, each with its answer."""
     name = TICKET.decode()
     keeps = (entry for entry in entries if entry.kind == "keep" and entry.call["ticket"] == name)
     return [(spelled(entry.call["hex"]), entry.answer) for entry in keeps]
 
 
 def record_of(member):
-    """The record that is in force in a member's file."""
+    """Returns the record that is in force in a member's file."""
     slot = record_file.in_force(record_file.slots_in(content(member.record_path())))
     return slot and slot.record
 
 
 def starts(entries):
-    """The number of starts: each start opens its socket once."""
+    """Returns the number of starts: each start opens its socket once."""
     return sum(entry.kind == "open" for entry in entries)
 
 
@@ -253,7 +254,7 @@ def slow_disk(folder):
 
 
 def ask_on(member, ended):
-    """Grants and revokes a member's ticket again and again, whatever the member answers."""
+    """Grants and revokes a member's ticket again and again, whatever the answers are."""
     body = frames.ticket_body(TICKET, frames.NO_ONE, 0, 0)
     with socket.socket(socket.AF_INET, socket.SOCK_DGRAM) as asker:
         number = 0
@@ -265,9 +266,9 @@ def ask_on(member, ended):
 
 
 def may_be_kept(entries):
-    """The records that the file may have after these calls, and whether the last keep was interrupted. A start reads
-    one of these records, and from then on only that one is possible. The same holds after a keep that was done. A keep
-    that failed or was interrupted adds its record.
+    """Returns the records that the file may have after these calls, and whether the last keep was interrupted. A start
+    reads one of these records, and from then on only that one is possible. The same holds after a keep that was done. A
+    keep that failed or was interrupted adds its record.
     """
     may, is_cut = [record_file.Record(2, 0, None)], False
     for entry in entries:
@@ -285,7 +286,8 @@ def may_be_kept(entries):
 
 
 def what_is_kept_was_said(member, kill):
-    """The record on the disk is one that the journal has. Returns whether the last keep was interrupted."""
+    """Checks that the record on the disk is one that the journal has. Returns whether the last write was interrupted.
+    """
     may, is_cut = may_be_kept(journal_file.read(member.journal))
     record = record_of(member)
     require(record in may, f"kill {kill}: {record} is kept, and not one of {may}")

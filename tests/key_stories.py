@@ -1,7 +1,4 @@
-"""The stories of keys that are changed while a ticket stays held.
-
-They are taken into the list of cluster.py, and the module is not run by itself.
-"""
+"""Stories in which a key is changed while a ticket stays held. tests/cluster.py imports them."""
 
 import frames
 from members import now, wait_for
@@ -10,7 +7,7 @@ from stories import NAME, PATIENCE, grants, passed, require, says, story
 OLD, NEW = b"the-old-key-of-a-cluster", b"the-new-key-of-a-cluster"
 BADMAC = 2
 
-# what each step of a change says, and the ring of a member that has made it
+# the steps of a change of the key, each with the key ring of a member that has made it
 STEPS = (
     ("the first key alone", frames.Ring(OLD)),
     ("the new key is taken", frames.Ring(OLD, NEW)),
@@ -21,7 +18,8 @@ STEPS = (
 
 
 def goes_on(cluster, member, what):
-    """Whether the ticket is still held, renewed, and listed at each member, after one of them made a step."""
+    """Returns whether the ticket is still held, renewed, and listed at each member, after one member has made a step.
+    """
     one = cluster.members[0]
     until = one.record().until
     is_renewed = lambda: one.record().until > until

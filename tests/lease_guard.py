@@ -61,7 +61,7 @@ def lease_begins(room: Room, seconds: float, times: str = TIMES) -> None:
 
 
 def has_called(room: Room, text: str) -> bool:
-    """Whether a stand-in was called with these words."""
+    """Returns whether a stand-in was called with these words."""
     return any(text in call for call in room.calls())
 
 
@@ -229,7 +229,7 @@ def an_end_that_the_wall_clock_denies_is_closed(room: Room) -> None:
 
 
 def lease(end: float, times: str = TIMES) -> pacemaker_cib.Lease:
-    """A lease whose end is at this second of the wall clock."""
+    """Returns a lease whose end is at this second of the wall clock."""
     found = pacemaker_cib.times_of(times)
     assert found is not None
     return pacemaker_cib.Lease("db8", False, pacemaker_cib.end_at(end), found, ("svc",), ())
@@ -356,7 +356,7 @@ def a_look_changes_nothing(room: Room) -> None:
 
 
 def outcome(told: Story) -> bool:
-    """Whether a story passes, in its own room."""
+    """Returns whether a story passes, in its own room."""
     with scratch("booth-guard-") as folder:
         begun = time.monotonic()
         try:

@@ -14,9 +14,9 @@ from scratch import scratch
 from serving import own_addresses
 from tcp_links import Busy
 
-# who wants places and asks for nothing, and how many of them, all at once
+# the crowds of clients that open links and send no whole request, each with its size
 CROWDS = (("heads", 1_000), ("silent", 300), ("brief", 10))
-# how late a thing may be on a busy machine
+# the additional time on a busy machine, in seconds
 SLACK, SECONDS_BETWEEN_LOOKS = 10, 0.05
 KEY = b"a-key-of-the-cluster"
 TIMES = Times(expire=7, timeout=1, retries=3, renewal=5)

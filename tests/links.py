@@ -1,10 +1,10 @@
 #!/usr/bin/env python3
 """Checks the streams of the proved boothd against docs/PROTOCOL.md, over real links on loopback.
 
-Run it as `python3 tests/links.py [BOOTHD [CONNECTIONS]]`, by default the one that `make build` leaves.
-The flood of connections ends after 15 seconds, or after so many, however long that takes. It takes a minute, prints a
-line for each check with what it measured, ends all that it started, and has the status 1 if a check failed. If
-boothd is not built it checks nothing, with status 0.
+Run it as `python3 tests/links.py [BOOTHD [CONNECTIONS]]`. BOOTHD is by default the one that `make build` leaves. The
+flood of connections ends after 15 seconds, or, if CONNECTIONS is given, after this number. The test takes a minute,
+prints a line for each check with what it measured, ends all programs that it started, and has the status 1 if a check
+failed. If boothd is not built it checks nothing, with status 0.
 """
 
 import itertools
@@ -31,27 +31,30 @@ from tcp_links import SECONDS_TO_ANSWER, Closed, Link, links, open_files
 
 LINKS = 16
 SECONDS_OF_FLOOD = 15
-# as docs/PROTOCOL.md says: how long a link keeps its place that was answered, where another peer waits for one
+# by docs/PROTOCOL.md: how long an answered link keeps its place if another peer waits for one, in seconds
 SECONDS_IDLE = 2
-# who wants places and asks for nothing, how many of them, and how many asks must be answered beside them, how soon
+# the crowds of clients that want places and ask for nothing, each with its size; and how many requests of other clients
+# must be answered at the same time, and how soon
 CROWDS = (("slow", 16), ("slow", 1_000), ("heads", 16), ("heads", 1_000), ("garbage", 16), ("garbage", 200))
 CROWDS += (("silent", 300), ("brief", 100))
 ASKS, SECONDS_IN_A_CROWD, SECONDS_BETWEEN_ASKS = 50, 1.0, 0.02
-# how late a thing may be on a busy machine
+# the additional time on a busy machine, in seconds
 SLACK = 10
-# what a reader takes, who is slow
+# how fast a slow reader reads
 BYTES_A_SECOND = 100_000
-# with these a list has 4.6 kB, and so many of them are asked for at once: half a megabyte
+# with 64 tickets a list has 4.6 kB; 112 requests for it at once have half a megabyte of answers
 TICKETS, PARTS = 64, 112
-# how many long lists each quick link gets
+# the number of long lists that each quick link gets
 LISTS_EACH = 2
-# the longest list: names of 63 bytes, and an owner whose address takes 39, which is heard of and never there
+# the longest list: names of 63 bytes, and an owner whose address takes 39. The owner is named by messages, and does not
+# run
 LONG_TICKETS, LONG_OWNER, LONG_PARTS = 4_096, "2001:db8:1111:2222:3333:4444:5555:6666", 29
-# so many are told before it is seen that they were heard, and for so long each is told to be held
+# the number of messages between two checks that they arrived, and how long the leases in them last, in seconds
 TOLD_AT_ONCE, SECONDS_HELD = 128, 2**31
-# how much the daemon's memory may grow for one who asks and does not read: what is queued, and a bit
+# how much the daemon's memory may grow for a client that does not read its answers, in bytes: the queued answers, and
+# some more
 BYTES_MORE = 3 << 20
-# how long the daemon waits for a datagram, and how many requests come in such waits
+# how long the daemon waits for a datagram, in seconds, and the number of requests that arrive during such waits
 SECONDS_OF_WAIT, REQUESTS_APART = 0.1, 20
 
 
@@ -86,15 +89,16 @@ class LongList:
         self.lines = [(name, LONG_OWNER.encode(), until) for name in names]
 
     def is_whole(self, text):
-        """Whether the text has a line of each ticket, with its owner and an end within about a second of the claimed
-        one.
+        """Returns whether the text has a line of each ticket, with its owner and an end within about a second of the
+        claimed one.
         """
         found = [line.split(b" ") for line in text.splitlines()]
         fits = lambda line, due: line[:2] == list(due[:2]) and abs(int(line[2]) - due[2]) < 2 * SECONDS_TO_ANSWER
         return len(found) == len(self.lines) and all(map(fits, found, self.lines))
 
     def list_of(self, link, number):
-        """The text of the list that answers this request, joined from its parts, and how many parts there are."""
+        """Returns the text of the list that answers this request, joined from its parts, and how many parts there are.
+        """
         parts = lists.Parts()
         for count in itertools.count(1):
             part = link.reply("CLst", number)
@@ -153,7 +157,7 @@ def every_cut_is_one(scene):
 
 
 def bodies(frame):
-    """The common part of two replies to one request: the result and the body."""
+    """Returns the common part of two replies to one request: the result and the body."""
     return frames.Head.read(frame).result, frame[frames.HEAD_BYTES :]
 
 
@@ -247,9 +251,9 @@ def who_is_idle_makes_room(scene):
     with links(LINKS, scene.address) as opened:
         for link in opened:
             link.ask()
-            # (the daemon tells two moments apart that are a millisecond from each other)
+            # (the daemon distinguishes two moments only if they are a millisecond apart)
             time.sleep(0.01)
-        # (the second is idle for longest from now on)
+        # (from now on the second link is idle longest)
         opened[0].ask()
         begun = time.monotonic()
         with Link(scene.address) as late:
@@ -264,8 +268,8 @@ def who_is_idle_makes_room(scene):
 
 
 def asked_in_a_crowd(scene):
-    """How long a new peer waits for its answer, in seconds. If its connection is closed, it connects again, as a client
-    does.
+    """Returns how long a new peer waits for its answer, in seconds. If its connection is closed, it connects again, as
+    a client does.
     """
     time.sleep(SECONDS_BETWEEN_ASKS)
     begun, why = time.monotonic(), None
@@ -310,11 +314,11 @@ def who_was_answered_keeps_its_place(scene):
 def connections_leave_nothing(scene):
     """connections one after another leave the daemon's open files and memory unchanged"""
     begun, count = time.monotonic(), 0
-    # (from one address alone the system would run out of ports, each of which it keeps for a while)
+    # (with one address the system would run out of ports, since it keeps each used port for a while)
     sources = itertools.cycle(list(own_addresses())[100:])
     while count < scene.connections if scene.connections else time.monotonic() < begun + SECONDS_OF_FLOOD:
         with Link(scene.address, local=(next(sources), 0)) as link:
-            # (one of four asks, one goes in the middle of a frame, and two go at once)
+            # (a quarter of the links ask, a quarter close in the middle of a frame, and half close at once)
             if count % 4 == 0:
                 link.ask()
             elif count % 4 == 1:
@@ -332,7 +336,7 @@ def a_request_ends_the_wait(scene):
     took = []
     with Link(scene.address) as link:
         for _ in range(REQUESTS_APART):
-            # (by then the daemon waits)
+            # (by then the daemon waits for a datagram)
             time.sleep(0.03)
             begun = time.monotonic()
             link.ask()
@@ -387,7 +391,7 @@ def the_example_prints(scene):
 
 
 def resident(process):
-    """How many bytes a process has in memory."""
+    """Returns how many bytes a process has in memory."""
     with open(f"/proc/{process}/statm", encoding="ascii") as file:
         return int(file.read().split()[1]) * os.sysconf("SC_PAGE_SIZE")
 
@@ -407,7 +411,7 @@ CHECKS = [
 
 
 def passes(check, scene):
-    """Whether the check of this scene, or of this program, passes. Prints its line."""
+    """Returns whether the check of this scene, or of this program, passes. Prints its line."""
     begun = time.monotonic()
     try:
         told = check(scene)

@@ -20,24 +20,24 @@ def begins(cluster, member):
 
 
 def lease(verb, record):
-    """The log line about the lease of this record."""
+    """Returns the log line about the lease of this record."""
     return f"boothd: ticket {NAME}: {verb} the lease of term {record.term} until {date(int(record.until))} UTC"
 
 
 def told_by(member, count):
-    """The lines that the member has logged, once there are this many."""
+    """Returns the lines that a member has logged, once there are this many."""
     wait_for(lambda: member.printed().count(b"\n") >= count, PATIENCE)
     return member.printed().decode().splitlines()
 
 
 def tells(member, lines):
-    """The member's whole log consists of these lines."""
+    """Checks that the whole log of a member has these lines."""
     told = told_by(member, len(lines))
     require(told == lines, f"{member.address} told {told}, and not {lines}")
 
 
 def last_lease(member):
-    """The last record with a lease that a member writes before a record without one."""
+    """Returns the last record with a lease that a member writes before a record without one."""
     last = member.record()
     end = now() + PATIENCE
     while (record := member.record()).until is not None:
@@ -87,6 +87,6 @@ def a_log_with_a_handler(cluster):
     found = told_by(one, 6)[4:]
     require(found == [failed, lease("fails to give back", one.record())], f"{one.address} told {found}")
     passed("and where the record could not be kept, that the lease may not be given back")
-    # (what runs at the end of a story is to have said nothing)
+    # (programs that still run at the end of a story must have printed nothing)
     for member in cluster.members:
         member.kill()

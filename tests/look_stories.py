@@ -35,12 +35,12 @@ KEY = b"a-key-of-the-cluster"
 NONE_DROPPED = "dropped 0 0 0 0 0 0 0 0"
 FAULTS = ("frame", "nomac", "badmac", "old", "stranger", "self", "ticket", "leader")
 
-# (a story that is told again takes those that are free by then)
+# (a story that runs again takes the addresses that are free by then)
 ADDRESSES = itertools.cycle(own_addresses())
 
 
 class Three:
-    """Two sites and an arbitrator with arranged answers, with the automatic ticket `web` and the manual ticket `db`."""
+    """Two sites and an arbitrator with arranged answers; the ticket `web` is automatic, and `db` is manual."""
 
     def __init__(self, folder, addresses=None, authfile="", skew=600, name=None, more=""):
         self.one, self.two, self.third = self.addresses = addresses or [next(ADDRESSES) for _ in range(3)]
@@ -55,7 +55,7 @@ class Three:
         return dict(zip(self.addresses, ("site", "site", "arbitrator")))
 
     def peers(self, of, dropped=NONE_DROPPED, **said):
-        """The lines of this member's answer: `said` has its counters of the others, by their names here."""
+        """Returns the lines of this member's answer: `said` has its counters of the others, by their names here."""
         names = {"one": self.one, "two": self.two, "third": self.third}
         lines = [dropped]
         for name, address in names.items():
@@ -76,7 +76,7 @@ class Three:
 
 @contextlib.contextmanager
 def all_of(members):
-    """Each of the members answers in this block."""
+    """Lets each of these members answer in this block."""
     with contextlib.ExitStack() as stack:
         for member in members:
             stack.enter_context(member)
@@ -84,7 +84,7 @@ def all_of(members):
 
 
 def well(three, **more):
-    """Three members without a problem."""
+    """Arranges three members without a problem."""
     return all_of([three.fake(address, **more) for address in three.addresses])
 
 
@@ -105,7 +105,7 @@ def every_line_of_the_table(folder):
     with all_of(members):
         ran = status("-c", three.path)
     lines = ran.printed.splitlines()
-    # (what hangs on the moment: how long an answer took, ages of some seconds, and the look's own date)
+    # (these values change from run to run: the time of an answer, ages of some seconds, and the date of the look)
     moving = [(r"\d+\.\d ms", "N ms"), (r"[+-]0\.\d s", "+S s"), (r"-(2\.[5-9]|3\.[0-4]) s", "-3.S s")]
     moving += [(r"(?<![.\d])([1-5]?\d) s\b", "S s"), (r"at \d{4}-.* UTC$", "at DATE")]
     for form, shown in moving:
@@ -144,8 +144,8 @@ FIELDS = "version configuration time seconds status summary members site tickets
 
 
 def due_member(three, address, never, web, until):
-    """The due part of the document for a member, without values that depend on the moment. `never` are the members that
-    one never heard from; `web` and `until` are its list's values of that ticket.
+    """Returns the due part of the document for a member, without values that depend on the moment. `never` are the
+    members that one never heard from; `web` and `until` are its list's values of that ticket.
     """
     peers = []
     for other in three.addresses:
@@ -159,7 +159,7 @@ def due_member(three, address, never, web, until):
 
 
 def without_moments(found, ahead):
-    """A member of the document without the values that depend on the moment, if each is in its range."""
+    """Returns a member of the document without the values that depend on the moment, if each is in its range."""
     require(about(found.pop("seconds_to_answer"), 0, 3), "seconds_to_answer")
     require(about(found.pop("clock_ahead_seconds"), ahead - 1, ahead + 1), "clock_ahead_seconds")
     for peer in found["peers"]:
@@ -172,8 +172,8 @@ def without_moments(found, ahead):
 
 
 def in_parts(answer):
-    """The list of this answer with a part for each line: the second part first, and the first one twice. Other answers
-    stay.
+    """Returns the list of this answer with a part for each line: the second part first, and the first one twice. Other
+    answers stay.
     """
     head = frames.Head.read(answer)
     if head.cmd != frames.code("RLst"):
@@ -206,7 +206,7 @@ def every_field_of_the_document(folder):
     three = Three(folder)
     one, two, third = three.addresses
     of_two = three.peers(two, third=(None, 0, 0, 3))
-    # (a lease's end is told by the clock of the member that tells it)
+    # (a lease's end is shown by the clock of the member that reports it)
     members = [three.fake(one), three.fake(two, three.held(None, two), of_two)]
     members.append(three.fake(third, three.held(one, two, 59), ahead=9))
     with all_of(members):
@@ -226,13 +226,13 @@ def every_field_of_the_document(folder):
     seen = [{"owner": two, "until": None, "seconds_left": None, "members": [two, one, third]}]
     require_same(db, {"name": "db", "mode": "manual", "owner": two, "owners": [two], "seen": seen, **unknown})
     require_same(told["site"], None)
-    # (the third was sent nothing by the second, which never heard it)
+    # (the second member has sent nothing to the third, and received nothing from it)
     require_problems(told, warning("differ", ticket="web"), warning("one-way", two, third))
     require_same(told["summary"], f"BOOTH WARNING: {'; '.join(problem['text'] for problem in told['problems'])}")
 
 
 def due_samples(three, answering):
-    """The due samples of two members that answer and one that does not, by their names and labels."""
+    """Returns the due samples of two members that answer and one that does not, by their names and labels."""
     one, two, third = three.addresses
     pairs = [(each, other) for each in answering for other in three.addresses if other != each]
     due = [("booth_status", 1, {})]
@@ -240,6 +240,8 @@ def due_samples(three, answering):
         due.append(("booth_problems", count, {"severity": word}))
     for each, role in three.roles().items():
         due.append(("booth_member_up", int(each != third), {"member": each, "role": role}))
+    # (nobody listens at the third)
+    due.append(("booth_member_problem", 1, {"member": third, "kind": "no-daemon"}))
     for each, counts in ((one, [0] * 8), (two, range(1, 9))):
         for fault, count in zip(FAULTS, counts):
             due.append(("booth_member_dropped_total", count, {"member": each, "fault": fault}))
@@ -253,7 +255,7 @@ def due_samples(three, answering):
 
 
 def moving_samples(three, answering):
-    """The samples that depend on the moment, with their ranges."""
+    """Returns the samples that depend on the moment, with their ranges."""
     due = [("booth_look_time_seconds", (three.now, three.now + 30), {}), ("booth_look_seconds", (0, 3), {})]
     for each in answering:
         due.append(("booth_member_clock_ahead_seconds", (-1, 1), {"member": each}))
@@ -316,7 +318,7 @@ def a_look_ends_in_its_time(folder):
     one, two, third = three.addresses
 
     def junk(answer):
-        # (the number of another request, another command, bytes of nothing, and no answer at all)
+        # (datagrams with another number, with another command, and with random bytes; and no answer at all)
         other = bytearray(answer)
         other[35] ^= 1
         return [bytes(other), frames.request_now("CGnt", 1, frames.ticket_body(b"web", 0, 0, 0))] * 50

@@ -1,13 +1,13 @@
 #!/usr/bin/env python3
 """Checks the proved boothd against docs/PROTOCOL.md over loopback, and compares replies byte by byte.
 
-Run it as `python3 tests/loopback.py [PROGRAM [WORD]]`, PROGRAM being what `make build` leaves if
-it is left out; with WORD only the checks with it in their sentences run. It prints a line for each
-check, ends all that it started, and has the status 1 if a check failed. If boothd is not
-built it checks nothing, with status 0. Its daemons have locks and directories of their own.
+Run it as `python3 tests/loopback.py [PROGRAM [WORD]]`. PROGRAM is a boothd, by default the one that `make build`
+leaves. With WORD only the checks run whose sentences have this word. It prints a line for each check, ends all programs
+that it started, and has the status 1 if a check failed. If boothd is not built it checks nothing, with status 0. Each
+daemon has its own lock and its own directory.
 
-The checks stand in replies.py and refusals.py. What they expect is written manually or computed by
-Python's standard library, and never the program's own output.
+The checks are in replies.py and refusals.py. The expected values are written manually or computed by Python's standard
+library; they never come from the program's own output.
 """
 
 import os
@@ -26,7 +26,7 @@ from serving import built_program, end_by_signals, turn
 
 
 def passes(check, room):
-    """Whether the check passes. Prints its line."""
+    """Returns whether the check passes. Prints its line."""
     try:
         check(room)
     except (Wrong, OSError, subprocess.TimeoutExpired) as why:
@@ -56,7 +56,7 @@ def main(words):
         return 0
     if not os.access(program, os.X_OK):
         sys.exit(f"loopback.py: cannot run {program}")
-    # (one of its checks looks at the usual lock)
+    # (one of its checks uses the default lock file)
     with turn("loopback"):
         return 1 if run(program, words[1] if len(words) > 1 else "") else 0
 

@@ -28,12 +28,12 @@ SLOW_STOP = """\
 ExecStop=
 ExecStop=/bin/sh -c 'sleep 4; exec pg_ctlcluster --skip-systemctl-redirect -m fast 15-main stop'
 """
-# stands for a chrony that runs, and sets the clock once a file is there
+# a stand-in for the commands of chrony, which says that the clock is set as soon as a file exists
 CHRONYC, CLOCK_IS_RIGHT = "/usr/local/bin/chronyc", "/run/clock-is-right"
 WAITING_CHRONYC = f"#!/bin/sh\n[ \"$1\" = tracking ] || [ -e {CLOCK_IS_RIGHT} ]\n"
 WAITS, WAITED = "waits until chrony has set the clock", "chrony has set the clock, after"
 UNITS = "/etc/systemd/system"
-# (the server is another package's, and is not what this looks at)
+# (needrestart must leave the server alone, which belongs to another package and is not tested here)
 NEEDRESTART_RUN = ("needrestart", "-r", "a")
 OWN_RC, SERVER_RC = "/etc/needrestart/conf.d/booth.conf", "/etc/needrestart/conf.d/zz-server.conf"
 SERVER_IS_LEFT = "$nrconf{override_rc}{qr(^postgresql)} = 0;\n"
@@ -56,7 +56,8 @@ class Scenario(NamedTuple):
 
 
 SCENARIOS: Dict[str, Scenario] = {}
-# no outage but what a client's new connection costs; a stop and a start at one site; a takeover
+# in seconds: the longest outage for clients without a stop of the server; with a stop and a start at one site; with a
+# takeover
 NONE, SHORT, LONG = 3.0, 20.0 + EXPIRE, SECONDS_OF_A_TAKEOVER + EXPIRE
 
 
@@ -73,7 +74,7 @@ def scenario(most_without: float, gate: bool = False, image: Image = POSTGRESQL)
 
 @contextlib.contextmanager
 def drop_in(site: Machine, unit: str, text: str) -> Iterator[None]:
-    """Gives a unit additional lines for a while."""
+    """Gives a unit additional lines in this block."""
     path = f"{UNITS}/{unit}.d/zz-fault.conf"
     site.write(path, text)
     site.must("systemctl", "daemon-reload")
@@ -127,7 +128,7 @@ def crash_and_return(world: World, holder: Machine) -> Optional[str]:
         began = time.monotonic()
         world.boot(holder, wait=False)
         told = await_replica(world, holder)
-        # (what a system that boots does late is seen too)
+        # (the journal also has what the system does late in its boot)
         time.sleep(10)
         told += f", and {waits_for_a_clock(world, holder, began)}"
     finally:
@@ -159,7 +160,7 @@ def crash_and_quick_return(world: World, holder: Machine) -> Optional[str]:
 @scenario(LONG)
 def power_off_and_return(world: World, holder: Machine) -> Optional[str]:
     """The primary's machine is shut down normally, and boots again after a takeover."""
-    # (nothing else is run in a machine that goes off: it would be waited for)
+    # (no other command may run in a machine that shuts down, since the test would wait for it)
     holder.run("systemctl", "poweroff", "--no-block")
     world.await_that("it is off", lambda: not holder.is_up(), PATIENCE)
     taken_over(world, holder)

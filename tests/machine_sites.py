@@ -23,15 +23,16 @@ TICKET, SERVER, NAME = "db8", "15/main", "15-main"
 UNIT = f"postgresql@{NAME}.service"
 FOLLOWER, DAEMON, WATCH = f"booth-follow@{TICKET}.service", "booth@booth.service", f"booth-postgresql@{NAME}.service"
 ADDRESSES = {"one": "10.77.0.1", "two": "10.77.0.2", "third": "10.77.0.3"}
-# (on a busy machine, nothing is done in its time with less)
+# (on a busy machine a smaller expire is too short for all steps)
 EXPIRE = int(os.environ.get("BOOTH_MACHINES_EXPIRE", "20"))
 AFTER, TIMEOUT, RETRIES = 5, 1, 3
-# what a first start is silent for, a takeover takes at most from the holder's end, and a steady state is waited for
+# in seconds: the silence after a first start; the longest time of a takeover, from the holder's end; and the limit for
+# a wait until everything runs
 SECONDS_OF_SILENCE = EXPIRE + AFTER + 1
 SECONDS_OF_A_TAKEOVER = EXPIRE + AFTER + 20
 SECONDS_TO_SETTLE = 100 + EXPIRE
 PATIENCE = 40 + EXPIRE
-# (a look costs processes in the machines)
+# (each check starts processes in the machines)
 SECONDS_BETWEEN_LOOKS = 0.5
 # (a journal syncs each record once more, and the figures of POSTGRESQL.md were measured without it)
 SETUP = (
@@ -142,7 +143,7 @@ class World:
                 self.boot(machine)
         for site in self.sites:
             site.run("booth-service", "clear", TICKET)
-        # (a server that lacks data is refused at the first one)
+        # (a server that lacks data is refused when it starts first)
         for site in self.sites:
             if all(self.leader(each) in ("", "none") for each in self.sites):
                 site.run("timeout", "10", "booth", "grant", "-w", "-s", site.address, TICKET)

@@ -1,9 +1,10 @@
 #!/usr/bin/env python3
-"""Tries to write a row to the local PostgreSQL repeatedly, and notes each try. It runs inside a machine.
+"""Tries to write a row to the local PostgreSQL again and again, and records each try. It runs inside a machine.
 
-tests/machine_writers.py runs it as `machine_writer.py SITE SOCKET LOG`, as the user that the server runs as. A line of
-the log is a try: when it was sent, when it was answered (seconds of the clock that all machines here share), the number
-of the row, and `ok` or why it failed. It speaks PostgreSQL's protocol by itself, so that a try costs no process.
+tests/machine_writers.py runs it as `machine_writer.py SITE SOCKET LOG`, as the server's user. Each line of the log is a
+try. It has the times at which the try was sent and answered (in seconds of the clock that all machines here share), the
+number of the row, and `ok` or the cause of the failure. The program itself speaks PostgreSQL's protocol, so a try
+starts no process.
 """
 
 import socket
@@ -59,7 +60,7 @@ class Session:
             elif kind == b"R" and content != b"\0\0\0\0":
                 raise Refused("the server asks for a password")
             elif kind == b"N" and b"C01000" in content:
-                # (a commit whose wait for a peer was ended)
+                # (the server ended the wait of a commit for its peer)
                 refused = "not replicated"
             elif kind == b"Z":
                 if refused is not None:

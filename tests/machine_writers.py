@@ -32,7 +32,7 @@ TABLE = "CREATE TABLE IF NOT EXISTS booth_rows (site text, number bigint, at tim
 
 
 class Try(NamedTuple):
-    """An attempt of a writer; `why` is the cause of a failure."""
+    """An attempt of a writer to write a row; `why` is the cause of a failure."""
 
     sent: float
     answered: float
@@ -101,8 +101,7 @@ def inside(tries: List[Try], runs: List[Tuple[float, float]]) -> int:
 
 
 class Writers:
-    """A writer at each of these machines, from each boot on. It is a unit that runs until the very end of a shutdown.
-    """
+    """A writer at each of these machines. It runs from each boot on until the end of a shutdown, as a unit."""
 
     def __init__(self, sites: List[Machine]) -> None:
         self.sites = sites
@@ -121,7 +120,7 @@ class Writers:
         """Returns the attempts of each site so far."""
         found = {}
         for site in self.sites:
-            # (the last line may be half written)
+            # (the last line may be incomplete)
             lines = site.read(LOG).split("\n")[:-1]
             found[site.name] = [parsed(line) for line in lines if line.count(" ") >= 3]
         return found

@@ -2,10 +2,11 @@
 """Causes faults on three booted machines with PostgreSQL under a ticket, and checks that one site at most takes writes.
 
 Run it as root, as `python3 tests/machines.py [--package FILE] [--gate] [--list] [SCENARIO ..]`. It boots two sites and
-an arbitrator, sets them up from the package (out/booth-proved_*.deb if none is named) as the documents say, and has a
-writer at each site. For each scenario it prints how long two sites took writes at the same time, which must be 0 s, how
-long no site did, how many writes that were taken are not there any more, and what the scenario itself says. Its status
-is 1 if a scenario failed, and 77 if the machines cannot be booted here, which it says.
+an arbitrator, and sets them up from the package as the documents say. The package is FILE, by default
+out/booth-proved_*.deb. Each site has a writer. For each scenario the test prints four things: how long two sites took
+writes at the same time, which must be 0 s; how long no site did; how many accepted writes are lost; and what the
+scenario itself found. Its status is 1 if a scenario failed, and 77 if the machines cannot be booted here, with a line
+about the cause.
 
 The machines and their image are below /var/tmp/booth-machines. The image is made once, in some minutes.
 """
@@ -27,6 +28,7 @@ TOP = os.path.dirname(HERE)
 sys.path[:0] = [HERE, f"{TOP}/tools"]
 
 import booted
+import machine_console
 import machine_sites
 import machine_writers
 from booted import Image, NoImage, NotBooted
@@ -34,6 +36,8 @@ from machine_scenarios import SCENARIOS, Scenario
 from machine_sites import Unlike, World
 
 NOT_HERE = 77
+# (whose scenario is among SCENARIOS once it is imported)
+assert machine_console
 
 
 def words(arguments: List[str]) -> argparse.Namespace:
@@ -154,6 +158,6 @@ def main(arguments: List[str]) -> int:
 
 
 if __name__ == "__main__":
-    # (what was booted is ended in each case)
+    # (the machines are ended in each case)
     signal.signal(signal.SIGTERM, lambda *_: sys.exit(1))
     sys.exit(main(sys.argv[1:]))

@@ -1,11 +1,11 @@
 #!/usr/bin/env python3
 """Checks what systemd reads from boothd and booth-follow: lines with priorities, and notifications.
 
-Run it as `python3 tests/manager.py [BOOTHD BOOTH-FOLLOW]`, by default those that `make build` leaves.
-It takes some ten seconds, prints a line for each check, ends all that it started, and has the status 1 if a check
-failed. If a program is not built it checks nothing, with status 0.
+Run it as `python3 tests/manager.py [BOOTHD BOOTH-FOLLOW]`. By default the programs are those that `make build` leaves.
+It takes some ten seconds, prints a line for each check, ends all programs that it started, and has the status 1 if a
+check failed. If a program is not built it checks nothing, with status 0.
 
-Nobody listens if booth-follow asks a daemon: it runs its program with the first word, and continues.
+No daemon answers booth-follow: it runs its program with `stop`, and continues.
 """
 
 import contextlib
@@ -27,7 +27,7 @@ from scratch import scratch
 from serving import built_program, end_by_signals, own_addresses
 from stories import PATIENCE, Wrong, passed, require
 
-# how long what is told once a second may be late, in seconds: a machine may have no processor for it
+# the additional time for a line that comes once a second, in seconds: a busy machine may have no processor for it
 LATE = 10
 
 
@@ -158,7 +158,7 @@ def follower_failures(programs: Tuple[str, str], place: Place) -> None:
         with place.running(words, True, NOTIFY_SOCKET=f"{place.folder}/m") as process:
             require(process.wait(PATIENCE) == 1, "another status")
         require(systemd.all_told() == [], "it is told something")
-    unkept = "<3>cannot tell the time of the records: no daemon kept its clock there since the boot\n"
+    unkept = "<3>cannot read the clock of the records: no daemon wrote its clock there since the boot\n"
     require(content(place.errors) == unkept, content(place.errors))
 
 

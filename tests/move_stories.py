@@ -8,24 +8,24 @@ import time
 from members import MANUAL, now, wait_for
 from stories import BY_HAND, NAME, PATIENCE, grants, is_held_by, keeps, lists, passed, require, says, slack, story
 
-# how often the ticket goes to the other site and back
+# how often the ticket moves to the other site and back
 ROUND_TRIPS = 5
 
 
 def moves(asked, target, *options, name=NAME):
-    """A move that was requested of this member is done."""
+    """Checks that a move, requested from this member, is done."""
     says(asked, ("move", *options, name, target.address), 0, f"ticket {name} moved to {target.address}\n")
 
 
 def is_free(cluster, holder):
-    """Nobody holds the ticket that this member released, and no member lists a holder."""
+    """Checks that nobody holds the ticket that this member released, and that no member lists a holder."""
     require(holder.record().until is None, "the lease that was given back is kept")
     shown = lambda: [m.address for m in cluster.members if m.is_running() and m.shown()]
     require(wait_for(lambda: not shown(), PATIENCE), "an owner is listed")
 
 
 def stays_free(cluster):
-    """No site takes it over by itself, for longer than a takeover would take."""
+    """Checks that no site takes the ticket over by itself, for longer than a takeover takes."""
     end = now() + cluster.times.abstention() + 2 * cluster.times.timeout
     while now() < end:
         holders = [m.address for m in cluster.members if (record := m.record()) and record.holds(now())]
@@ -44,7 +44,7 @@ def many_tickets_of_which_one_is_moved(cluster):
     others = {ticket: one.record(ticket).until for ticket in cluster.tickets[1:]}
     end, trips, longest = now() + 2 * cluster.times.renewal, 0, 0
     while now() < end or trips < ROUND_TRIPS:
-        # (in turn by the site that holds it, and by the one that does not)
+        # (the holder and the other site request the moves alternately)
         for asked, holder, target in ((one, one, two), (one, two, one)):
             started = now()
             moves(asked, target, "-w")
@@ -98,7 +98,7 @@ def a_move_that_attributes_forbid(cluster):
     one, two, _ = cluster.members
     cluster.remember()
     cluster.start()
-    # (so that a takeover would be let at both)
+    # (so a takeover is allowed at both sites)
     for member in (one, two):
         keeps(member, ("set", "ready", "yes"), 0, "")
     keeps(two, ("set", "maintenance", "yes"), 0, "")

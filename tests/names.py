@@ -1,13 +1,14 @@
 #!/usr/bin/env python3
 """Checks that public functions have the names of their definitions.
 
-Run it as `python3 tests/names.py`. It reads the sources alone, in a second, and has the status 1 if a name is wrong.
+Run it as `python3 tests/names.py`. It only reads the sources, in a second, and has the status 1 if a name is wrong.
 
-If a clause of a public function says that its result is what one definition of its crate gives, or a field of
-that, the function bears that name: the same one, a word of it in any form (`print` and `printed`), or, of a value
-that is made of another, `of_status` and `service_of`. A name that has a reason to be another stands in OTHERS.
+Suppose that a clause of a public function says that its result equals a definition of its crate, or a field of this
+definition. Then the function has the definition's name, or a word of it in any form (`print` and `printed`); or, if the
+definition makes its value from another one, a name like `of_status` or `service_of`. OTHERS lists the exceptions with
+their reasons.
 
-What documents say of files and titles is held to the tree by document_names.py.
+document_names.py checks the files and titles that documents name.
 """
 
 import glob
@@ -19,7 +20,7 @@ from document_names import counts, decisions, definitions
 
 TOP = os.path.dirname(os.path.dirname(os.path.abspath(__file__)))
 
-# functions with another name than their definition, and why
+# functions whose name differs from their definition's, with the reason
 OTHERS = {
     ("booth_clock", "encode", "spelling"): "a value encodes itself, and the bytes are its spelling",
     ("booth_rec", "encode", "spelling"): "a value encodes itself, and the bytes are its spelling",
@@ -41,7 +42,7 @@ FEWEST_ALIKE = 3
 
 
 def defined(crate):
-    """The definitions of a crate."""
+    """Returns the definitions of a crate."""
     names = set()
     for path in glob.glob(f"{TOP}/crates/{crate}/specs/**/*.antt", recursive=True):
         with open(path, encoding="utf-8") as file:
@@ -50,7 +51,7 @@ def defined(crate):
 
 
 def values(crate):
-    """The public functions of a crate, each with the names of its results; the names of fields are unchanged."""
+    """Yields the public functions of a crate, each with the names of its results; the names of fields are unchanged."""
     known = defined(crate)
     for path in sorted(glob.glob(f"{TOP}/crates/{crate}/src/**/*.rt", recursive=True)):
         with open(path, encoding="utf-8") as file:
@@ -66,13 +67,13 @@ def values(crate):
 
 
 def are_alike(one, other):
-    """Whether two words are forms of one word, as print and printed are."""
+    """Returns whether two words are forms of one word, as print and printed are."""
     short, long = sorted((one, other), key=len)
     return short == long or len(short) >= FEWEST_ALIKE and (short in long or short[:-1] == long[: len(short) - 1])
 
 
 def bears(function, definition):
-    """Whether the function has the definition's name."""
+    """Returns whether the function has the definition's name."""
     if function == definition:
         return True
     if re.match(r"(of|from)_", function) and definition.endswith("_of"):

@@ -1,8 +1,8 @@
 #!/usr/bin/env python3
 """Prints turns with datagrams and replies for the stories of nodes, as parts.
 
-tools/frames.py spells them, and the standard library's `hmac` seals them: nothing here is of the
-program's own making. From the top of the repository:
+tools/frames.py writes the frames, and the standard library's `hmac` signs them, so nothing here comes from the proved
+program. From the top of the repository:
 
     python3 tests/node_frames.py > tests/rows/node/frames.txt
     python3 tests/node_frames.py sealed > tests/rows/node/sealed_frames.txt
@@ -22,11 +22,11 @@ KEY = b"secret-key"
 S1, S2 = (frames.member_id(f"192.168.20{i}.100") for i in (1, 2))
 NO_ONE = 0xFFFF_FFFF
 
-# milliseconds: when requests are sent, and what the node's clock reads as they come
+# in milliseconds: the time in the requests, and the reading of the node's clock when they arrive
 SENT = 1_700_000_000_000
 NOW = 1_700_000_000_999
 
-# how long a promise binds at the default times, in milliseconds: S1 starts at 0 and abstains as long
+# how long a promise lasts with the default times, in milliseconds. S1 starts at 0, and abstains for the same time
 PROMISE = 601_203
 
 TICKET = b"ticket-db8"
@@ -46,19 +46,19 @@ def sealed(letters, body=b"", **fields):
 
 
 def at(millis, make, letters, body=b"", **fields):
-    """The frame that `make` makes at this moment."""
+    """Returns the frame that `make` makes at this moment."""
     secs = min(millis // 1000, 0xFFFF_FFFF)
     return make(letters, body, secs=secs, usecs=millis % 1000 * 1000, **fields)
 
 
 def peers(drops, second_site="0 0 1 0", arbitrator="0 0 1 0"):
-    """The text of the drops and of the counters of both other members. Hello was sent to each."""
+    """Returns the text of the drops and of the counters of both other members. Hello was sent to each."""
     lines = f"dropped {drops}\nsite 192.168.202.100 {second_site}\n"
     return (lines + f"arbitrator 192.168.203.100 {arbitrator}\n").encode()
 
 
 def nobodys(ticket=TICKET):
-    """The state of a ticket that nobody holds."""
+    """Returns the state of a ticket that nobody holds."""
     return frames.ticket_body(ticket, NO_ONE, 0, 0)
 
 
@@ -68,7 +68,8 @@ def heartbeat(sender, leader=None, ticket=TICKET):
 
 
 def in_hex(datagram):
-    """The bytes in words of eight hexadecimal digits, in lines of eight words; each line continues the one before."""
+    """Returns bytes as words of eight hexadecimal digits, in lines of eight words; each line continues the one before.
+    """
     words = [datagram[i : i + 4].hex() for i in range(0, len(datagram), 4)]
     return "".join("\n    " + " ".join(words[i : i + 8]) for i in range(0, len(words), 8))
 
@@ -91,7 +92,7 @@ def hello(make):
 
 
 def print_requests():
-    """Requests of a client and their replies. The other fields of a request change nothing in the reply."""
+    """Prints requests of a client and their replies. The other fields of a request change nothing in the reply."""
     said = {"options": 8, "reason": frames.code("Admn"), "result": frames.code("Busy")}
     asked = frames.ticket_body(TICKET, S2, 7, 9)
     other = frames.ticket_body(b"other", 5, 7, 9)
@@ -135,7 +136,7 @@ def print_requests():
 
 
 def print_moments(request):
-    """`CLst` with this reading of the clock, and with that reading in use."""
+    """Prints the request for the list at this reading of the clock, with that reading in use."""
     table = [
         ("back", "the first reading", 5, NOW),
         ("late", "a reading past the seconds of a frame", 4_294_967_296_005, 4_294_967_296_005),

@@ -1,9 +1,10 @@
 #!/usr/bin/env python3
 """Checks follow-postgresql and booth-postgresql against docs/POSTGRESQL.md, with two real servers on this machine.
 
-Run it as root, as `python3 tests/postgresql.py`. It takes a minute or two, prints a line for each story, ends all that
-it started, and has the status 1 if a story failed, and 77 if PostgreSQL or something else is missing, which it says.
-The stories stand on one another. A writer at each site tries all along; no two sites may take its writes at one moment.
+Run it as root, as `python3 tests/postgresql.py`. It takes a minute or two, prints a line for each story, and ends all
+programs that it started. Its status is 1 if a story failed, and 77 if PostgreSQL or another program is missing, which
+it names. Each story continues from the one before. All the time a writer at each site tries to write, and no two sites
+may accept writes at the same moment.
 """
 
 import os
@@ -141,7 +142,7 @@ def a_pair_is_set_up(pair: Pair) -> None:
     need(os.path.exists(f"{two.data}.booth-old/PG_VERSION"), "what it had is gone")
     for site in pair.sites:
         path = f"/run/writer-{site.name}"
-        # (the user that it runs as may not read this folder)
+        # (the server's user may not read this folder)
         with open(f"{HERE}/machine_writer.py", encoding="utf-8") as file:
             words = [PYTHON, "-c", file.read(), site.name, f"{SOCKETS}/.s.PGSQL.{site.port}", path]
         site.must("install", "-o", OWNER, "/dev/null", path)
@@ -238,7 +239,8 @@ def alone_it_is_not_promoted(pair: Pair) -> None:
     await_that("it is noted that it follows", lambda: not os.path.exists(f"{two.root}{KEPT}/{NAME}.former"))
     turn_off(two)
     write(one, 71, 80)
-    # (its lease gets later terms, while it runs and afterwards, and is not lost; then it is, and another may have run)
+    # (the site's lease gets later terms while the server runs and afterwards, and is not lost; then it is lost, and
+    # another site may have had a primary)
     for term, seconds in ((11, 60.0), (14, 2.5)):
         one.hold(term, seconds)
         await_that("the later term is noted", lambda term=term: one.read(f"{KEPT}/{NAME}.former") == f"{term}\n", 5)
@@ -285,7 +287,8 @@ def what_cannot_be_rewound_is_copied(pair: Pair) -> None:
     turn_on(two)
     two.must("booth-postgresql", "accept", NAME)
     promote(two)
-    turn_on(one)
+    # (the unit may stop its server before that answers once)
+    one.must("systemctl", "start", UNIT, WATCH)
     await_that("it says what is needed", lambda: "setup was run without --allow-basebackup" in one.told())
     need(not one.ask("SELECT 1") and one.word("start").status == 1, "it goes on with other data")
     done = one.set_up("--standby", "--allow-basebackup")

@@ -25,7 +25,7 @@ TICKET, MANUAL, NAME = "db8", "by-hand", "pg"
 UNIT, WATCH = f"postgresql-{NAME}.service", f"booth-postgresql@{NAME}.service"
 ADDRESSES = {"one": "127.0.0.2", "two": "127.0.0.3"}
 OWNER = "postgres"
-# what the package's own programs run by, which each user may run
+# the interpreter of the package's programs, which each user may run
 PYTHON = "/usr/bin/python3"
 NEEDED = ("unshare", "nsenter", "mount", "setpriv", "flock")
 SECONDS_OF_A_COMMAND, PATIENCE = 60, 40
@@ -39,7 +39,7 @@ ticket = "{TICKET}"
 ticket = "{MANUAL}"
   mode = manual
 """
-# what the servers have beside their defaults: small, and quick where nothing loses its power
+# the settings of the servers that differ from the defaults: small, and quick, because no test cuts the power
 SETTINGS = f"""
 unix_socket_directories = '{SOCKETS}'
 shared_buffers = 16MB
@@ -49,7 +49,7 @@ listen_addresses = ''
 max_wal_size = 64MB
 min_wal_size = 32MB
 """
-# its own /etc and programs are those of this machine, and what it writes there is kept in memory
+# the site's /etc and programs are copies of this machine's; a write there goes to memory
 ENTER = """
 set -e
 mount -t tmpfs tmpfs {folder}/over
@@ -114,7 +114,7 @@ class Site:
             os.makedirs(f"{self.folder}/{part}")
         self.write_program("systemctl", f'exec {sys.executable} {TOP}/tests/postgresql_units.py "$@"\n')
         script = ENTER.format(folder=self.folder, top=TOP, owner=OWNER, sockets=SOCKETS, python=sys.executable)
-        # (whatever becomes of this process, that one ends with it)
+        # (the site's first process ends when this process ends)
         words = ["setpriv", "--pdeathsig", "KILL", "unshare", "--mount", "--pid", "--fork", "--kill-child"]
         words += ["--mount-proc", "sh", "-c", script]
         self.process = subprocess.Popen(words, stdin=subprocess.DEVNULL, stdout=subprocess.PIPE, env=self.environment())
@@ -190,7 +190,7 @@ class Site:
         return self.run(name, NAME, word, BOOTH_TICKET=TICKET, BOOTH_TICKET_LEFT=str(left))
 
     def tell(self, service: str) -> None:
-        """Sets the follower's state of the service to this."""
+        """Sets the state of the service that the follower reports."""
         self.write(f"/run/booth-follow/{TICKET}.state", f"service={service}\n")
 
     def hold(self, term: int, seconds: float) -> None:

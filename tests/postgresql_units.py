@@ -1,9 +1,10 @@
 #!/usr/bin/env python3
 """A stand-in for systemd in a site of tests/postgresql.py: it starts and stops the units in that site.
 
-It is run there as `systemctl`, and once as `postgresql_units.py hold`, which is the site's first process. It knows what
-the package uses: start, stop, restart, enable, disable, is-active, is-failed, reset-failed and daemon-reload; and of a
-unit its User=, ExecStartPre=, ExecStart= and KillSignal=. What is started has its output in UNITS/UNIT.log.
+The site runs it as `systemctl`, and once as `postgresql_units.py hold`, which is the site's first process. It has the
+commands that the package uses: start, stop, restart, enable, disable, is-active, is-failed, reset-failed and
+daemon-reload. Of a unit it reads User=, ExecStartPre=, ExecStart= and KillSignal=. The output of a unit is in
+UNITS/UNIT.log.
 """
 
 import contextlib
@@ -21,7 +22,7 @@ from typing import Dict, Iterator, List
 FOLDER = "/etc/systemd/system"
 UNITS = "/run/units"
 SECONDS_TO_STOP = 60
-# what systemctl ends with for a unit that is not active
+# the status of systemctl for a unit that is not active
 NOT_ACTIVE = 3
 
 
@@ -71,7 +72,7 @@ def has_failed(unit: str) -> bool:
 
 
 def forget(unit: str) -> None:
-    """Deletes the state in which a unit ended."""
+    """Deletes the stored end of a unit."""
     for what in ("failed", "pid"):
         if what == "failed" or not is_alive(pid_of(unit)):
             with contextlib.suppress(FileNotFoundError):
@@ -143,7 +144,7 @@ def main(words: List[str]) -> int:
     if "--no-block" in options:
         if os.fork() > 0:
             return 0
-        # (whoever reads what this prints does not wait for it)
+        # (the program that reads this output does not wait for the unit)
         nothing = os.open(os.devnull, os.O_RDWR)
         for stream in (0, 1, 2):
             os.dup2(nothing, stream)

@@ -1,11 +1,12 @@
 #!/usr/bin/env python3
 """Gives daemons a slow disk, few open files and a file system that takes no writes, and counts the syncs of a write.
 
-Run it as `python3 tests/pressure.py [--long] [BOOTHD [TRIALS]]`, by default what `make build` and the gate leave. It
-takes a minute and a half, with --long four minutes, prints a line for each check, ends all that it started, and has the
-status 1 if a check failed. What this machine does not let it do, or has no program for, is left out with a line.
+Run it as `python3 tests/pressure.py [--long] [BOOTHD [TRIALS]]`. By default the programs are those that `make build`
+and the gate leave. It takes a minute and a half, with --long four minutes. It prints a line for each check, ends all
+programs that it started, and has the status 1 if a check failed. It prints a line about each check that this machine
+does not allow, or has no program for.
 
-The disk is slow for a daemon alone, by functions that stand before the C library's fsync and fdatasync.
+Only the daemon has a slow disk: a library replaces fsync and fdatasync of the C library (LD_PRELOAD).
 """
 
 import concurrent.futures
@@ -33,18 +34,20 @@ from slow_disk import CountedHost, SlowDisk, counted
 
 SECONDS_OF_A_RUN, SECONDS_BETWEEN_LOOKS, SLACK = 10, 0.1, 10
 SEED = 9929
-# how long the looks at a slow disk last, in lifetimes of a lease
+# how long a slow disk is watched, in lifetimes of a lease
 LIFETIMES = 3
-# how many files a daemon with a small limit may have open, and how many links it gets then
+# the limit of open files of a daemon, and the links that it then accepts
 FILES, LINKS_OPENED = 16, 10
-# how many writes are counted, and how many syncs each has
+# by docs/SIZING.md: the open files of the daemon, of three members, and of two links
+FILES_OF_TWO_LINKS = 24 + 3 + 4
+# the number of counted writes, and the syncs of each
 WRITES, SYNCS_OF_A_WRITE = 10, 3
-# how many tickets are prepared; how long a slow sync takes, and a sync of members that renew
+# the number of prepared tickets; the time of a slow sync, and that of a sync while members renew, in seconds
 TICKETS, SLOW_SYNC, RENEWAL_SYNC = 40, 0.15, 0.03
 
 
 class Programs(NamedTuple):
-    """The programs that are tested, or None for one that is not built, and whether the long rows are run."""
+    """The tested programs, each None if it is not built, and whether the long rows run."""
 
     boothd: Optional[str]
     trials: Optional[str]
@@ -52,7 +55,9 @@ class Programs(NamedTuple):
 
 
 class Row(NamedTuple):
-    """The times of a ticket in seconds, how long a sync takes at its holder, and whether the holder goes on."""
+    """The times of a ticket, how long a sync takes at its holder, both in seconds, and whether the holder keeps the
+    ticket.
+    """
 
     expire: int
     renewal: int
@@ -72,7 +77,9 @@ def boothd_of(programs: Programs) -> str:
 
 
 def holds_by_its_list(member: Member) -> Optional[bool]:
-    """Returns whether a site lists itself as the holder for a second at least, or None if it does not answer."""
+    """Returns whether a site lists itself as the holder of a lease that lasts a second or more, or None if it does not
+    answer.
+    """
     answer = member.ask("CLst")
     if answer is None:
         return None
@@ -84,13 +91,13 @@ def holds_by_its_list(member: Member) -> Optional[bool]:
 
 
 class Looks:
-    """When a site gained the ticket and lost it, by its own list."""
+    """The times at which a site gained the ticket and lost it, by its own list."""
 
     def __init__(self, member: Member) -> None:
         self.member, self.gains, self.holds, self.last = member, [], None, 0.0
 
     def look(self) -> None:
-        """Looks once."""
+        """Asks for the list once."""
         holds = holds_by_its_list(self.member)
         if holds is None:
             return
@@ -100,7 +107,7 @@ class Looks:
         self.holds = holds
 
     def look_until(self, end: float) -> None:
-        """Looks again and again until this moment."""
+        """Asks for the list again and again until this moment."""
         while time.monotonic() < end:
             self.look()
             time.sleep(SECONDS_BETWEEN_LOOKS)
@@ -122,7 +129,7 @@ def begin_slowly(cluster: Cluster, slow: SlowDisk) -> None:
 
 
 def through_a_slow_disk(folder: str, boothd: str, row: Row, addresses: List[str]) -> str:
-    """Has the holder's disk be slow, and returns what became of the ticket."""
+    """Makes the holder's disk slow. Returns what happened to the ticket."""
     times, slow = Times(expire=row.expire, timeout=1, retries=3, renewal=row.renewal), SlowDisk(folder, boothd)
     with Cluster(boothd, folder, addresses, times) as cluster:
         begin_slowly(cluster, slow)
@@ -134,7 +141,7 @@ def through_a_slow_disk(folder: str, boothd: str, row: Row, addresses: List[str]
             runs = [looking.submit(site.look_until, begun + LIFETIMES * row.expire) for site in sites]
             for run in runs:
                 run.result()
-        # (who waits for its disk answers late)
+        # (a member that waits for its disk answers late)
         slow.sync_takes(0)
         told = one.printed().decode()
         require(not cluster.watch.wrong, f"two held: {cluster.watch.wrong[:3]}")
@@ -158,7 +165,7 @@ def judged(row: Row, sites: List[Looks], begun: float, told: str) -> str:
 
 
 def a_holder_with_a_slow_disk_passes_its_ticket_on(folder: str, programs: Programs) -> str:
-    """A renewal whose first write is late begins no round, so nobody's promise is made longer for a lease of no use."""
+    """A holder with a slow disk loses its ticket: if its first write is late, it asks nobody to extend a promise."""
     boothd, rows = boothd_of(programs), ROWS + (LONG_ROWS if programs.is_long else ())
     addresses = itertools.islice(own_addresses(), 3 * len(rows))
     groups = zip(*[addresses] * 3)
@@ -172,7 +179,7 @@ def a_holder_with_a_slow_disk_passes_its_ticket_on(folder: str, programs: Progra
 
 @contextlib.contextmanager
 def write_limit(value: Optional[str]) -> Iterator[None]:
-    """Has daemons that are started in the block have this limit in their environment, or none."""
+    """Gives daemons that are started in the block this limit in their environment, or none."""
     os.environ.update({"BOOTH_WRITE_LIMIT": value} if value is not None else {})
     try:
         yield
@@ -181,7 +188,8 @@ def write_limit(value: Optional[str]) -> Iterator[None]:
 
 
 def a_limit_in_the_environment_counts(folder: str, programs: Programs) -> str:
-    """It stands in the place of the one that the times give; 0 is none, and what is no number has a line."""
+    """A limit in the environment replaces that of the times. 0 is no limit, and a value that is no number has a line.
+    """
     boothd, times = boothd_of(programs), Times(expire=8, timeout=1, retries=3, renewal=5)
     addresses = itertools.islice(own_addresses(), 130, 142)
     late, wrong = "ms, and a write may take %d ms", "BOOTH_WRITE_LIMIT is no number of milliseconds"
@@ -234,21 +242,21 @@ def few_open_files_leave_the_lease_alone(folder: str, programs: Programs) -> str
 
 
 def links_are_served_within_the_limit(folder: str, programs: Programs) -> str:
-    """With some more files some links are served, and each next peer gets the place of the one that is idle longest."""
+    """With some more files some links are served, and the next peer gets the place of the link that is idle longest."""
     boothd = boothd_of(programs)
     address = next(itertools.islice(own_addresses(), 110, None))
     conf = os.path.join(folder, "booth.conf")
     with open(conf, "w", encoding="ascii") as file:
         file.write(f'site = "{address}"\nsite = "192.0.2.1"\narbitrator = "192.0.2.2"\nticket = "{TICKET.decode()}"\n')
     member = Member("site", address, os.path.join(folder, "member"))
-    member.prepare = lambda: resource.setrlimit(resource.RLIMIT_NOFILE, (FILES + 12, FILES + 12))
+    member.prepare = lambda: resource.setrlimit(resource.RLIMIT_NOFILE, (FILES_OF_TWO_LINKS, FILES_OF_TWO_LINKS))
     member.start(boothd, conf)
     try:
         with contextlib.ExitStack() as opened:
             for number in range(LINKS_OPENED):
                 link = opened.enter_context(socket.create_connection((address, frames.PORT), SLACK))
                 link.sendall(frames.request_now("CLst", number + 1))
-                # (one that was answered keeps its place for two seconds)
+                # (a link that was answered keeps its place for two seconds)
                 require(link.recv(frames.HEAD_BYTES), f"link {number + 1} is closed: {member.printed()}")
         told = member.printed().decode()
     finally:
@@ -259,7 +267,7 @@ def links_are_served_within_the_limit(folder: str, programs: Programs) -> str:
 
 @contextlib.contextmanager
 def mounted(place: str) -> Iterator[Callable[[str], None]]:
-    """A file system of its own at this place, and what mounts it anew with an option."""
+    """Mounts a file system of its own at this place. Returns a function that mounts it again with an option."""
 
     def mount(*words: str) -> None:
         try:
@@ -290,7 +298,9 @@ def is_granted(member: Member) -> bool:
 
 
 def a_file_system_that_takes_no_writes_is_no_vote(folder: str, programs: Programs) -> str:
-    """A member starts on it, says so, answers, and votes for nobody; and votes again once it takes writes."""
+    """On a file system that takes no writes a member starts, prints a line and answers, but votes only when it can
+    write.
+    """
     boothd, times = boothd_of(programs), Times(expire=8, timeout=1, retries=3, renewal=5)
     addresses = list(itertools.islice(own_addresses(), 120, 123))
     with Cluster(boothd, folder, addresses, times) as cluster:
@@ -331,7 +341,7 @@ def run_keeps(
 
 
 def a_write_without_a_pause_has_three_syncs(folder: str, programs: Programs) -> str:
-    """A sync that has nothing to write is not made: this process had all bytes of the file synced before."""
+    """A write without a pause has three syncs. (The file was synced before, and a sync of nothing is not made.)"""
     noted, counts = os.path.join(folder, "syncs"), []
     environ = counted(folder, noted)
     for count in (WRITES, 2 * WRITES):
@@ -346,7 +356,9 @@ def a_write_without_a_pause_has_three_syncs(folder: str, programs: Programs) -> 
 
 
 def a_write_after_a_pause_has_two_syncs(folder: str, programs: Programs) -> str:
-    """The pause has the third. It has none if the call may not wait as long as the last write or preparation took."""
+    """A write after a pause has two syncs, since the third one is made in the pause. The pause makes none if the call
+    may not wait as long as the last write or preparation took.
+    """
     one, other = TICKET, b"another"
     with CountedHost(folder, programs.trials) as host:
         for ticket in (one, one, other, other):
@@ -370,7 +382,7 @@ def a_write_after_a_pause_has_two_syncs(folder: str, programs: Programs) -> str:
 
 
 def many_tickets_are_prepared_one_by_one(folder: str, programs: Programs) -> str:
-    """Each pause has one, so that nothing that comes waits for more than one."""
+    """Each pause prepares one ticket's record, so a message that arrives waits for at most one sync."""
     tickets = [b"ticket-%d" % number for number in range(TICKETS)]
     with CountedHost(folder, programs.trials) as host:
         for ticket in 2 * tickets:
@@ -383,7 +395,7 @@ def many_tickets_are_prepared_one_by_one(folder: str, programs: Programs) -> str
 
 
 def renewals_heard_at(address: str, seconds: float) -> List[float]:
-    """Returns how long each renewal took: from the turn of its round to what is said of the lease, as is heard here."""
+    """Returns how long each renewal took, from its first turn to the update about the lease, which arrives here."""
     opened: Dict[bytes, float] = {}
     took, end = [], time.monotonic() + seconds
     with socket.socket(socket.AF_INET, socket.SOCK_DGRAM) as hearer:
@@ -400,7 +412,9 @@ def renewals_heard_at(address: str, seconds: float) -> List[float]:
 
 
 def a_renewal_waits_for_two_syncs_of_each_member(folder: str, programs: Programs) -> str:
-    """Of the holder, then of the voter, and of the holder again. The third member is silent, and hears it."""
+    """A renewal waits for two syncs of the holder, then of the voter, then of the holder. The third member is this
+    program.
+    """
     slow, times = SlowDisk(folder, boothd_of(programs)), Times(expire=10, timeout=1, retries=3, renewal=5)
     tickets = tuple(b"ticket-%d" % number for number in range(4))
     addresses = list(itertools.islice(own_addresses(), 150, 153))
@@ -416,13 +430,13 @@ def a_renewal_waits_for_two_syncs_of_each_member(folder: str, programs: Programs
         told = one.printed().decode()
     require(len(took) >= len(tickets), f"{len(took)} renewals: {told}")
     syncs = min(took) / RENEWAL_SYNC
-    # (with three syncs of each it would be nine; the two clocks differ by a millisecond or two)
+    # (with three syncs for each it would be nine; the clocks of the two programs differ by a millisecond or two)
     require(5.5 < syncs < 7, f"the quickest of {len(took)} renewals took {syncs:.1f} syncs: {told}")
     return f"{syncs:.2f} syncs in the quickest of {len(took)} renewals"
 
 
 def bytes_of_no_record_are_told(folder: str, programs: Programs) -> str:
-    """A file of random bytes has a line at the start, and one with a byte that no write leaves; others have none."""
+    """At a start the daemon prints a line about bytes that no write leaves, and none about other files."""
     chance, path = random.Random(SEED), os.path.join(folder, "records", TICKET.hex() + ".rec")
     require(run_keeps(programs, os.path.dirname(path), 0).returncode == 0, "a run in a new directory")
     cut_short = bytes(136) + bytes(range(1, 73)) + bytes(8)

@@ -13,21 +13,21 @@ from members import TICKET, now, path_in, wait_for
 from records import slot
 from stories import NAME, PATIENCE, grants, is_held_by, passed, require, says, slack, story
 
-# beside the one that is asked for again and again
+# the tickets next to the one that is asked for again and again
 MANY = tuple(b"ticket-%02d" % number for number in range(24))
 ASKED = TICKET
 SECONDS_OF_KILLS = 12
-# how long an election continues, in seconds, before it has failed
+# how long an election lasts until it fails, in seconds
 SECONDS_OF_A_GRANT = 5
-# how long a vote takes at most here, in seconds: a kill comes at any moment of it
+# the longest time of a vote here, in seconds; a kill may come at any time in it
 LONGEST_VOTE = 0.02
 SEED = 9929
-# what a disk does that has no room
+# a file that takes no writes, like a full disk
 FULL = "/dev/full"
 
 
 def record_in_force(member, ticket=TICKET):
-    """The whole record in the member's file, or None."""
+    """Returns the whole record in the member's file, or None."""
     try:
         with open(member.record_path(ticket), "rb") as file:
             found = record_file.in_force(record_file.slots_in(file.read(record_file.FILE_BYTES)))
@@ -42,15 +42,14 @@ def restart(cluster, member):
 
 
 def lost_by(member, tickets):
-    """Those of the tickets that the member does not hold now, according to its records."""
+    """Returns the tickets that a member does not hold now, by its records."""
     records = {ticket: member.record(ticket) for ticket in tickets}
     moment = now()
     return [ticket.decode() for ticket, record in records.items() if record is None or not record.holds(moment)]
 
 
 def holds_until(member, ended, seconds):
-    """The member holds the ticket at each moment until the function is true, which must happen within this many
-    seconds.
+    """Checks that the member holds the ticket until the function is true, which must happen within this many seconds.
     """
     end = time.monotonic() + seconds
     while not ended():
@@ -115,7 +114,9 @@ def a_restart_of_all(cluster):
 
 
 def others_start_anew(cluster):
-    """The holder stays away, and the others restart while its lease lasts: after that the second site holds."""
+    """Restarts the other members while the holder's lease lasts, and does not restart the holder: then the second site
+    holds.
+    """
     one, two, arbitrator = cluster.members
     one.kill()
     until = one.record().until
@@ -131,14 +132,14 @@ def others_start_anew(cluster):
 
 
 def all_start_anew_and_nobody_holds(cluster):
-    """The second site releases the ticket, all members restart, and the site is granted the ticket again."""
+    """Has the second site release the ticket, restarts all members, and grants it to this site again."""
     one, two, _ = cluster.members
     says(two, ("revoke", NAME), 0, f"ticket {NAME} revoked\n")
     for member in cluster.members:
         member.kill()
     cluster.start()
     asked = now()
-    # (to whom the others promised last: to another they give no vote before that promise ends)
+    # (the others promised the ticket to this site last, and vote for no other site until that promise ends)
     says(two, ("grant", "-w", NAME), 0, f"ticket {NAME} granted\n")
     took = now() - asked
     require(took < cluster.times.expire / 2 + slack(), f"granted after {took:.2f} s")
@@ -159,8 +160,8 @@ def as_version_1(member, term, lease, ticket=TICKET):
 
 
 def voter_comes_from_version_1(cluster, member, term):
-    """A member that holds nothing abstains for a promise's time, while the first site still holds; then it answers and
-    writes its promises.
+    """Restarts a member that holds nothing: it abstains for a promise's time while the first site holds. Then it votes
+    and writes its promises.
     """
     one, abstention = cluster.members[0], cluster.times.abstention()
     member.kill()
@@ -189,7 +190,7 @@ def members_from_version_1(cluster):
     cluster.remember()
     cluster.start()
     grants(cluster, 0)
-    # (version 1 kept nothing of what it answered)
+    # (version 1 stored none of its votes)
     voter_comes_from_version_1(cluster, arbitrator, None)
     voter_comes_from_version_1(cluster, two, record_in_force(one).term)
     passed("the arbitrator and a site come from version 1, abstain for one promise, and the holder renews all along")
@@ -202,7 +203,7 @@ def members_from_version_1(cluster):
         later = lambda kept=kept: (found := record_in_force(one)).version == 2 and found.lease.until > kept.lease.until
         holds_until(one, later, times.timeout + slack())
         found = record_in_force(one)
-        # (who starts has no round of its term, and asks for the next)
+        # (a member that starts has no round in its term, so it uses the next term)
         require(found.term == kept.term + 1, f"{kept} became {found}")
     passed(f"so does the holder, by the answers of the others, and its next start goes on ({now() - down:.2f} s)")
     until = record_in_force(one).lease.until
@@ -236,6 +237,6 @@ def a_full_disk_of_a_voter(cluster):
     said = arbitrator.printed().decode().splitlines()
     fails, again = f"boothd: cannot keep the record of ticket {NAME}: ", f"boothd: the record of ticket {NAME} is kept again"
     require(len(said) == 2 and said[0].startswith(fails) and said[1] == again, f"it said {said}")
-    # (what runs at the end of a story is to have said nothing)
+    # (programs that still run at the end of a story must have printed nothing)
     restart(cluster, arbitrator)
     passed("and says so, once; and once there is room again it votes, and says that too")

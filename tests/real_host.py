@@ -1,4 +1,4 @@
-"""A real host in a process of its own, which makes the calls that a test gives it.
+"""A real host in its own process, which makes the calls that a test sends to it.
 
 It is imported by the programs in tests/, and not run by itself.
 """
@@ -9,12 +9,12 @@ from typing import IO, Dict, NamedTuple, Optional, Union
 from row_driver import Session
 
 TICKET = b"ticket-db8"
-# the file that a ticket's record is kept in: its name in hexadecimal
+# the file of a ticket's record: the ticket's name in hexadecimal
 FILE = TICKET.hex() + ".rec"
 
 LOOPBACK, OTHER_LOOPBACK, THIRD_LOOPBACK, LOOPBACK_6 = "127.0.0.1", "127.0.0.2", "127.0.0.3", "::1"
 
-# ports that are tried, one after another
+# the ports to try, one after another
 PORTS = range(19_829, 20_129)
 
 
@@ -36,7 +36,7 @@ class Peer(NamedTuple):
 
 
 class Came(NamedTuple):
-    """A datagram that came."""
+    """A datagram that arrived."""
 
     peer: Peer
     content: bytes
@@ -59,7 +59,7 @@ def first(term: int) -> str:
 
 
 class Host:
-    """A real host."""
+    """A real host, which runs in its own process."""
 
     def __init__(
         self,
@@ -87,11 +87,11 @@ class Host:
         raise Wrong("no port is free")
 
     def next(self, wait: int) -> str:
-        """Waits for at most so many milliseconds."""
+        """Waits for an event for at most this many milliseconds."""
         return self.session.say(f"next {wait}")
 
     def heard(self, wait: int = 5000) -> Came:
-        """Returns the datagram that comes next."""
+        """Returns the next datagram."""
         word, *given = self.next(wait).split(" ")
         if word != "datagram":
             raise Wrong(f"nothing came: {word}")
@@ -107,7 +107,7 @@ class Host:
         return self.session.say(f"kept {TICKET.hex()}")
 
     def keep(self, record: str) -> bool:
-        """Keeps a record of the ticket."""
+        """Writes a record of the ticket."""
         return self.session.say(f"keep {TICKET.hex()} {record}") == "ok"
 
     def now(self) -> int:
@@ -115,7 +115,7 @@ class Host:
         return int(self.session.say("now"))
 
     def lock(self, path: str) -> str:
-        """Takes a lock: `got`, `taken` or `failed`."""
+        """Takes a lock. Returns `got`, `taken` or `failed`."""
         return self.session.say(f"lock {hexed(path)}")
 
     def read(self, path: str) -> Optional[bytes]:
@@ -129,7 +129,7 @@ class Host:
         return self.session.say(words) == "ok"
 
     def run_beside(self) -> None:
-        """Has programs of the word `renew` run beside others."""
+        """Has programs with the argument `renew` run at the same time as others."""
         self.session.say("beside")
 
     def err(self, text: str) -> bool:
@@ -137,15 +137,15 @@ class Host:
         return self.session.say(f"err {hexed(text)}") == "ok"
 
     def notify(self, text: str) -> None:
-        """Tells the service manager a text."""
+        """Sends a text to the service manager."""
         self.session.say(f"notify {hexed(text)}")
 
     def beat(self) -> None:
-        """Tells the service manager that turns continue, where that is due."""
+        """Reports to the service manager that turns continue, if a report is due."""
         self.session.say("beat")
 
     def expect(self, member: str) -> None:
-        """Gives a member a socket of its own at places that are opened from now on."""
+        """Gives a member its own socket at each place that is opened from now on."""
         self.session.say(f"expect {member}")
 
     def await_clock(self, records: str) -> None:
@@ -154,7 +154,7 @@ class Host:
 
 
 def carried(one: Host, other: Host, at: Peer, content: bytes) -> Peer:
-    """Sends bytes from one host to another, which must hear them, and returns whom it heard them from."""
+    """Sends bytes from one host to another, which must receive them. Returns whom it received them from."""
     require(one.send(at, content), "it is not sent")
     came = other.heard()
     require(came.content == content, "other bytes came")

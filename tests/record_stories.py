@@ -1,13 +1,18 @@
 """The output of booth-record about record files of both versions, whole and torn.
 
-They are written here byte by byte from docs/RECORDS.md. It is imported by tests/status.py, and not run by itself.
+The files are written here byte by byte from docs/RECORDS.md. The module is imported by tests/status.py, and not run by
+itself.
 """
 
+import fcntl
 import os
+import shutil
+import stat
 import struct
 import time
 
 import frames
+import record_silence
 from records import slot
 from status_runs import record, refuses, require, require_same, story
 
@@ -15,7 +20,7 @@ from status_runs import record, refuses, require, require_same, story
 NOON, LATER = 0x1A21CE06E00, 0x1A21CE072B3
 ONE, TWO = "192.168.201.100", "192.168.202.100"
 NAME = b"ticket-db8".hex() + ".rec"
-# what docs/RECORDS.md shows, from the slot at 80 on
+# the example of docs/RECORDS.md, from the slot at 80 on
 EXAMPLE = """\
 0100 0000 0000 0000 0000 0000 0000 0005 0000 0002 0000 0002 0000 0007 0000 0002
 0000 01a2 1ce0 6e00 d085 f484 d085 f484 0000 0002 0000 0000 0000 01a2 1ce0 72b3
@@ -29,14 +34,14 @@ HEAD = ["", "SLOT", "VERSION", "COMMIT", "NUMBER", "RECORD"]
 
 
 def first(number, term, lease=None, *, commit=1, version=1, flag=None, zeros=0):
-    """The 64 bytes of a slot of version 1; what must be otherwise is given."""
+    """Returns the 64 bytes of a slot of version 1; what must be otherwise is given."""
     flag = (1 if lease else 0) if flag is None else flag
     body = struct.pack(">IIIIQQ", version, term, flag, *(lease or (0, 0)), zeros)
     return (bytes([commit]) + bytes(7) + number.to_bytes(8, "big") + body).ljust(64, b"\0")
 
 
 def second(number, term, lease=None, bound=None, promise=None, abstain=0, **other):
-    """The 128 bytes of a slot of version 2; what must be otherwise is given."""
+    """Returns the 128 bytes of a slot of version 2; what must be otherwise is given."""
     has = (lease is not None) + 2 * (bound is not None) + 4 * (promise is not None)
     to, promise_term, promise_until = promise or (0, 0, 0)
     fields = (other.get("version", 2), term, other.get("flags", has), *(lease or (0, 0)), bound or 0)
@@ -46,7 +51,7 @@ def second(number, term, lease=None, bound=None, promise=None, abstain=0, **othe
 
 
 def shown(folder, content, *words, name=NAME):
-    """The status, the fields by their names, and the rows of the table of slots."""
+    """Returns the status, the fields by their names, and the rows of the table of slots."""
     path = os.path.join(folder, name)
     with open(path, "wb") as file:
         file.write(content)
@@ -71,7 +76,9 @@ def shown(folder, content, *words, name=NAME):
 
 
 def ago(millis):
-    """How long a moment is past, in the largest unit of which there are two, now or a moment later."""
+    """Returns how long ago a moment was, in the largest unit of which two or more have passed: as it is now or a moment
+    later.
+    """
     seconds = int(time.time() - millis / 1000)
     unit, size = next(each for each in (("d", 86_400), ("h", 3600), ("min", 60), ("s", 1)) if seconds >= 2 * each[1])
     return [f"{(seconds + more) // size} {unit}" for more in (0, 1, 2)]
@@ -165,7 +172,8 @@ def files_of_the_second_version(folder):
     require((status, fields) == (0, wanted), f"{status}, {fields}")
     require_same([row[1] for row in rows], ["00", "40", "80", "100"])
     require_same(rows[2][5], "not valid")
-    # a file that an older program wrote again: the greatest number of the four is in force, the first among equals
+    # (an older program wrote this file again: of the four numbers the greatest is in force, and of equal ones the
+    # first)
     beside = bytes(64) + second(7, 2)
     newest = bytes(128) + second(7, 1) + second(8, 1)
     for content, force in ((first(8, 1) + beside, "00"), (first(7, 1) + beside, "00"), (newest, "100")):
@@ -221,7 +229,7 @@ def several_files(folder):
     said = "".join(f"booth-record: {line}\n" for line in said)
     require_same((ran.status, ran.said, ran.printed.count("in force")), (2, said, 2))
     refuses("booth-record", [], "the following arguments are required: FILE", 2)
-    # names whose letters a terminal would act on, or are no text
+    # names with letters that control a terminal, or that are no valid text
     for name, printed in ((b"64\x1b[31m\n.rec", r"64\x1b[31m\n.rec"), (b"65\xff.rec", r"65\udcff.rec")):
         path = os.path.join(os.fsencode(folder), name)
         ran = record(os.fsdecode(path))
@@ -231,3 +239,85 @@ def several_files(folder):
         ran = record(os.fsdecode(path))
         require(ran.status == 0 and ran.printed.startswith(f"{folder}/{printed}\n"), str(ran))
     refuses("booth-record", ["-c", none, good], f"cannot read {none}: No such file or directory", 2)
+
+
+def silent(folder, term, ticket="web", *more):
+    """Returns a run of booth-record silence with this term."""
+    return record("silence", *more, *([] if term is None else [term]), ticket, folder)
+
+
+@story
+def silent_records(folder):
+    """a silent record has the bytes of docs/RECORDS.md and its directory's owner, and the old file stays beside it"""
+    path, next_steps = os.path.join(folder, "776562.rec"), "Before you start the daemon: end what runs"
+    ran = silent(folder, 41)
+    said = f"{path}: a silent record of web, term 41\n{next_steps}"
+    require(ran.status == 0 and not ran.said and said in ran.printed, str(ran))
+    with open(path, "rb") as file:
+        require_same(file.read(), first(1, 41)[:48])
+    require_same(stat.S_IMODE(os.stat(path).st_mode), 0o600)
+    ran = silent(folder, 43)
+    require(ran.status == 0 and f"the file before it is {path}.1\n" in ran.printed, str(ran))
+    with open(f"{path}.1", "rb") as file:
+        require_same(file.read(), first(1, 41)[:48])
+    for term, why in (
+        (42, "the term is 42, and the file before has 43: a term must not fall"),
+        (0, "the term is 0: it must be 1 to 4000000000"),
+        (4_000_000_001, "the term is 4000000001: it must be 1 to 4000000000"),
+    ):
+        refuses("booth-record", ["silence", term, "web", folder], why, 2)
+    # (a torn file does not prevent this, and the greatest term of its valid slots counts)
+    with open(path, "wb") as file:
+        file.write(first(2, 50) + b"\1" + bytes(63) + second(9, 60) + second(8, 61))
+    why = "the term is 60, and the file before has 61: a term must not fall"
+    refuses("booth-record", ["silence", "60", "web", folder], why, 2)
+    require_same(silent(folder, 61).status, 0)
+    names = sorted(name for name in os.listdir(folder) if name.startswith("776562"))
+    require_same(names, ["776562.rec", "776562.rec.1", "776562.rec.2"])
+
+
+@story
+def silence_is_refused(folder):
+    """no silent record is written if a daemon runs, if there is no directory or no ticket's name, or of other words"""
+    none, usage = os.path.join(folder, "none"), "booth-record silence [-c CONF] [TERM] TICKET DIR"
+    refuses("booth-record", ["silence", "7", "web", none], f"cannot open {none}: No such file or directory", 2)
+    why = "'no name' is not a ticket's name: 1 to 63 printing ASCII characters without / and blanks"
+    refuses("booth-record", ["silence", "7", "no name", folder], why, 2)
+    for words, why in (
+        (["silence", "web"], "the following arguments are required: DIR"),
+        (["silence", "x", "web", folder], "argument TERM: 'x' is not a term: a whole number is needed"),
+    ):
+        ran = record(*words)
+        require_same((ran.status, ran.printed, ran.said), (2, "", f"booth-record: {why}\nUsage: {usage}\n"))
+    for locked in (folder, os.path.join(folder, "booth.lock")):
+        handle = os.open(locked, os.O_RDONLY)
+        fcntl.flock(handle, fcntl.LOCK_EX)
+        why = f"a daemon runs with the records in {folder}: stop it first"
+        refuses("booth-record", ["silence", "7", "web", folder], why, 2)
+        os.close(handle)
+    os.symlink("/dev/null", os.path.join(folder, "776562.rec"))
+    path = os.path.join(folder, "776562.rec")
+    refuses("booth-record", ["silence", "7", "web", folder], f"cannot read {path}: it is no regular file", 2)
+    require(not [name for name in os.listdir(folder) if name.endswith((".1", ".new"))], "a file is left")
+
+
+@story
+def terms_that_nobody_names(folder):
+    """without a term it is the seconds since 1970, or a million above the greatest that is known"""
+    for kept, told, seconds, term in (
+        (None, 0, 1_800_000_000, 1_800_000_000),
+        (7, 9, 1_800_000_000, 1_800_000_000),
+        (None, 1_800_000_000, 1_800_000_000, 1_801_000_000),
+        (1_900_000_000, 3, 1_800_000_000, 1_901_000_000),
+    ):
+        require_same(record_silence.new_term(kept, told, seconds), term)
+    conf = os.path.join(folder, "a.conf")
+    with open(conf, "w", encoding="ascii") as file:
+        file.write('site = "192.0.2.1"\nticket = "web"\n')
+    begun = int(time.time())
+    ran = silent(folder, None, "web", "-c", conf)
+    said = "booth-record: cannot ask 192.0.2.1: " if shutil.which("booth") else "the program booth is not installed"
+    require(said in ran.said, str(ran))
+    if shutil.which("booth"):
+        term = int(ran.printed.split("term ")[1].split("\n")[0])
+        require(begun <= term <= time.time(), f"the term is {term}")

@@ -1,12 +1,12 @@
 #!/usr/bin/env python3
 """Kills a stream of record writes with SIGKILL at any time, and reads what is left; fills the disk, and empties it.
 
-Run it as `python3 tests/records.py [PROGRAM]`, PROGRAM being the built `trials`, which rt leaves at
-crates/trials/out/trials. It takes a minute at most, prints a line for each check, and has the status 1 if one
-failed. Where `trials` is not built it checks nothing, and has the status 77. Where it may mount a small tmpfs, it
-fills it.
+Run it as `python3 tests/records.py [PROGRAM]`. PROGRAM is `trials`, by default at crates/trials/out/trials, where rt
+leaves it. It takes a minute at most, prints a line for each check, and has the status 1 if one failed. If `trials` is
+not built it checks nothing, and has the status 77. It fills a disk only if it can mount a small tmpfs.
 
-`trials keeps DIRECTORY COUNT` is the real host alone: it says which record it reads, and each that it has kept.
+`trials keeps DIRECTORY COUNT` uses only the real host. It prints the record that it reads, and each one that it has
+written.
 """
 
 import contextlib
@@ -27,14 +27,15 @@ from serving import end_by_signals
 PROGRAM = f"{TOP}/crates/trials/out/trials"
 FILE = b"ticket-db8".hex() + ".rec"
 
-# the status where nothing was checked
+# the exit status if nothing was checked
 NOTHING_CHECKED = 77
 KILLS, SECONDS = 2_000, 20
-# the longest time from a start to its end, in seconds, beside twice what a run of one keep takes; a run gets to some keeps in it
+# in seconds: the longest time of a run, in addition to twice the time of a run with one write; a run makes some writes
+# in it
 LONGEST = 0.02
-# of so many kills one at least must come after a keep
+# at least one of 20 kills must come after a write of a record
 KILLS_OF_ONE_KEEP = 20
-# how long a run to its end may take
+# the limit for a run that ends by itself, in seconds
 SECONDS_OF_A_RUN = 60
 SEED = 9929
 
@@ -49,26 +50,28 @@ def require(holds, why):
 
 
 def slot(number, version, term):
-    """An open slot with a record of this version and term, without a lease or a pledge, followed by these bytes."""
+    """Returns an open slot with a record of this version and term, without a lease or a pledge, followed by these
+    bytes.
+    """
     fields = (number.to_bytes(8, "big"), version.to_bytes(4, "big"), term.to_bytes(4, "big"))
     return (b"\1" + bytes(7) + b"".join(fields)).ljust(64 * version, b"\0")
 
 
 def said(output):
-    """The term that a run read, and the terms that it wrote, according to its output."""
+    """Returns the term that a run read, and the terms that it wrote, by its output."""
     lines = [line.split() for line in output.decode("ascii").split("\n")[:-1]]
     read = [int(term) for word, term in lines if word == "read"]
     return read[0] if read else None, [int(term) for word, term in lines if word == "kept"]
 
 
 def run(program, directory, count, **more):
-    """The output of a run to its end, and its status."""
+    """Returns the output of a run to its end, and its status."""
     done = subprocess.run([program, "keeps", directory, str(count)], capture_output=True, timeout=SECONDS_OF_A_RUN, **more)
     return *said(done.stdout), done.returncode
 
 
 def killed(program, directory, seconds):
-    """The output of a run that was ended after this many seconds."""
+    """Returns the output of a run that was killed after this many seconds."""
     words = [program, "keeps", directory, "1000000"]
     with subprocess.Popen(words, stdout=subprocess.PIPE, stderr=subprocess.DEVNULL) as process:
         try:
@@ -79,7 +82,9 @@ def killed(program, directory, seconds):
 
 
 def longest_of_three(program, directory):
-    """How long a run of one keep takes at most here, in seconds: the longest of three runs after a first one."""
+    """Returns how long a run with one write takes at most here, in seconds: the longest of three runs after a first
+    one.
+    """
     took = []
     for number in range(4):
         started = time.monotonic()
@@ -89,7 +94,7 @@ def longest_of_three(program, directory):
 
 
 def kills_leave_the_last_record_or_the_next(program, folder):
-    """Each run continues after the end of the one before."""
+    """A killed run leaves the last record or the next one. Each run continues after the end of the one before."""
     chance = random.Random(SEED)
     longest = LONGEST + 2 * longest_of_three(program, os.path.join(folder, "timed"))
     directory, last, keeps, in_flight, met = os.path.join(folder, "killed"), 0, 0, 0, 0
@@ -114,7 +119,9 @@ def kills_leave_the_last_record_or_the_next(program, folder):
 
 
 def a_record_that_cannot_be_kept_leaves_the_old_one(program, folder):
-    """The file may not grow beyond its first slot, in either version: then no other record can be written."""
+    """The old record stays if the file may not grow beyond its first slot, in either version: no other record can be
+    written then.
+    """
     for name, content in (("old", slot(1, 1, 7)), ("short", bytes(128) + slot(1, 2, 7))):
         directory = os.path.join(folder, name)
         os.mkdir(directory)
@@ -133,7 +140,9 @@ def a_record_that_cannot_be_kept_leaves_the_old_one(program, folder):
 
 
 def a_file_of_version_1_is_read_and_its_slots_stay(program, folder):
-    """The next keeps go into the slots of version 2, with the following numbers."""
+    """A file of version 1 is read. The next records go into the slots of version 2, with the following numbers, and the
+    old slots stay.
+    """
     directory = os.path.join(folder, "version-1")
     os.mkdir(directory)
     path, old = os.path.join(directory, FILE), slot(3, 1, 4) + slot(2, 1, 3)
@@ -151,7 +160,7 @@ def a_file_of_version_1_is_read_and_its_slots_stay(program, folder):
 
 @contextlib.contextmanager
 def small_disk(folder):
-    """A file system of two pages, or None if this user may not mount one."""
+    """Yields a file system of two pages, or None if this user may not mount one."""
     place = os.path.join(folder, "small")
     os.mkdir(place)
     words = ["mount", "-t", "tmpfs", "-o", "size=8k", "tmpfs", place]
@@ -163,12 +172,12 @@ def small_disk(folder):
         yield place if mounted else None
     finally:
         if mounted:
-            # (as soon as nobody is in it)
+            # (the file system goes as soon as no program uses it)
             subprocess.run(["umount", "-l", place], check=False)
 
 
 def a_full_disk_keeps_nothing_until_there_is_room(program, folder):
-    """There is no room for the record's page."""
+    """On a disk without room for the record's page nothing is written, until there is room."""
     with small_disk(folder) as place:
         if place is None:
             return "not checked: this user may not mount a small tmpfs"
@@ -187,7 +196,7 @@ def a_full_disk_keeps_nothing_until_there_is_room(program, folder):
 
 
 def a_torn_file_is_refused(program, folder):
-    """The host writes nothing to a file that no put can leave."""
+    """The host refuses a torn file, which no write can leave, and writes nothing to it."""
     directory = os.path.join(folder, "torn")
     os.mkdir(directory)
     path, torn = os.path.join(directory, FILE), slot(2, 1, 7) + b"\1" + bytes(47)

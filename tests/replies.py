@@ -15,7 +15,7 @@ from frames import request_now, sealed
 from gate import BADMAC, FRAME, LEADER, LEADERS_ALONE, NOMAC, OLD, SELF, STRANGER, TICKET
 from room import KEY, MOST_UDP_BYTES, SECONDS_TO_END, Asker, check, require
 
-# the quickest of three, since a busy machine is late
+# (the quickest of three tries counts, since a busy machine may be late)
 SECONDS_OF_A_SIGNAL = 0.5
 SEED = 9929
 
@@ -40,7 +40,7 @@ def body_of(letters):
 
 
 def said(letters, sender, ticket=DB8, leader=NO_ONE, key=None, **fields):
-    """A frame of a member, with the ids of these addresses."""
+    """Returns a frame of a member, with the ids of these addresses."""
     sender, leader = (id if isinstance(id, int) else member_id(id) for id in (sender, leader))
     body = frames.ticket_body(ticket, leader, 7, 600)
     return request_now(letters, 0, body, key, sender=sender, **fields)
@@ -77,7 +77,7 @@ def client_commands(room):
             asker.asks("CGnt", TICKET_BODY, "a second grant")
             asker.asks("CTkt", TICKET_BODY, "a ticket that is asked for")
             asker.asks("Peer")
-            # another ticket is unknown
+            # (any other ticket is unknown)
             longest, value = b"~" * 63, bytes(range(0x20, 0x7F)).ljust(127, b"!")
             for letters in ("CTkt", "CGnt", "CRvk"):
                 asker.asks(letters, frames.ticket_body(longest, 1, 2**32 - 1, 2**32 - 1))
@@ -95,7 +95,7 @@ def most_of_all(room):
     voters = tuple(("arbitrator", f"2001:db8::{number:x}:1") for number in range(1, 9))
     station = room.station(others=sites + voters, tickets=names)
     lines = room.configuration(station).split(b"\n")
-    # members stand among the tickets, and this one is the last
+    # (the file has members between the tickets; this daemon's member is the last)
     text = b"\n".join([*lines[16:56], *lines[1:16], *lines[56:], lines[0]])
     with room.serving(station, text) as daemon, Asker(daemon) as asker:
         asker.asks("CLst")
@@ -113,7 +113,7 @@ def name_bytes(room):
 
 
 def no_frames():
-    """Datagrams that are not frames, with their faults."""
+    """Yields datagrams that are not frames, with their faults."""
     for length in (0, 1, 24, 28, 47):
         yield f"{length} bytes", Head(length=length).spelled()[:length]
     foreign = {
@@ -145,7 +145,7 @@ def no_frames():
 
 
 def faulty_names():
-    """Frames in which a name, a value or a text has a wrong form."""
+    """Yields frames in which a name, a value or a text has a wrong form."""
     names = [b"", b" ", b"a b", b"\x1f", b"\x7f", b"\xe9", b"a\n"]
     fields = [*(field(name, 64) for name in names), b"x" * 64, b"a\0b".ljust(64, b"\0")]
     for name in fields:
@@ -186,7 +186,7 @@ def sender_drops(room):
                     asker.is_dropped(reply, STRANGER, letters)
             for letters in MEMBERS_SAY:
                 for sender in (0, NO_ONE, "192.168.202.101"):
-                    # (a ticket and a leader that may not be are faults that come later)
+                    # (the faults of a ticket and of a leader are checked later)
                     frame = said(letters, sender, b"other", VOTER, key)
                     asker.is_dropped(frame, STRANGER, f"{letters} from {sender}")
                 own = said(letters, me, b"other", VOTER, key)
@@ -281,7 +281,7 @@ def keys(room):
         (b"\t\n\v\f\r  " + b"k" * 64 + b" \n", b"k" * 64),
         (b"two words\r\n", b"two words"),
         (other, other),
-        # bytes that are no text are the key as they are
+        # (a key file with bytes that are not text is used unchanged as the key)
         (whole, whole),
     ):
         configuration = room.configuration(room.station(key=text))
@@ -304,7 +304,7 @@ def old_frames(room):
                     asker.is_dropped(late, OLD, f"{letters} of {secs}")
             for secs in (int(time.time()) - skew + 3, int(time.time()) + 10**8, 2**32 - 1):
                 asker.asks("CLst", secs=secs)
-    # without a key it is not looked at
+    # (without a key the daemon does not check it)
     with room.serving() as daemon, Asker(daemon) as asker:
         asker.is_heard(said("Stat", SITE, secs=0), "an old frame without a key")
 
@@ -324,18 +324,18 @@ def flipped_bits(room):
         for batch in batches(flipped):
             asker.meets(batch)
         counts = daemon.counts
-        # the 8 bytes around the MAC are not looked at, but for the bit of the hash id that makes it SHA-256's
+        # (the daemon ignores the 8 bytes around the MAC, except the bit that changes the hash id to that of SHA-256)
         require(counts.drops[BADMAC] > 400 and counts.accepted[SITE] == 63, f"{vars(counts)}")
 
 
 def random_datagrams(station, chance):
-    """An endless series of frames of every command, some with random bytes."""
+    """Yields an endless series of frames of every command, some with random bytes."""
     ids = [0, NO_ONE, *map(member_id, (station.address, SITE, VOTER, "10.0.0.1"))]
     while True:
         letters = chance.choice([*frames.BODY_OF])
         body = body_of(letters)
         if frames.BODY_OF[letters] == frames.TICKET:
-            # (a granted ticket would be asked for again and again)
+            # (for a granted ticket the daemon would repeat its requests)
             is_client = letters in frames.ANSWER_TO
             ticket = b"other" if is_client else chance.choice([DB8, DB8, DB8, b"other"])
             body = frames.ticket_body(ticket, chance.choice(ids), chance.getrandbits(32), 600)

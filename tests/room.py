@@ -18,16 +18,16 @@ from frames import Head, request_now
 from gate import Station
 from serving import NotServing, boothd, own_addresses
 
-# (on a busy machine; what is due comes at once on any other)
+# (this limit is for a busy machine; on any other machine the answer comes at once)
 SECONDS_TO_ANSWER, SECONDS_TO_END = 20, 30
 MOST_UDP_BYTES = 65_507
 
 KEY = b"secret-key"
-# what a refusal begins with that has a line of the host before it, which says why
+# the first words of a refusal after which the host prints its own line with the cause
 NOT_HAD = (b"cannot open", b"cannot lock ", b"cannot read ")
-# what tells of an owner without asking for anything
+# the commands of members that name an owner and ask for nothing
 TELL_STATE = ("Stat", "MIdx", "RJC!", "UpdE")
-# the result of each request for what is not there
+# the result of each request about something that does not exist
 NOT_HERE = frames.code("IArg")
 # the most attributes of a ticket
 NAMES = 64
@@ -61,10 +61,10 @@ class Counts:
         self.station = station
         self.others = station.others
         self.drops = [0] * 8
-        # by address: how many frames were let in, and the second at which the last was sent, or 0
+        # by address: the number of accepted frames, and the second in which the last one was sent, or 0
         self.accepted = {address: 0 for _, address in self.others}
         self.seen = {address: 0 for _, address in self.others}
-        # by address: how many messages were made for it
+        # by address: the number of messages for this member
         self.said = {address: len(station.tickets) for _, address in self.others}
 
     def copy(self):
@@ -74,18 +74,19 @@ class Counts:
         return other
 
     def let_in(self, address, since):
-        """One more frame of this member was accepted, which the daemon reads no earlier than this second."""
+        """Counts one more accepted frame of this member, which the daemon reads in this second or later."""
         self.accepted[address] += 1
         self.seen[address] = since
 
     def says(self, *addresses):
-        """One more message was sent to each of these members, or to all."""
+        """Counts one more message to each of these members, or to all."""
         for address in addresses or self.said:
             self.said[address] += 1
 
     def sent_and_failed(self, address, told):
-        """The two counters of a member. Every IPv4 loopback address can send to every other. From a loopback address in
-        IPv4 the system sends to no other IPv4 address; if either address is of IPv6, that depends on the machine.
+        """Returns the two counters of a member. Every IPv4 loopback address can send to every other. From a loopback
+        address in IPv4 the system sends to no other IPv4 address; if either address is of IPv6, that depends on the
+        machine.
         """
         reaches = address.startswith("127.")
         if not reaches and ":" in self.station.address + address and sum(map(int, told)) == self.said[address]:
@@ -93,7 +94,7 @@ class Counts:
         return f"{self.said[address]} 0" if reaches else f"0 {self.said[address]}"
 
     def peers_due(self, text):
-        """The text of the list of members, with those seconds that another text has."""
+        """Returns the text of the list of members, with those seconds that another text has."""
         lines = ["dropped " + " ".join(map(str, self.drops))]
         told = [line.split()[2:] for line in text.decode(errors="replace").split("\n")[1:]]
         told = [words if all(map(str.isdecimal, words)) else [] for words in told]
@@ -108,13 +109,15 @@ class Counts:
 
 
 class Shown:
-    """The holder of a ticket that a daemon must list, if the daemon has granted the ticket to nobody itself."""
+    """The holder that a daemon must list for a ticket that it has not granted itself."""
 
     def __init__(self):
         self.owner, self.first, self.valid_for = "none", 0, 0
 
     def hears(self, station, parts, since):
-        """An accepted message is heard, by "What members send", while the daemon agrees to nothing."""
+        """Updates the holder for an accepted message, by "What members send" in docs/PROTOCOL.md, while the daemon
+        votes for nobody.
+        """
         leader, _, seconds = (int.from_bytes(parts.body[at : at + 4], "big") for at in (64, 68, 72))
         owner, sender = station.member(leader), station.member(parts.head.sender)
         tells = parts.letters in TELL_STATE and owner not in (None, station.address)
@@ -129,13 +132,13 @@ class Shown:
         return copy.copy(self)
 
     def seconds(self, came):
-        """The remaining seconds of the lease: those in the text that arrived, if they are possible."""
-        # (it was heard in that second or later, and a part of a second counts as one)
+        """Returns the remaining seconds of the lease: those in the text that arrived, if they are possible."""
+        # (the message arrived in that second or later, and a started second counts as a whole one)
         least = self.first - time.time()
         return came if self.first and least <= came <= self.valid_for else self.valid_for
 
     def line(self, ticket, came):
-        """The line of a list, with the second that another line has, if that is possible."""
+        """Returns the line of a list, with the second that another line has, if that is possible."""
         words = came.split()[2:3]
         last = time.time() + self.valid_for
         is_near = self.first and words and words[0].isdigit() and self.first <= int(words[0]) <= last
@@ -144,26 +147,26 @@ class Shown:
 
 
 def is_answered(parts):
-    """Whether the sender of an accepted message is answered, while the daemon agrees to nothing."""
+    """Returns whether the sender of an accepted message is answered, while the daemon agrees to nothing."""
     number = parts.head.options
     return parts.letters == "Stat" or (parts.letters, number != 0) in (("RVot", False), ("HrtB", True))
 
 
 class Served:
-    """A daemon that serves."""
+    """The expected state of a daemon that serves."""
 
     def __init__(self, server, station):
         self.server = server
         self.station = station
         self.counts = Counts(station)
         self.shown = [Shown() for _ in station.tickets]
-        # the tickets that a client was let ask for, each in its first term
+        # the tickets that clients have granted, each in its first term
         self.asked = set()
-        # of each ticket, by name
+        # the attributes of each ticket, by the ticket's name
         self.attributes = {ticket: {} for ticket in station.tickets}
 
     def lists_due(self):
-        """Returns the due list for a list that arrived."""
+        """Returns the expected list for a list that arrived."""
         tickets = [(ticket, shown.copy()) for ticket, shown in zip(self.station.tickets, self.shown)]
 
         def due(text):
@@ -174,7 +177,7 @@ class Served:
         return due
 
     def stands_due(self, body):
-        """The result and the body of an answer about a ticket's state; a function returns the due body."""
+        """Returns the result and the body of an answer about a ticket's state; a function returns the expected body."""
         ticket = body[:64].rstrip(b"\0")
         if ticket not in self.station.tickets:
             return NOT_HERE, body[:64] + frames.numbers(frames.NO_ONE, 0, 0)
@@ -187,7 +190,7 @@ class Served:
         return 0, due
 
     def hears(self, parts, since):
-        """A member's frame is accepted."""
+        """Checks that a member's frame is accepted."""
         sender = self.station.member(parts.head.sender)
         self.counts.let_in(sender, since)
         self.shown[self.station.tickets.index(parts.body[:64].rstrip(b"\0"))].hears(self.station, parts, since)
@@ -195,7 +198,7 @@ class Served:
             self.counts.says(sender)
 
     def ticket_answer(self, letters, body):
-        """The answer to a grant or a revocation, if no other member is known to hold."""
+        """Returns the answer to a grant or a revocation, if no other member is known to hold."""
         ticket = body[:64].rstrip(b"\0")
         if ticket not in self.station.tickets:
             return NOT_HERE, body[:64] + frames.numbers(frames.NO_ONE, 0, 0)
@@ -210,7 +213,7 @@ class Served:
         return frames.code(result), body[:64] + frames.numbers(frames.NO_ONE, term, 0)
 
     def attribute_answer(self, letters, body):
-        """The answer to a request about an attribute. A name that is set again keeps its place."""
+        """Returns the answer to a request about an attribute. A name that is set again keeps its place."""
         ticket, name, value = (field.rstrip(b"\0") for field in (body[:64], body[64:128], body[128:]))
         if not self.station.is_site or ticket not in self.attributes:
             return NOT_HERE, b"" if letters == "ALst" else body
@@ -230,7 +233,7 @@ class Served:
         return 0, body[:128] + frames.field(pairs[name], 128)
 
     def answer(self, letters, body):
-        """The result and the body, in the form of Asker.takes, that answer a request with this command."""
+        """Returns the result and the body, in the form of Asker.takes, that answer a request with this command."""
         if letters == "CLst":
             return 0, self.lists_due()
         if letters == "CTkt":
@@ -259,11 +262,11 @@ class Room:
         return path
 
     def station(self, **fields):
-        """The daemon to which most checks send requests."""
+        """Returns the daemon to which most checks send requests."""
         return Station(self.address, **fields)
 
     def configuration(self, station):
-        """A configuration with these values."""
+        """Returns a configuration with these values."""
         lines = [b'ticket = "%s"' % ticket for ticket in station.tickets]
         others = (b'%s = "%s"' % (role.encode(), who.encode()) for role, who in station.others)
         lines[:0] = [b'site = "%s"' % station.address.encode(), *others]
@@ -275,8 +278,8 @@ class Room:
 
     @contextlib.contextmanager
     def serving(self, station=None, text=None, options=None):
-        """A daemon with this file and these additional options, which prints nothing while it serves. Without options
-        it has its own lock and directory, without a record.
+        """Yields a daemon with this file and these additional options, which prints nothing while it serves. Without
+        options it has its own lock and directory, without a record.
         """
         station = station or self.station()
         options = self.own_places(f"places-{next(self.numbers)}") if options is None else options
@@ -292,14 +295,14 @@ class Room:
         require(not said, f"a daemon that was to serve printed {said}")
 
     def own_places(self, name):
-        """The options of a daemon with its own lock and directory."""
+        """Returns the options of a daemon with its own lock and directory."""
         return ["-l", f"{self.folder}/{name}.lock", "-d", f"{self.folder}/{name}"]
 
     def words(self, path, address=None):
         return ["daemon", "-c", path, "-s", address or self.address]
 
     def ended(self, words):
-        """The status, standard output and standard error of a run that ends by itself."""
+        """Returns the status, standard output and standard error of a run that ends by itself."""
         quiet = {**os.environ, "BOOTH_LOG": "off"}
         how = {"stdin": subprocess.DEVNULL, "capture_output": True, "timeout": SECONDS_TO_END, "env": quiet}
         try:
@@ -309,8 +312,8 @@ class Room:
         return ran.returncode, ran.stdout, ran.stderr
 
     def refuses(self, words, said, what=None):
-        """A run with these arguments has status 1, and prints this on standard error. At most one line with its cause
-        may come before, for a file that cannot be opened, locked or read; tests/causes.py checks that line.
+        """Checks that a run with these arguments has status 1, and prints this on standard error. At most one line with
+        its cause may come before, for a file that cannot be opened, locked or read; tests/causes.py checks that line.
         """
         status, out, err = self.ended(words)
         due = re.escape(b"boothd: " + said + b"\n") + rb"(boothd: [ -~]+\n)?"
@@ -321,7 +324,7 @@ class Room:
 
 
 def begun_second():
-    """The second of the clock, once it has also begun for a clock that is slightly behind, and while enough of it is
+    """Returns the current second, when it has also begun for a clock that is slightly behind, and when enough of it is
     left for datagrams and their answers.
     """
     part = time.time() % 1
@@ -333,7 +336,7 @@ def begun_second():
 
 
 class Asker:
-    """A client's socket, for one daemon."""
+    """A client's socket, connected to one daemon."""
 
     def __init__(self, daemon, address=None):
         station = daemon.station
@@ -353,7 +356,7 @@ class Asker:
         self.socket.sendto(datagram, (self.station.address, self.station.port))
 
     def receive(self, seconds=SECONDS_TO_ANSWER):
-        """The next datagram, or None if none arrives in time."""
+        """Returns the next datagram, or None if none arrives in time."""
         self.socket.settimeout(seconds)
         try:
             came, sender = self.socket.recvfrom(MOST_UDP_BYTES)
@@ -364,8 +367,8 @@ class Asker:
         return came
 
     def takes(self, letters, request, body=b"", result=0, what="a request"):
-        """The next datagram answers this request with this command and this body, or with the body that a function
-        returns for the text that arrived. Returns the daemon's clock in it, in ms.
+        """Checks that the next datagram answers this request with this command and this body, or with the body that a
+        function returns for the text that arrived. Returns the daemon's clock in it, in ms.
         """
         came = self.receive()
         require(came is not None, f"{what} has no reply")
@@ -382,7 +385,7 @@ class Asker:
         return clock.millis()
 
     def asks(self, letters, body=b"", what=None, request=None, **fields):
-        """A request has the due answer, with the daemon's clock of this moment."""
+        """Checks that a request has the expected answer, with the daemon's current clock."""
         what = what or letters
         request = next(self.numbers) if request is None else request
         before = time.time_ns() // 1_000_000
@@ -390,18 +393,18 @@ class Asker:
         result, due = self.daemon.answer(letters, body)
         clock = self.takes(letters, request, due, result, what)
         after = time.time_ns() // 1_000_000
-        # (the daemon's clock is the time since the boot and an offset, each in whole milliseconds)
+        # (the daemon's clock is the sum of the time since the boot and an offset, each in whole milliseconds)
         is_now = before - 1 <= clock <= after + 1
         require(is_now, f"{what} is answered at {clock}, outside {before} to {after}")
 
     def is_dropped(self, datagram, kind, what):
-        """This datagram has no reply, and raises only this counter, by one."""
+        """Checks that this datagram has no reply, and raises only this counter, by one."""
         self.send(datagram)
         self.daemon.counts.drops[kind] += 1
         self.asks("Peer", what=f"Peer after {what}")
 
     def is_heard(self, datagram, what):
-        """This datagram of a member has no reply here. It is counted, and its ticket hears it."""
+        """Checks that this datagram of a member has no reply here, is counted, and reaches its ticket."""
         since = begun_second()
         self.send(datagram)
         self.daemon.hears(gate.split(datagram), since)
@@ -410,7 +413,7 @@ class Asker:
         self.asks("CTkt", gate.split(datagram).body, what=f"CTkt after {what}")
 
     def meets(self, datagrams):
-        """Each of these is dropped, counted or answered as tests/gate.py says."""
+        """Checks that each of these datagrams is dropped, counted or answered as tests/gate.py says."""
         since, counts, answers = begun_second(), self.daemon.counts, []
         for datagram in datagrams:
             self.send(datagram)

@@ -60,7 +60,7 @@ def plain(row: Row, _rows: List[Row]) -> List[Play]:
 
 
 def constants(row: Row, rows: List[Row]) -> List[Play]:
-    """The numbers and the bytes that are constants, and the texts of two faults without bytes."""
+    """Returns the numbers and the bytes that are constants, and the texts of two faults without bytes."""
     found = fields_of(row.wanted, "members text frame auth nobody name value")
     numbers = [found["members"], found["text"], found["frame"], found["auth"], str(int(found["nobody"], 16))]
     texts = [line for key in ("constants TermSpent", "constants Torn") for line in told(rows)[key]]

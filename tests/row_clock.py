@@ -1,9 +1,9 @@
 """Plays rows of a daemon's clock.
 
-A story begins with `# ` and what it shows. Each of its lines is a call, ` => ` and its answer. A boot is a letter, and
-times are in milliseconds. `begin BOOT KEPT SINCE WALL` starts the clock, KEPT being `nothing`, `kept` for what was kept
-last, `BOOT OFFSET REACHED`, or `bytes` and bytes in hexadecimal; the other calls are those of
-`crates/booth_step_rows/src/clock.rt`.
+A story begins with `# ` and a sentence. Each of its lines is a call, ` => ` and the answer. A letter names a boot, and
+times are in milliseconds. `begin BOOT KEPT SINCE WALL` starts the clock. KEPT is the content of the clock's file:
+`nothing`; `kept`, what the clock wrote last; `BOOT OFFSET REACHED`; or `bytes` and bytes in hexadecimal. The other
+calls are those of `crates/booth_step_rows/src/clock.rt`.
 
 It is imported by `rows.py`, and not run by itself.
 """
@@ -58,7 +58,7 @@ def shown(call: str, answer: str) -> str:
 
 
 def play(story: str, driver: Driver) -> Tuple[int, List[str]]:
-    """Plays a story from its start to each of its lines, and returns how many lines it has, and the faults."""
+    """Plays a story from its start to each of its lines. Returns how many lines it has, and the faults."""
     head, *rows = story.strip("\n").split("\n")
     lines: List[str] = []
     wrong, kept = [], "-"

@@ -9,9 +9,9 @@ from typing import IO, Dict, List, Optional, Union
 
 TOP = os.path.dirname(os.path.dirname(os.path.abspath(__file__)))
 
-# what the gate leaves
+# the program that the gate leaves
 PROGRAM = f"{TOP}/crates/trials/out/trials"
-# how long a script may take, in seconds
+# the limit for a script, in seconds
 SECONDS = 120
 
 

@@ -1,21 +1,21 @@
 """Plays rows about the gate of a member, the seal, and the MACs under both.
 
-A datagram is the file's signed frame with edits, which stand in their order with `, ` between them:
+A datagram is the signed frame of the file with edits. They apply in their order, with `, ` between them:
 
-    PLACE BYTES            these hexadecimal bytes from a place on
-    from WHO, leader WHO   the sender, and the leader of the body
-    command LETTERS        the command
-    ticket NAME            the first bytes of the ticket's name
-    secs NUMBER            the seconds of the sender's clock
-    sign                   the MAC of `secret-key` by SHA-1, which Python's hmac makes
-    hash KEY HASH          the hash that the file's row `let` has for a key and a hash
-    flip PLACE             the last bit of a byte
-    cut SIZE, fill SIZE    the end of it, and an end of letters `x`
-    add BYTES              more bytes
-    NAME                   the edits that a row `let` has by this name
+    PLACE BYTES            replaces the bytes from a place on by these, in hexadecimal
+    from WHO, leader WHO   sets the sender, and the leader in the body
+    command LETTERS        sets the command
+    ticket NAME            sets the first bytes of the ticket's name
+    secs NUMBER            sets the seconds of the sender's clock
+    sign                   adds the MAC of `secret-key` by SHA-1, which Python's hmac makes
+    hash KEY HASH          adds the hash that the row `let` of the file has for a key and a hash
+    flip PLACE             flips the last bit of a byte
+    cut SIZE, fill SIZE    cuts the datagram, and fills it up with letters `x`
+    add BYTES              adds bytes at the end
+    NAME                   makes the edits of the row `let` with this name
 
-`unchanged` stands if there is no edit. The driver judges and seals by a ring and by a copy of it, whose answers are the
-same.
+`unchanged` means that there is no edit. The driver judges and seals with a key ring and with a copy of it, and both
+must give the same answers.
 
 It is imported by tests/rows.py, and not run by itself.
 """
@@ -120,7 +120,7 @@ def judged(rows: List[Row], ring: str, frame: bytes, fault: str, me: str = "me",
 
 
 def conf(row: Row, _rows: List[Row]) -> List[Play]:
-    """The configuration of each gate of the file."""
+    """Returns the configuration of each gate of the file."""
     return [(f"conf {''.join(line + chr(10) for line in row.text).encode().hex()}", [])]
 
 
@@ -194,7 +194,7 @@ def flips(row: Row, rows: List[Row]) -> List[Play]:
 
 
 def said(row: Row, rows: List[Row]) -> List[Play]:
-    """`SIZE; COMMAND from WHO leader WHO`, without a key."""
+    """Plays `SIZE; COMMAND from WHO leader WHO`, for a member without a key."""
     size, _, words = row.given.partition("; ")
     letters, _, sender, _, leader = words.split(" ")
     edits = f"0 00000000, 24 {int(size):08x}, command {letters}, from {sender}, leader {leader}, cut {size}"

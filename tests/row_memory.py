@@ -4,29 +4,29 @@ It is imported by tests/rows.py, and not run by itself. A file of rows has these
 
     # TEXT                a comment
     * SENTENCE            what the rows below it show
-    part NAME             the indented lines below it stand at each line `as NAME`
-    over KIND ..          makes a host: `memory`, `quiet`, `logged LINES`, `journaled BYTES APPENDS` or `streamed`.
-                          Below it, indented: what it is made of
-    CALL : ANSWER         a call of the host, and its answer. Below a call of a host that logs, indented: each line
-                          that it logs
-    told                  below it, indented: all that the host has told, its calls or its journal
-    untold                the host no longer tells its calls
-    add STEP              adds a step to its script; `forget` drops what has run
-    again KIND .. : COUNT the same calls of a host of this kind, with the same answers. It tells the first COUNT lines
-    heads                 each first part of the journal that was told is a journal
-    faults                below it, indented: the texts of the faults of a host
-    links SCRIPT => DONE  a host over links, what comes to them, and what its calls do
+    part NAME             names the indented lines below it; `as NAME` inserts them
+    over KIND ..          makes a host: `memory`, `quiet`, `logged LINES`, `journaled BYTES APPENDS` or `streamed`. Its
+                          contents are below it, indented
+    CALL : ANSWER         a call of the host, and its answer. Each line that the host logs is below it, indented
+    told                  all that the host has recorded so far, its calls or its journal, is below it, indented
+    untold                from now on the host records no calls
+    add STEP              adds a step to the script; `forget` removes the steps that were used
+    again KIND .. : COUNT makes the same calls over a host of this kind, which must give the same answers. This host
+                          records the first COUNT lines
+    heads                 each beginning of the recorded journal must be a journal
+    faults                the texts of the faults of a host are below it, indented
+    links SCRIPT => DONE  a host over links: what arrives on them, and the results of its calls
 
-A host is made of `first MS`, `file PATH TEXT`, `fails CALL ..`, `room COUNT`, `record TICKET RECORD` and `step MS FAILS
-ARRIVAL`. A record is one of tests/row_runs.py, and DATA one of tests/stream_data.py.
+The contents of a host are `first MS`, `file PATH TEXT`, `fails CALL ..`, `room COUNT`, `record TICKET RECORD` and
+`step MS FAILS ARRIVAL`. tests/row_runs.py describes RECORD, and tests/stream_data.py describes DATA.
 An arrival is `quiet`, `failure`, `handler JOB STATUS` or `datagram ADDRESS PORT DATA`.
 Calls are `open LOCAL PORT RECORDS CONF`, `next WAIT`, `now`, `send ADDRESS PORT DATA`, `kept TICKET`, `keep TICKET
 RECORD`, `start NUMBER TICKET HANDLER LOCAL EXPIRES`, `read PATH`, `lock PATH`, `out TEXT` and `err TEXT`.
 
-A script is what each wait brings: `open LINK PORT`, `bytes LINK DATA`, `end LINK`, `quiet` or `fail`, and behind `|`
-how many bytes a write then takes. The script of the host below is quiet, and its sends fail. What is done is a call a
-word: `quiet`, `stop` or `failed` for a wait, `a4000` for a frame of 48 bytes with the mark a from port 4000, and
-`sent:4000` or `unsent:4000` for 48 bytes that are sent to that port.
+A script has an event for each wait: `open LINK PORT`, `bytes LINK DATA`, `end LINK`, `quiet` or `fail`. `|` and a
+number say how many bytes a write accepts after it. The script of the host below is quiet, and its sends fail. DONE
+has a word for each call: `quiet`, `stop` or `failed` for a wait; `a4000` for a frame of 48 bytes with the mark a from
+port 4000; `sent:4000` or `unsent:4000` for 48 bytes that are sent to that port.
 """
 
 import re
@@ -146,7 +146,7 @@ class Reader:
         self.sentence = ""
         self.place = ""
         self.played: List[Played] = []
-        # what the host is made of, its kind, its calls with their answers, and what it has told
+        # the lines that make the host, its kind, its calls with their answers, and its messages
         self.given: List[str] = []
         self.kind = ""
         self.calls: List[Tuple[str, str]] = []

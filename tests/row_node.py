@@ -1,24 +1,24 @@
 """Plays the stories below tests/rows/node/: runs of the daemon, with the input and all calls of each turn.
 
-It is imported by tests/rows.py, which plays its files. `stories_in.py` has how texts stand in a file, and
-`call_lines.py` how a frame, a record and a call are said.
+It is imported by tests/rows.py, which plays its files. `stories_in.py` describes the form of texts in a file, and
+`call_lines.py` the form of frames, records and calls.
 
-A story begins with `# ` and what it shows. In the last line of its first paragraph stands its node: a member, ` of `
-and the name of a configuration, ` at ` and the clock if it does not start at 0, and ` from ` and the record of each
-ticket, or `none`, if there is a record. The other paragraphs are its turns: `at`, the clock in ms, and `quiet`,
-`failure`, `from` with the sender and its frame, or `over` with a job and its status. The lines below are the calls
-that the turn makes then. Each call whose line ends in ` failed` fails, and with it each other call of its kind in the
-turn. A turn of `as` and names is the turns of the parts of these names.
+A story begins with `# ` and a sentence. The last line of its first paragraph has its node: a member, ` of ` and the
+name of a configuration; ` at ` and the clock, if it does not start at 0; and ` from ` and the record of each ticket,
+or `none`, if there are records. Each other paragraph is a turn. Its first line is `at`, the clock in ms, and the
+arrival: `quiet`, `failure`, `from` with the sender and its frame, or `over` with a job and its status. The next lines
+are the calls that the turn must make. If a line ends with ` failed`, this call fails, and so does each other call of
+its kind in the turn. A turn with `as` and names stands for the turns of these parts.
 
-A frame that comes has the clock 0, and one that is sent has the clock of its turn. If the configuration has a key,
-both have the clock of the turn and are sealed by the key, except if all their bytes are given.
+A received frame has the clock 0, and a sent frame has the clock of its turn. If the configuration has a key, both have
+the clock of the turn and are signed with the key. This does not apply to a frame that is given with all its bytes.
 
 A story of three members begins with `S1, S2, AR of`, and the record is that of the first. Each turn begins with its
-member. There `from` and a member alone is the first datagram that is under way from there, `MEMBER loses from MEMBER`
-loses it, and `nothing is under way` holds where it stands.
+member. In such a story `from` and a member without a frame is the first datagram on its way from that member.
+`MEMBER loses from MEMBER` loses this datagram, and `nothing is under way` checks that no datagram is on its way.
 
-The start of the daemon comes before the first turn: it reads its files, takes its lock, reads the clock, opens its
-socket and reads each record. Behind the last turn comes `stop`, and the daemon ends without another call.
+Before the first turn the daemon starts: it reads its files, takes its lock, reads the clock, opens its socket and reads
+each record. After the last turn `stop` arrives, and the daemon ends without another call.
 """
 
 import re

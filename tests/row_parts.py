@@ -1,26 +1,26 @@
-"""Attributes, a pool of lists and a timer, called one call after the other.
+"""Attributes, a pool of lists and a timer: single calls, one after another.
 
 It is imported by tests/rows.py, and not run by itself. A file of rows has these lines:
 
     # TEXT                     a comment
     * SENTENCE                 what the rows below it show
-    attributes TICKETS         begins with the attributes of so many tickets
-    pool NODES LISTS           begins with a pool of so many nodes and lists
-    timer SLOTS                begins with a timer of so many slots
-    CALL : ANSWER              a call, and what it answers; a call whose answer is empty has no ` : `
+    attributes TICKETS         begins with the attributes of this number of tickets
+    pool NODES LISTS           begins with a pool of these numbers of nodes and of lists
+    timer SLOTS                begins with a timer of this number of slots
+    CALL : ANSWER              a call and its answer; without ` : ` the answer is empty
     each FIRST LAST CALL : ANSWER
-                               the same for each number of these, with two digits in the place of `##`
+                               the same for each number from FIRST to LAST, which replaces `##` as two digits
 
 The calls of attributes are `set TICKET NAME "VALUE"` (`done`, or `full`), `get TICKET NAME` (`"VALUE"`, or `none`),
 `delete TICKET NAME` (`done`, or `none`), `list TICKET` (each line in quotes), and `holds TICKET GRANT KIND NAME IS
-"VALUE"` (`yes` or `no`): whether a grant, `manual` or `auto`, is let through by a prerequisite of grants of a kind,
-by which the attribute `eq` or `ne` the value. `"X*N"` stands for the character X, N times.
+"VALUE"` (`yes` or `no`). The last one asks whether a prerequisite allows a grant. GRANT and KIND are `manual` or
+`auto`, and the prerequisite is for grants of KIND; IS is `eq` or `ne`. `"X*N"` stands for the character X, N times.
 
-Those of a pool are `push LIST ITEM` (`at NODE`, or `full ITEM`), `pop LIST` (the item, or `-`), `count LIST`,
+The calls of a pool are `push LIST ITEM` (`at NODE`, or `full ITEM`), `pop LIST` (the item, or `-`), `count LIST`,
 `spare`, `holds NODE`, `remove NODE` and `replace NODE ITEM` (the item that was there, or `gone`), and `after NODE`
 (the next node of its list, or `-`). A node is the number of its push, from 0 on.
 
-Those of a timer are `set SLOT DEADLINE`, `clear SLOT`, and `due READING` (the next slot that is due, or `-`).
+The calls of a timer are `set SLOT DEADLINE`, `clear SLOT`, and `due READING` (the next slot that is due, or `-`).
 """
 
 import re
@@ -78,7 +78,7 @@ class Reader:
         """Adds a call."""
         if not self.sentence or not self.player:
             raise Trouble(f"no sentence, or nothing has begun: {text}")
-        # (what sets or clears a slot answers an empty line, and what begins none)
+        # (a call that sets or clears a slot is answered by an empty line, and `new` by no line)
         due = answer_of(call, wanted) if wanted else [] if call.startswith("new ") else [""]
         self.rows.append(Row(f"{self.sentence}: {text}", self.player, spelled(call), due))
 

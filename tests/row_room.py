@@ -1,13 +1,18 @@
 """Plays runs of three members that exchange messages: tests/rows/rules/room/.
 
-A run is its sentence and its lines. Each member starts at 0 and asks all for their state; these first messages are
-handed to nobody. A line is `at`, the moment, and what is done then: `ask`, a member, `for` and a reason; `due`, a
-member, `: ` and what its deadline wants and tells, a renewal being begun at once; `hear all`, by which all messages
-arrive and those that they lead to, or `hear without` a member, by which those from it and to it are lost; `leader`,
-and who alone leads by its kept lease, or `nobody`. A member, `view` and fields tell of its view. A line that begins
-with `# ` says what comes.
+A run has a sentence and its lines. Each member starts at 0 and asks all others for their state; these first messages
+are not delivered. A line is `at`, the time, and one of these:
 
-The driver plays whole scripts, so a member's calls are played again from its start whenever its next answer is needed.
+- `ask`, a member, `for` and a reason;
+- `due`, a member, `: `, and what its deadline requests and reports; a renewal begins at once;
+- `hear all`: all messages arrive, and those that follow from them;
+- `hear without` a member: the same, but the messages from and to this member are lost;
+- `leader`, and the only member that leads by its written lease, or `nobody`;
+- a member, `view`, and fields that its view must have.
+
+A line that begins with `# ` is a comment on the next lines.
+
+The driver plays whole scripts. So a member's calls are played again from its start whenever its next answer is needed.
 """
 
 import re

@@ -3,44 +3,44 @@ r"""Whole runs of the programs: the input of a run, its calls of the host, its p
 It is imported by tests/rows.py, and not run by itself. A file of rows has these lines:
 
     # TEXT                a comment
-    part NAME             the indented lines below it stand at each line `as NAME`
+    part NAME             names the indented lines below it; `as NAME` inserts them
     * SENTENCE            what the rows below it show
-    run PROGRAM WORD ..   a command line, of which '' is an empty argument
-    with                  below it, indented: what the host is made of
-    calls                 below it, indented: each call of the run, and `ends OUTCOME STATUS`
-    end END               how the run ends: a letter for each call, the status, the outcome, and the last print or -
+    run PROGRAM WORD ..   a command line, in which '' is an empty argument
+    with                  the contents of the host are below it, indented
+    calls                 each call of the run, and `ends OUTCOME STATUS`, are below it, indented
+    end END               the end of the run: a letter for each call, the status, the outcome, and the last print or -
     pieces A|B|..         pieces of such an END, in their order
     : WORD .. | GIVEN ; GIVEN => END
-                          one more run of the command line above, with further arguments and over further lines
-    again WORD ..         a run of these arguments makes the same calls, and ends so
+                          one more run of the command line above, with these additional arguments and contents
+    again WORD ..         a run with these arguments makes the same calls, and has the same end
     unlike HEAD | WORD .. => HEAD
-                          the END of a run of these arguments is another one, each without its HEAD
+                          a run with these arguments has another END; each END is given without its HEAD
 
-Behind `..` at the end of what is expected anything may stand. A line that ends with `\` goes on in the next one behind
-its blanks. {9 x} is the letter x nine times. In texts $ is the end of a line, \hh a byte, and '' nothing.
+`..` at the end of an expected text stands for any further text. A line that ends with `\` continues in the next line,
+after the blanks there. {9 x} is the letter x nine times. In texts $ is the end of a line, \hh a byte, and '' nothing.
 
-A host has the good configuration of tests/run_hosts.py, and the files /k and /old, which are empty. Its lines are:
+A host has the good configuration of tests/run_hosts.py, and the empty files /k and /old. Its contents are these lines:
 
-    first MS              what the clock reads before the first step
-    file TEXT             the configuration, at /etc/booth.conf; `more TEXT` is behind it
-    key TEXT              the file /k; `old TEXT` is /old
-    record TICKET RECORD  a record that is kept, as calls print it
+    first MS              the clock's reading before the first step
+    file TEXT             the configuration, at /etc/booth.conf; `more TEXT` adds text at its end
+    key TEXT              the file /k; `old TEXT` is the file /old
+    record TICKET RECORD  a stored record, in the form of the calls
     fails CALL ..         the calls that fail before the first step, or `taken` for locks that others hold
-    room COUNT            how many calls the host tells
-    hinder ticket NAME    the record of this ticket cannot be read; `hinder peer MEMBER`, `hinder path PATH`
-    MS nothing            a step: the clock's reading and what arrives; before it `send: ` says that a send fails
+    room COUNT            the number of calls that the host records
+    hinder ticket NAME    the record of this ticket cannot be read; also `hinder peer MEMBER` and `hinder path PATH`
+    MS nothing            a step: the clock's reading and the arrival. `send: ` before it makes a send fail
     MS failure            the wait fails
-    MS ends JOB STATUS    the end of a handler
-    MS list               the list request of a client
-    MS bytes # HEX ..     these bytes from a client
+    MS ends JOB STATUS    a handler ends
+    MS list               a client's request for the list arrives
+    MS bytes # HEX ..     these bytes of a client arrive
     MS WHO CMD REQUEST OPTIONS RESULT BODY
-                          a frame that was sent at 0, whose BODY is LEADER TERM SECONDS of the ticket ticket-db8,
-                          `= TEXT`, `long COUNT` for a text of so many letters, or `of TICKET NAME VALUE`
+                          a frame arrives that was sent at 0. BODY is LEADER TERM SECONDS of the ticket ticket-db8,
+                          `= TEXT`, `long COUNT` for a text of COUNT letters, or `of TICKET NAME VALUE`
 
 A frame in calls is: command, `of` the sender, `at` its clock in ms, request, options, reason, result, the body, and the
 MAC. Members are S1, S2 and AR. A record is its term, the lease's term and end, and `bound`, `promise` and `abstain`
-with what they say; one of version 1 is behind `first`. The END of a host that does not tell its calls is `untold` with
-the counts of turns and of records.
+with their values; `first` precedes a record of version 1. The END of a host that records no calls is `untold` with the
+numbers of turns and of records.
 """
 
 import re

@@ -1,10 +1,10 @@
-"""Plays rows about the file of records, which is opened over a disk in memory.
+"""Plays rows about a record file, which is opened over a disk in memory.
 
-A file is its slots of version 1 with `, ` between them, and behind ` / ` those of version 2; `/ ` begins a file that
-has only these, and `nothing` is the empty file. A slot is the commit byte, the number and the term of a record. A word
-may follow: `held` if the record has a lease of this term, `noted` if the bytes that nothing reads hold something, `cut`
-if the slot ends with its record, `bare` if the record has no version, `other` if it has the other version, and
-`behind` if a byte behind the record's parts is set.
+A file is written as its slots of version 1, separated by `, `, and after ` / ` its slots of version 2. `/ ` begins a
+file that has only slots of version 2, and `nothing` is the empty file. A slot is the commit byte, the number and the
+term of a record. A word may follow: `held` if the record has a lease of this term; `noted` if the bytes that nobody
+reads are not zero; `cut` if the slot ends with its record; `bare` if the record has no version; `other` if it has the
+other version; `behind` if a byte after the parts of the record is set.
 
 It is imported by tests/rows.py, and not run by itself.
 """
@@ -14,7 +14,7 @@ from typing import Dict, List, Tuple
 from row_driver import Driver
 from row_text import Malformed, Play, Plays, Row, check_rows, hexadecimal, told
 
-# where the two slots of version 2 begin, and how long a slot of each version is
+# the places of the two slots of version 2, and the length of a slot of each version, in bytes
 SECOND_STARTS = (128, 256)
 LENGTHS = {1: 64, 2: 80}
 UNTIL = 1_600_000

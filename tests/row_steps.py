@@ -3,24 +3,26 @@ r"""A service that follows its ticket, and a planned move, step by step: the act
 It is imported by tests/rows.py, and not run by itself. A file of rows has these lines:
 
     # TEXT                     a comment
-    conf                       below it, indented: the configuration of the rows
+    conf                       the configuration of the rows is below it, indented
     * SENTENCE                 what the rows below it show
     follow MARGIN KILL PAUSE LEFT
-                               begins a service: its margins in ms, and the end that an earlier one left, or `-`
-    move wait|once START       begins a move of the ticket ticket-db8 to the second member: whether outcomes are
-                               waited for, and its first reading
-    READING CAME : DONE        a step: the reading, what came before it, and what is done
+                               begins a service: its times in ms, and the end that an earlier follower left, or `-`
+    move wait|once START       begins a move of the ticket ticket-db8 to the second member: whether it waits for
+                               outcomes, and its first reading
+    READING CAME : DONE        a step: the reading, the event before it, and the action
     choose EXPIRE RENEWAL MARGIN KILL : MARGIN KILL PAUSE
-                               which margins fit a ticket with these times, in seconds
+                               the times that fit a ticket with these times, in seconds
     margins TICKET ADDRESS MARGIN KILL : MARGIN KILL PAUSE
-                               which margins a service of a configured ticket has at a site, in ms
+                               the times of a service of a configured ticket at a site, in ms
 
-What came is `-` for nothing. To a service come `here UNTIL` and `elsewhere`, which are lists that show this site or
-another one, `end RUN done` and `end RUN failed`, and `stop` if its end is asked for. To a move comes a reply of the
-first site: its command, request, result, and the member that it names as the owner. What a service does is `-`,
-`leave`, or `check`, `renew`, `start`, `stop` or `kill` with the number of the run and an end. What a move does is
-`nothing`, `revoke REQUEST`, `forward PLACE REQUEST` for a revoke that is sent on, `grant REQUEST`, or how it ends. A
-margin that is not given is `-`. Instead of margins a line may say why there are none.
+CAME is `-` if there is no event. The events of a service are the lists `here UNTIL`, which shows this site, and
+`elsewhere`; `end RUN done` and `end RUN failed`; and `stop`, the request to end. The event of a move is a reply of the
+first site: its command, request, result, and the member that it names as the owner.
+
+The action of a service is `-`, `leave`, or `check`, `renew`, `start`, `stop` or `kill` with the number of the run and
+an end. The action of a move is `nothing`, `revoke REQUEST`, `forward PLACE REQUEST` for a revoke that is redirected,
+`grant REQUEST`, or its end. A time that is not given is `-`. Instead of the times a line may have the cause for which
+there are none.
 """
 
 from typing import Dict, List, NamedTuple, Tuple

@@ -3,15 +3,15 @@
 It is imported by tests/rows.py, and not run by itself. A file of rows has these lines:
 
     # TEXT                     a comment
-    conf NAME                  below it, indented: a configuration; its first line is a comment
-    part NAME                  below it, indented: lines of a journal; the first line is a comment
+    conf NAME                  a configuration is below it, indented; its first line is a comment
+    part NAME                  lines of a journal are below it, indented; the first line is a comment
     * SENTENCE                 what the rows below it show
     PLACE of CONF: PARTS: TALLY
 
-A row has the place of the journal's member and its configuration, the parts of the journal, or `nothing`, and what
-is tallied: `last` with the reading in use; of each holding `held` with the ticket, the member, from when and until
-when; of each send `sent` with how many bytes it has; and `strays` with the line of the first call that was not
-demanded.
+PLACE is the index of the journal's member in the configuration, and PARTS are the parts of the journal, or `nothing`.
+The tally has `last` with the reading in use; for each holding `held` with the ticket, the member, the beginning and the
+end; for each send `sent` with the number of its bytes; and `strays` with the line of the first call that the rules did
+not demand.
 """
 
 from typing import Dict, List, Tuple

@@ -4,15 +4,15 @@ It is imported by tests/rows.py, and not run by itself. A file of rows has these
 
     # TEXT                       a comment
     * SENTENCE                   what the rows below it show
-    journal TEXT => LINE         the first line of the text that is none of a journal, counted from 1, or 0
+    journal TEXT => LINE         the first line, counted from 1, that is not a line of a journal; 0 if there is none
     cut STREAM | SIZE .. => MARKS
-                                 the marks of the frames of a stream that comes in pieces of these sizes, or `-` for
-                                 none, and `!` if the stream is then broken
-    each LEAST MOST PLACES       for frames of each length from LEAST to MOST, with a frame of 48 bytes behind: the two
-                                 frames, cut at each place, or at each two places
+                                 the marks of the frames of a stream that arrives in pieces of these sizes, or `-` for
+                                 no frame, and `!` if the stream is then broken
+    each LEAST MOST PLACES       frames of each length from LEAST to MOST, each followed by a frame of 48 bytes: both
+                                 must be found, with a cut at each place, or at each two places
 
-In a text `$` is the end of a line and `''` is the empty text. `{9 0a}` is `0a` nine times. Streams are those of
-tests/stream_data.py. Each frame is compared with all its bytes.
+In a text `$` is the end of a line and `''` is the empty text. `{9 0a}` is `0a` nine times. tests/stream_data.py
+describes streams. Each frame is compared with all its bytes.
 """
 
 import re

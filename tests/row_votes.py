@@ -19,7 +19,7 @@ NEXT = 606_202
 
 
 def made(answer: List[str]) -> Deed:
-    """Returns the action of an answer; the view comes after it."""
+    """Returns the action in an answer of the driver. The last two lines of the answer have the view."""
     printed_view(answer[-2:])
     return printed_deed(answer[:-2])
 

@@ -12,7 +12,7 @@ from row_driver import Trouble
 # the members of the rows' configurations, by the names that stand for them
 MEMBERS = {"S1": "192.168.201.100", "S2": "192.168.202.100", "AR": "192.168.203.100"}
 
-# where a client or a stranger sends from
+# the address and the port of a client or a stranger
 CLIENT = ("127.0.0.1", 4000)
 
 # an id that is of no member
@@ -64,7 +64,8 @@ def member_of(number: int) -> str:
 
 
 def number_of(word: str) -> int:
-    """Returns the number of a word: the id of a member or of nobody, the letters of a command or a result, or digits.
+    """Returns the number that a word of a row stands for: the id of a member or of nobody, the letters of a command or
+    a result, or digits.
     """
     if word == "client":
         return 0
@@ -105,7 +106,7 @@ def name_in(field: bytes) -> str:
 
 
 def ticket_in(body: bytes) -> List[str]:
-    """Returns the words of a ticket's body: its name, the leader, the term and the seconds."""
+    """Returns the body of a ticket's frame as the words of a row: its name, the leader, the term and the seconds."""
     if len(body) != 76:
         raise Trouble(f"no ticket: {body.hex()}")
     leader, term, seconds = (int.from_bytes(body[at:at + 4], "big") for at in (64, 68, 72))
@@ -113,14 +114,14 @@ def ticket_in(body: bytes) -> List[str]:
 
 
 def attribute_in(body: bytes) -> List[str]:
-    """Returns the words of an attribute's body: its ticket, its name and its value."""
+    """Returns the body of an attribute's frame as the words of a row: its ticket, its name and its value."""
     if len(body) != 256:
         raise Trouble(f"no attribute: {body.hex()}")
     return [name_in(body[:64]), name_in(body[64:128]), name_in(body[128:])]
 
 
 def body_in(letters: str, body: bytes) -> List[str]:
-    """Returns the words of a body."""
+    """Returns the body of a frame as the words of a row."""
     kind = frames.BODY_OF.get(letters, frames.TICKET)
     if kind == frames.ATTRIBUTE:
         return attribute_in(body)
@@ -134,7 +135,9 @@ def body_in(letters: str, body: bytes) -> List[str]:
 
 
 def auth_in(auth: bytes) -> List[str]:
-    """Returns the words of an authentication part, which has a MAC by SHA-1 and zeros, or a long one by SHA-256."""
+    """Returns an authentication part as the words of a row; it has a MAC by SHA-1 and zeros, or a longer one by
+    SHA-256.
+    """
     kind, mac = int.from_bytes(auth[:4], "big"), auth[4:]
     if kind == 2 and not any(mac[20:]):
         return ["mac", mac[:20].hex()]

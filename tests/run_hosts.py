@@ -30,7 +30,7 @@ FAILS = ["send", "keep", "start", "out"]
 
 
 def hexadecimal(data: bytes) -> str:
-    """Returns bytes as a word of the driver's protocol."""
+    """Returns bytes as one hexadecimal word of the driver's protocol."""
     return data.hex() or "-"
 
 

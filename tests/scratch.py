@@ -11,7 +11,8 @@ from typing import Iterator
 
 @contextlib.contextmanager
 def scratch(prefix: str) -> Iterator[str]:
-    """A new folder that is removed at the end. If a program that still runs writes into it then, no test fails."""
+    """Yields a new folder that is removed at the end. If a program that still runs writes into it then, no test fails.
+    """
     folder = tempfile.mkdtemp(prefix=prefix)
     try:
         yield folder

@@ -147,7 +147,7 @@ def what_ended_by_itself_is_told(room: Room) -> None:
         same((room.words(), state["service"], state["word"]), ("check", wanted, "renew"), f"a check of {status}")
     shown = room.call("booth-service", "show", TICKET)
     need(shown.status == 0 and "service   ended for " in shown.printed, f"{shown}")
-    # (what ended is under its switch as before: its unit may start it again)
+    # (a service that ended keeps its switch, since its unit may start it again)
     room.put("jobs", f"7 {UNIT} restart waiting\n")
     room.drop("ran")
     done = room.by_unit("ended")
@@ -155,7 +155,7 @@ def what_ended_by_itself_is_told(room: Room) -> None:
     room.put("check.status", "0")
     room.word("renew", str(KILL), ends=ENDS + 50)
     await_service(room, "running", "a service that runs again")
-    # a look that ends after a stop says nothing, and a renewal waits for none
+    # a check that ends after a stop writes nothing, and a renewal does not wait for a check
     room.put("check.status", "3")
     room.put("check.slow")
     done = room.word("renew", str(KILL), ends=ENDS + 55)

@@ -1,7 +1,7 @@
-"""A room without systemd for follow-service and the programs around it: stand-ins on PATH note each call.
+"""A room without systemd, in which follow-service and the programs around it run: stand-ins on PATH record each call.
 
-It is imported by tests/service_words.py, and not run by itself. The stand-ins keep timers and units as files, and fail,
-hang or are late where a file says so.
+It is imported by tests/service_words.py, and not run by itself. The stand-ins store timers and units as files. They
+fail, hang or are late if a file says so.
 """
 
 import os
@@ -17,9 +17,9 @@ TOP = os.path.dirname(os.path.dirname(os.path.abspath(__file__)))
 PACKAGING = f"{TOP}/packaging"
 TICKET = "db8"
 UNIT = f"booth-follow@{TICKET}.service"
-# in seconds: what a busy machine may take more
+# the additional time on a busy machine, in seconds
 SLACK = 25
-# the end of a lease by the daemon's clock, and what is left until then
+# the end of a lease by the daemon's clock in seconds, and the milliseconds until then
 ENDS, LEFT, KILL = 1_790_000_000, 10_000, 1_250
 
 STAND_INS = {
@@ -66,7 +66,7 @@ printf '%s\\n' "$2" | sed 's/-/\\\\x2d/g'
 [ "$1" = tracking ] || [ -e chrony.right ]
 """,
 }
-# what is run for the service: it notes its word, and does what files of the word's name say
+# the program of the service: it records each run with its argument, and does what the files ARGUMENT.* say
 PROGRAM = """#!/bin/sh
 cd {folder} || exit 9
 printf '%s\\n' "$* $BOOTH_TICKET_EXPIRES $BOOTH_TICKET_LEFT" >>ran
@@ -88,7 +88,9 @@ class Ended(NamedTuple):
 
 
 class Ran(NamedTuple):
-    """A run of the service's program: its word, the arguments after it, and the end that it was given."""
+    """A run of the service's program: its first argument, the arguments after it, and the lease's end that it was
+    given.
+    """
 
     word: str
     more: List[str]
@@ -123,13 +125,13 @@ class Room:
             file.write(text)
 
     def drop(self, *names: str) -> None:
-        """Removes those files of the room that exist."""
+        """Removes these files of the room, if they exist."""
         for name in names:
             if os.path.exists(f"{self.folder}/{name}"):
                 os.remove(f"{self.folder}/{name}")
 
     def text(self, name: str) -> str:
-        """The text of a file of the room, empty if it is missing."""
+        """Returns the text of a file of the room, empty if it is missing."""
         try:
             with open(f"{self.folder}/{name}", encoding="utf-8") as file:
                 return file.read()
@@ -137,7 +139,7 @@ class Room:
             return ""
 
     def environment(self, more: Dict[str, str]) -> Dict[str, str]:
-        """The environment of a run: that of the follower, with additional variables."""
+        """Returns the environment of a run: that of the follower, with additional variables."""
         given = {name: text for name, text in os.environ.items() if not name.startswith(("BOOTH_", "JOURNAL_"))}
         given["PATH"] = f"{self.folder}/bin:{os.environ['PATH']}"
         given["BOOTH_FOLLOW_RUN"] = self.run_folder
@@ -161,7 +163,7 @@ class Room:
         return Ended(done.returncode, done.stdout, time.monotonic() - begun)
 
     def word(self, *words: str, ticket: str = TICKET, ends: int = ENDS, left: int = LEFT, **more: str) -> Ended:
-        """Runs follow-service with a word and the program, as the follower does."""
+        """Runs follow-service with an argument and the program, as the follower does."""
         told = {"BOOTH_TICKET": ticket, "BOOTH_TICKET_EXPIRES": str(ends), "BOOTH_TICKET_LEFT": str(left), **more}
         return self.call("follow-service", ticket, self.program, "fast", *words, **told)
 
@@ -170,14 +172,14 @@ class Room:
         return self.call("follow-service", TICKET, self.program, "fast", *word.split(), BOOTH_TICKET=TICKET, **more)
 
     def begun(self, **more: str) -> None:
-        """The service runs, and its end is armed; earlier notes of the stand-ins are deleted."""
+        """Starts the service with an armed end, and deletes the earlier records of the stand-ins."""
         for words in (("renew", str(KILL)), ("start",)):
             ended = self.word(*words, **more)
             assert ended.status == 0, ended
         self.drop("calls", "ran")
 
     def ran(self) -> List[Ran]:
-        """The runs of the service's program since the room was made or these notes were deleted."""
+        """Returns the runs of the service's program since the room was made or these notes were deleted."""
         found = []
         for line in self.text("ran").splitlines():
             _, word, *more, expires, left = line.split()
@@ -185,36 +187,36 @@ class Room:
         return found
 
     def words(self) -> str:
-        """The words with which the program was run, in order."""
+        """Returns the arguments of the runs of the program, in order."""
         return " ".join(run.word for run in self.ran())
 
     def calls(self) -> List[str]:
-        """The calls of the stand-ins."""
+        """Returns the calls of the stand-ins."""
         return self.text("calls").splitlines()
 
     def timers(self) -> List[str]:
-        """The names of the armed timers, without the number of the run that armed them."""
+        """Returns the names of the armed timers, without the number of the run that armed them."""
         return sorted(re.sub(r"^(booth-end-.*-\d+)-\d+(\.timer)$", r"\1\2", name) for name in self.timer_files())
 
     def timer_files(self) -> List[str]:
-        """The names of the armed timers."""
+        """Returns the names of the armed timers."""
         return os.listdir(f"{self.folder}/timers")
 
     def armed(self, ticket: str = TICKET) -> Optional[str]:
-        """The content of the file of the end, or None if it is missing."""
+        """Returns the content of the file of the end, or None if it is missing."""
         return self.text(f"run/{ticket}.end") or None
 
     def state(self, ticket: str = TICKET) -> Dict[str, str]:
-        """The keys of the state."""
+        """Returns the keys of the state."""
         return dict(line.split("=", 1) for line in self.text(f"run/{ticket}.state").splitlines())
 
     def leftovers(self) -> List[str]:
-        """The files in the state's folder that no run may leave there."""
+        """Returns the files in the state's folder that no run may leave there."""
         return [name for name in os.listdir(self.run_folder) if ".new." in name]
 
 
 def since_boot() -> float:
-    """The time since the boot, in seconds."""
+    """Returns the time since the boot, in seconds."""
     return time.clock_gettime(time.CLOCK_BOOTTIME)
 
 
@@ -228,6 +230,6 @@ stories: List[Story] = []
 
 
 def story(function: Story) -> Story:
-    """Adds a story to the stories of the words."""
+    """Adds a story to the stories of this file."""
     stories.append(function)
     return function

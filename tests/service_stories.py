@@ -1,7 +1,7 @@
 """The output of booth-status about services that follow a ticket on its machine, with arranged states and units.
 
-It is imported by tests/status.py, and not run by itself. Of the package follow-service alone writes what is looked at
-here, in one story; the others write the files of booth-follow(8) themselves.
+It is imported by tests/status.py, and not run by itself. One story runs follow-service of the package, which writes the
+files that booth-status reads. The other stories write these files of booth-follow(8) themselves.
 """
 
 import contextlib
@@ -31,7 +31,7 @@ from status_runs import (
     warning,
 )
 
-# what systemd is here: it lists the units of a file, and says of a unit's start at boot what a file says
+# a stand-in for systemctl: it lists the units of a file, and reads from another file whether a unit starts at boot
 SYSTEMCTL = """#!/bin/sh
 [ ! -e {folder}/hangs ] || exec sleep 100
 [ ! -e {folder}/fails ] || exit 1
@@ -42,7 +42,7 @@ case $1 in
 esac
 """
 LIVE, GONE = "loaded active running", "loaded inactive dead"
-# where a shell is, and so systemctl is not, for programs that are run by their path
+# a PATH with a shell and without systemctl, for programs that are run by their own path
 NOWHERE = "/nonexistent"
 
 
@@ -66,7 +66,7 @@ class Machine:
             file.write(text)
 
     def drop(self, *names: str) -> None:
-        """Removes those files that exist."""
+        """Removes these files, if they exist."""
         for name in names:
             if os.path.lexists(os.path.join(self.folder, name)):
                 os.remove(os.path.join(self.folder, name))
@@ -78,7 +78,7 @@ class Machine:
     def state(
         self, service: Optional[str], ticket: str = "web", *, paused: bool = False, lasts: float = 42, **said: float
     ) -> None:
-        """Sets the service to this state for this many seconds; times of `said` count from now."""
+        """Sets the service to this state, as if since this many seconds; the times in `said` count from now."""
         self.drop(f"run/{ticket}.state", f"run/{ticket}.paused")
         if paused:
             self.put(f"run/{ticket}.paused")
@@ -93,7 +93,7 @@ class Machine:
 
     @contextlib.contextmanager
     def here(self, path: Optional[str] = None) -> Iterator[None]:
-        """Programs that are run in this block see this machine."""
+        """Programs that run in this block see the arranged machine."""
         before, kept = dict(os.environ), configuration.FOLDER
         os.environ["BOOTH_FOLLOW_RUN"] = self.run
         os.environ["PATH"] = f"{self.bin}:/usr/bin:/bin" if path is None else path
@@ -107,23 +107,23 @@ class Machine:
 
 
 def arranged(folder: str, **more: Any) -> Tuple[Three, Machine]:
-    """Three members of the cluster booth, and the first member's machine."""
+    """Arranges three members of the cluster booth, and the machine of the first one."""
     three = Three(folder, name="booth", **more)
     return three, Machine(folder, three.one)
 
 
 def texts(told: Dict[str, Any]) -> List[str]:
-    """The text of each problem."""
+    """Returns the text of each problem."""
     return [each["text"] for each in told["problems"]]
 
 
 def says(told: Dict[str, Any], form: str) -> None:
-    """The worst problem has a text of this form."""
+    """Checks that the text of the worst problem has this form."""
     require(re.fullmatch(form, texts(told)[0]), f"{texts(told)[0]!r}, and not {form!r}")
 
 
 def table_of(three: Three) -> Tuple[List[List[str]], int]:
-    """The rows of the tickets in the table, and the status."""
+    """Returns the rows of the tickets in the table, and the status."""
     ran = status("-c", three.path)
     require(not ran.said, ran.said)
     return tables_of(ran.printed)[2], ran.status
@@ -137,7 +137,7 @@ def each_state_of_a_service(folder):
     down, gone = critical("service-down", one, ticket="web"), critical("no-follower", one, ticket="web")
     idle, paused = warning("no-follower", one, ticket="web"), warning("paused", one, ticket="web")
     failed = critical("service-failed", one, ticket="web")
-    # state, paused, unit, what is shown, and the problems where this site holds the ticket and where another does
+    # each row: the state, whether it is paused, the unit, the shown word, and the problems at the holder and elsewhere
     cases = [
         ("running", False, LIVE, "running here", [], []),
         ("starting", False, LIVE, "starting", [], []),
@@ -156,7 +156,7 @@ def each_state_of_a_service(folder):
         ("running", False, "loaded failed failed", "no follower", [gone], [gone]),
         ("stopped", False, GONE, "no follower", [down, gone], [idle]),
         ("ended", False, GONE, "no follower", [down, gone], [idle]),
-        # (a follower that was stopped and disabled)
+        # (the follower was stopped and disabled)
         ("stopped", False, None, "no follower", [down, gone], []),
         (None, False, GONE, "no follower", [gone], [idle]),
         (None, False, LIVE, "unknown", [], []),
@@ -192,7 +192,7 @@ def what_is_said_of_a_service(folder):
         machine.state("ended")
         ended = "web: this site holds it, but its service ended by itself, as was seen 4\\d s ago"
         says(document("-c", three.path), rf"{ended}: systemctl restart booth-follow@web starts it again")
-        # (longer than a lease)
+        # (for longer than a lease)
         machine.state("starting", lasts=130)
         says(document("-c", three.path), f"{down} starting for 2 min: journalctl -u booth-follow@web has the cause")
         machine.state("running", kill_at=30, paused=True)
@@ -296,7 +296,7 @@ def whose_services_are_looked_at(folder):
         machine.drop("etc/booth.env")
         told = document("-c", three.path)
         require_same((told["site"], problems(told)), (two, []))
-        # (nothing says which site this is, and all of these addresses are this machine's)
+        # (the machine has all these addresses, and nothing says which site it is)
         machine.drop("etc/follow/web.env")
         told = document("-c", three.path)
         require_same((told["site"], problems(told), told["tickets"][0]["service"]["state"]), (None, [], "stopped"))
@@ -308,13 +308,13 @@ def whose_services_are_looked_at(folder):
 
 
 def problems(told: Dict[str, Any]) -> List[str]:
-    """The kinds of the problems."""
+    """Returns the kinds of the problems."""
     return [each["kind"] for each in told["problems"]]
 
 
 @contextlib.contextmanager
 def follower_of(ticket: str) -> Iterator[None]:
-    """In this block a process runs with the name and the arguments of a follower."""
+    """Runs a process with the name and the arguments of a follower in this block."""
     words = ["booth-follow", "-c", "sleep 100; :", ticket, "a-program"]
     with subprocess.Popen(words, executable="/bin/sh", start_new_session=True) as process:
         try:
@@ -353,7 +353,7 @@ def a_follower_without_systemd(folder):
 
 
 def of_web(told: Dict[str, Any]) -> str:
-    """The text about the silent holder of this ticket."""
+    """Returns the text about the silent holder of this ticket."""
     return next(each["text"] for each in told["problems"] if (each["kind"], each["ticket"]) == ("silent-owner", "web"))
 
 
@@ -363,7 +363,7 @@ def when_a_takeover_comes(folder):
     three = Three(folder, more="acquire-after = 30\n")
     one, two, third = three.addresses
     held = three.held(one, two)
-    # the lease's end, acquire-after, and a guard of 0.122 s, in whole seconds
+    # (the lease's end, acquire-after, and a guard of 0.122 s, rounded up to whole seconds)
     free = three.now + 50 + 30 + 1
     when = time.strftime("%H:%M:%S", time.gmtime(free))
     with all_of([three.fake(two, held), three.fake(third, held)]):
@@ -374,7 +374,7 @@ def when_a_takeover_comes(folder):
     require(re.fullmatch(f"{until}, {two} is next, unless it renews its lease", of_web(told)), of_web(told))
     require_same(told["tickets"][0]["takeover"], {"free_at": free, "next": two, "due": False})
     require(40 <= sample(samples, "booth_ticket_takeover_seconds", ticket="web") <= 81, "in how long")
-    # (a lease of 60 s that is renewed each 30 s, with tries 5 s apart, has more than 17 s left)
+    # (a lease of 60 s that is renewed each 30 s, with tries 5 s apart, has more than 17 s left at any time)
     late = three.held(one, two, left=14)
     with all_of([three.fake(two, late), three.fake(third, late)]):
         told = document("-c", three.path, "-t", 0.8)
@@ -420,7 +420,7 @@ def a_ticket_that_was_held(folder):
             return document("-c", three.path, "-s", state, *words)
 
     require_problems(looked(three.held(None, two)), warning("free", ticket="web"))
-    # (a second after this lease the ticket is free)
+    # (the ticket is free a second after this lease)
     require_problems(looked(three.held(one, two, left=-1), "-t", 1), warning("unrenewed", one, ticket="web"))
     until = time.strftime("%Y-%m-%d %H:%M:%S", time.gmtime(three.now - 1))
     for _ in range(2):
@@ -434,7 +434,7 @@ def a_ticket_that_was_held(folder):
     require_problems(told, free)
     says(told, f"web: nobody holds it, and {two} released it")
     require_same(told["tickets"][0]["takeover"], None)
-    # what an earlier booth-status remembered says nothing of holders
+    # (the state file of an older booth-status has no holders)
     with open(state, encoding="ascii") as file:
         text = file.read()
     with open(state, "w", encoding="ascii") as file:

@@ -1,9 +1,9 @@
 #!/usr/bin/env python3
 """Checks each argument of follow-service, and the programs around it, against HANDLERS.md and booth-follow(8).
 
-Run it as `python3 tests/service_words.py [WORD..]`, which runs the stories whose name has one of the words, or all. It
-needs no systemd and nothing that is built: stand-ins on PATH note what is called (tests/service_room.py). It takes less
-than a minute, prints a line for each story, and has the status 1 if one failed.
+Run it as `python3 tests/service_words.py [WORD..]`. It runs the stories whose name has one of the words, or all
+stories. It needs neither systemd nor built programs: stand-ins on PATH record each call (tests/service_room.py). It
+takes less than a minute, prints a line for each story, and has the status 1 if one failed.
 """
 
 import concurrent.futures
@@ -40,7 +40,7 @@ def words_are_taken_from_the_end(room: Room) -> None:
     for ticket in ("", "a/b", ".", "..", ".hidden"):
         done = room.call("follow-service", ticket, "/bin/true", "stop")
         need(done.status == 2 and "no file" in done.printed, f"{ticket!r}: {done}")
-    # a program whose arguments are words as well
+    # (the program's arguments look like arguments of follow-service)
     done = room.call("follow-service", TICKET, room.program, "renew", "5", "stop")
     need(done.status == 0 and room.text("ran").startswith("renew 5 stop "), f"{done}, {room.text('ran')}")
 
@@ -58,7 +58,7 @@ def the_program_has_what_a_handler_has(room: Room) -> None:
     (run,) = room.ran()
     same((run.word, run.more, run.expires), ("stop", [], ENDS), "the run")
     need(0 < run.left <= LEFT, f"{run.left} ms are left of {LEFT}")
-    # as the unit runs it
+    # (in the same way as the unit)
     room.put("jobs", f"7 {UNIT} stop running\n")
     done = room.by_unit("ended", CLUSTER="other", ADDRESS="192.0.2.11", BOOTH_CONF_PATH="")
     same(done.status, 0, done.printed)
@@ -103,7 +103,7 @@ def check_passes_the_status_on(room: Room) -> None:
         state = room.state()
         same((state["word"], state["status"]), ("check", str(status)), "the last run")
         same(state["service"], "stopped" if status else "running", f"the state after {status}")
-    # (a renewal comes between its look at the end and its look at the timers)
+    # (a renewal comes between the check of the end and the check of the timers)
     room.put("swaps", f"{ENDS} {ENDS + 9}\n")
     same(room.word("check").status, 0, "a check beside a renewal")
     room.put("check.hangs")
@@ -124,7 +124,7 @@ def renew_arms_the_switch(room: Room) -> None:
     words = room.text(f"timers/{room.timer_files()[0]}").splitlines()
     after = int(re.fullmatch(r"--on-active=(\d+)ms", next(word for word in words if word.startswith("--on-active")))[1])
     need(0 < after <= LEFT - KILL, f"it fires after {after} ms")
-    # (systemd began at 1 s of its clock)
+    # (systemd started at 1 s of its clock)
     at = [int(found) for found in re.findall(r"--on-startup=(\d+)ms", " ".join(words))]
     due = clock + LEFT - KILL - 1000
     is_due = due - 20 <= at[0] <= due + 3000 and at[1:] == [at[0] + 500, at[0] + 2000]
@@ -177,7 +177,7 @@ def renew_that_fails_changes_nothing(room: Room) -> None:
     for name in ("run.fails", "run.hangs", "run.released"):
         room.put(name)
         is_refused(name)
-        # (the same end again, as a renewal that was too slow is: what stands behind the armed one stays)
+        # (the same end again, as after a renewal that was too slow: timers after the armed one stay)
         same(room.word("renew", str(KILL)).status, 1, name)
         same((room.armed(), room.timers()), (f"{ENDS}\n", [TIMER]), f"the same end, {name}")
         room.drop(name)
@@ -258,7 +258,7 @@ def a_service_that_failed_is_left_so(room: Room) -> None:
     need(3 < time.monotonic() - begun < 4 + SLACK, "it waited for another time")
     state = room.state()
     same((state["service"], state["failed_starts"], state["failed_until"]), ("running", "0", "0.00"), "the state")
-    # one that is cleared waits no more, however long a renewal takes
+    # after booth-service clear, a start waits no longer, however long a renewal takes
     room.put("booth.conf", f"ticket = {TICKET}\n expire = 100\n renewal-freq = 60\n")
     room.put("start.status", "5")
     room.word("start", FAILED_STARTS="1")
@@ -412,7 +412,7 @@ def a_first_start_of_a_boot_stops(room: Room) -> None:
     """the first start of a boot stops the service, within the configuration's margin, and no later start does"""
     room.put("stop.hangs")
     done = room.by_unit("begin")
-    # (expire 10 and renewal-freq 7)
+    # (with expire 10 and renewal-freq 7)
     need(done.status == 0 and 1.2 < done.took < SLACK and room.words() == "stop kill", f"{done}, {room.words()}")
     room.drop("ran", "stop.hangs")
     same((room.by_unit("begin").status, room.words()), (0, ""), "a second one")
@@ -468,7 +468,7 @@ def the_switch_kills(room: Room) -> None:
 
 
 def outcome(told: Story) -> bool:
-    """Whether a story passes, in its own room."""
+    """Returns whether a story passes, in its own room."""
     with scratch("booth-words-") as folder:
         begun = time.monotonic()
         try:
@@ -485,7 +485,7 @@ def main(words: List[str]) -> int:
     begun = time.monotonic()
     all_stories = stories + service_around.stories
     chosen = [each for each in all_stories if not words or any(word in each.__name__ for word in words)]
-    # (most of their time they wait)
+    # (the stories mostly wait)
     with concurrent.futures.ThreadPoolExecutor(4) as pool:
         outcomes = list(pool.map(outcome, chosen))
     failed = outcomes.count(False)

@@ -14,28 +14,28 @@ ABSENT = {"ticket": NAME, "holder": None, "term": None, "seconds_left": None}
 
 
 def kept_term(member):
-    """The term of the lease in the record of this member."""
+    """Returns the term of the lease in the record of this member."""
     with open(member.record_path(), "rb") as file:
         slot = record_file.in_force(record_file.slots_in(file.read(record_file.FILE_BYTES)))
     return slot.record.lease.term
 
 
 def shown_by(member):
-    """This member's answer about the ticket, which is a JSON object on one line."""
+    """Asks this member about the ticket. Returns the answer, which is a JSON object on one line."""
     ran = member.booth("show", "-j", "-t", NAME)
     require(ran.status == 0 and ran.printed.count("\n") == 1 and not ran.said, f"booth show left {ran}")
     return json.loads(ran.printed)
 
 
 def line_of(shown):
-    """The line that is printed for a ticket without -j."""
+    """Returns the line that is printed for a ticket without -j."""
     term = "" if shown["term"] is None else f", term: {shown['term']}"
     seconds = "" if shown["seconds_left"] is None else f", seconds left: {shown['seconds_left']}"
     return f"ticket: {NAME}, holder: {shown['holder'] or 'none'}{term}{seconds}\n"
 
 
 def shows(cluster, holder):
-    """Each running member shows this holder; only the holder shows a term, that of its record."""
+    """Checks that each running member shows this holder, and that only the holder shows a term, that of its record."""
     term = kept_term(holder)
     for member in (member for member in cluster.members if member.is_running()):
         before = shown_by(member)

@@ -1,12 +1,13 @@
 #!/usr/bin/env python3
 """Checks that the pool of linked nodes and the timer stay fast at large sizes.
 
-Run it as `python3 tests/sizes.py [PROGRAM]`, PROGRAM being the built `trials`, which rt leaves at
-crates/trials/out/trials. It takes some seconds, prints a line for each check, and has the status 1 if one failed
-or took more than a minute. If `trials` is not built it checks nothing, with status 0.
+Run it as `python3 tests/sizes.py [PROGRAM]`. PROGRAM is `trials`, by default at crates/trials/out/trials, where rt
+leaves it. It takes some seconds, prints a line for each check, and has the status 1 if one failed or took more than a
+minute. If `trials` is not built it checks nothing, with status 0.
 
-What the lists and the answers are is proved, and in how many counted looks a slot is found. Time is not: a pool
-that moves all later items, or a timer that looks without counting, would only be slow, and take hours here.
+The contents of the lists, the answers, and the number of counted steps to find a slot are proved. The time is not
+proved. A pool that moves all later items, or a timer with steps that it does not count, would only be slow: here it
+would take hours.
 """
 
 import os
@@ -20,7 +21,7 @@ SECONDS = 60
 
 ITEMS, SLOTS, UNTIL, ASKS = 4_000_000, 1_000_000, 60_000, 16
 
-# the items from the middle of the list on, but the last; sixteen answers at each moment from 0 on
+# the items from the middle of the list on, except the last one; sixteen answers at each moment from 0 on
 REMOVED = ITEMS // 2 - 1
 ANSWERS = ASKS * (UNTIL + 1)
 
@@ -31,7 +32,7 @@ CHECKS = (
 
 
 def trouble(program, words, line):
-    """The fault of a run, and how long it took."""
+    """Returns the fault of a run, and how long it took."""
     started = time.monotonic()
     try:
         done = subprocess.run([program, *map(str, words)], stdout=subprocess.PIPE, timeout=SECONDS)

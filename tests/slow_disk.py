@@ -1,7 +1,7 @@
-"""Disks that are slow for one program alone, and counts of its syncs.
+"""Disks that are slow for one program only, and counts of its syncs.
 
-It is imported by tests/pressure.py, and not run by itself. Two functions stand before the C library's fsync and
-fdatasync.
+It is imported by tests/pressure.py, and not run by itself. A library replaces fsync and fdatasync of the C library
+(LD_PRELOAD).
 """
 
 import contextlib
@@ -12,7 +12,7 @@ from devices import LeftOut, built_library, require
 from real_host import plain
 from row_driver import Session
 
-# each sync waits for as many milliseconds as one file says first, and adds a byte to another
+# (each sync waits for the number of milliseconds in one file, and adds a byte to another)
 SLOW = """
 #define _GNU_SOURCE
 #include <fcntl.h>
@@ -55,7 +55,7 @@ def say_sync_takes(told: str, seconds: float) -> None:
 
 
 class SlowDisk:
-    """A program whose syncs take as long as is said."""
+    """A program whose syncs take as long as a file says."""
 
     def __init__(self, folder: str, program: str) -> None:
         self.told, self.program = os.path.join(folder, "slow"), os.path.join(folder, "slow-program")
@@ -66,7 +66,7 @@ class SlowDisk:
         os.chmod(self.program, 0o755)
 
     def sync_takes(self, seconds: float) -> None:
-        """Has each sync from now on take so long."""
+        """Makes each sync take this long from now on."""
         say_sync_takes(self.told, seconds)
 
 
@@ -76,7 +76,7 @@ def counted(folder: str, noted: str) -> Dict[str, str]:
 
 
 class CountedHost:
-    """A real host over a new directory of records, whose syncs are counted, and take as long as is said."""
+    """A real host over a new directory of records, whose syncs are counted, and take as long as a file says."""
 
     def __init__(self, folder: str, trials: Optional[str]) -> None:
         if trials is None:
@@ -113,5 +113,6 @@ class CountedHost:
         return self.of(f"keep {ticket.hex()} {plain(self.term)}", "ok", seconds)
 
     def of_wait(self, millis: int, seconds: float = 0) -> int:
-        """Returns how many syncs a wait of at most this many milliseconds made, in which nothing came."""
+        """Returns how many syncs the host made in a wait of at most this many milliseconds, in which nothing arrived.
+        """
         return self.of(f"next {millis}", "quiet", seconds)

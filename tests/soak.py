@@ -1,13 +1,13 @@
 #!/usr/bin/env python3
 """Has services follow their tickets through hundreds of takeovers by random faults, and checks that none overlap.
 
-Run it as `python3 tests/soak.py [TAKEOVERS [CLUSTERS [SEED]]] [BOOTHD BOOTH BOOTH-FOLLOW]`, by default 200 takeovers
-in 8 clusters side by side, of the programs that `make build` leaves. It takes some ten minutes, in which it mostly
-sleeps, and is not in the gate. It prints a line for each fault, ends all that it started, and has the status 1 if
-two services overlapped, or one ran past its lease's end.
+Run it as `python3 tests/soak.py [TAKEOVERS [CLUSTERS [SEED]]] [BOOTHD BOOTH BOOTH-FOLLOW]`. By default it makes 200
+takeovers in 8 clusters at the same time, with the programs that `make build` leaves. It takes some ten minutes, in
+which it mostly sleeps, and is not in the gate. It prints a line for each fault, ends all programs that it started, and
+has the status 1 if two services overlapped, or one ran past its lease's end.
 
 The services of both sites write a line with its time into one file, ten times a second. A fault has two parts, which
-are drawn for themselves: what befalls the holder's daemon or its ways, and what befalls the service and its follower.
+are drawn independently: one concerns the holder's daemon or its network paths, the other its service and follower.
 """
 
 import contextlib
@@ -33,12 +33,12 @@ from serving import built_program, end_by_signals, own_addresses
 from stories import PATIENCE, require
 
 TAKEOVERS, CLUSTERS, SEED = 200, 8, 1
-# as short as a follower takes them: `renewal-freq`, 2 seconds and the margin are `expire`
+# the shortest times that a follower accepts: `renewal-freq`, 2 seconds and the margin are together `expire`
 TIMES = Times(expire=9, timeout=1, retries=3, renewal=5)
 MARGIN, KILL = 2, 1
-# how long after its end the unit starts a follower again
+# how long after its end the unit starts a follower again, in seconds
 SECONDS_TO_FOLLOW = 1
-# (many clusters run side by side, and each look takes a processor)
+# (many clusters run at the same time, and each check needs a processor)
 members.SECONDS_BETWEEN_LOOKS = 0.03
 
 
@@ -103,7 +103,7 @@ class Scene:
         yield
 
     def trouble(self):
-        """A fault of the daemon or its links: its name, and a block in which it lasts."""
+        """Returns a fault of the daemon or its links: its name, and a block in which it lasts."""
         kinds = [
             ("daemon killed", self.killed),
             ("daemon stands still", self.stands_still),
@@ -128,7 +128,7 @@ class Scene:
         return kind, lambda: self.mend(holder)
 
     def unit_follows_anew(self, holder):
-        """The follower dies, and a second later its unit starts another one, which takes the service over."""
+        """Kills the follower. A second later its unit starts another one, which takes the service over."""
         time.sleep(self.draw.uniform(0, 1))
         self.services.kill(holder)
         time.sleep(SECONDS_TO_FOLLOW)
@@ -167,7 +167,7 @@ class Scene:
 
 
 def soaked(place, count, seed, programs):
-    """This many takeovers of one cluster, and the first failure, if there is one."""
+    """Returns the takeovers of one cluster, this many, and the first failure, if there is one."""
     done, draw = [], random.Random(seed * 1_000 + place)
     try:
         with scratch("booth-soak-") as folder, contextlib.ExitStack() as stack:
@@ -193,7 +193,7 @@ def middle(values):
 
 
 def told(done, took):
-    """The lines about the result."""
+    """Returns the lines about the result."""
     moved = [each for each in done if each.moved]
     kinds = sorted({(each.trouble, each.service) for each in done})
     yield f"{len(done)} faults of {len(kinds)} kinds, {len(moved)} takeovers, in {took / 60:.1f} minutes"
@@ -205,7 +205,7 @@ def told(done, took):
 def run(takeovers, clusters, seed, programs):
     """Runs the clusters. Prints how many failed."""
     began, each = time.monotonic(), -(-takeovers // clusters)
-    # (each has a process of its own, and so addresses of its own)
+    # (each cluster runs in its own process, and so has its own addresses)
     with multiprocessing.get_context("fork").Pool(clusters, maxtasksperchild=1) as pool:
         runs = [pool.apply_async(soaked, (place, each, seed, programs)) for place in range(1, clusters + 1)]
         results = [run.get() for run in runs]

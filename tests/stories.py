@@ -11,9 +11,9 @@ import frames
 import record_file
 from members import MANUAL, TICKET, Ran, now, wait_for
 
-# how much later than it may a thing happens at most, in seconds: if the machine has a processor for it, or has not
+# how late an event may be, in seconds: on an idle machine, and on a busy one
 SLACK, SLACK_LOADED = 0.5, 10
-# how long one waits for what must come
+# how long a story waits for an event that must come, in seconds
 PATIENCE = 30
 NAME = TICKET.decode()
 BY_HAND = MANUAL.decode()
@@ -37,7 +37,7 @@ def story(function):
 
 
 def slack():
-    """How much later than its limit an event may happen on this machine now."""
+    """Returns how late an event may be on this machine now, in seconds."""
     return SLACK if os.getloadavg()[0] <= (os.cpu_count() or 1) else SLACK_LOADED
 
 
@@ -46,13 +46,13 @@ def passed(sentence):
 
 
 def is_held_by(cluster, member):
-    """Whether this member's record is in force and every running member lists it."""
+    """Returns whether this member's record is in force and every running member lists it."""
     record = member.record()
     return record is not None and record.holds(now()) and cluster.shown_by_all() == member.address
 
 
 def grants(cluster, place, seconds=PATIENCE):
-    """A client requests a grant from this member, again if it is busy, and then the member holds."""
+    """Has a client request a grant from this member, again if it is busy. Then the member must hold the ticket."""
     member = cluster.members[place]
     result = wait_for(lambda: (answer := member.about("CGnt")) != "Busy" and answer, seconds)
     require(result in ("ok", "Asyn"), f"a grant is answered {result or 'Busy, or not at all'}")
@@ -61,8 +61,8 @@ def grants(cluster, place, seconds=PATIENCE):
 
 
 def left(ran, wanted):
-    """Whether a run printed the wanted text, possibly followed by a line with a refusal's cause, as tests/causes.py has
-    it.
+    """Returns whether a run printed the wanted text, possibly followed by a line with a refusal's cause, as
+    tests/causes.py has it.
     """
     more = ran.said[len(wanted.said) :]
     is_cause = bool(wanted.said) and more.endswith("\n") and more.count("\n") == 1
@@ -70,7 +70,7 @@ def left(ran, wanted):
 
 
 def says(member, words, status, text):
-    """Runs booth at this member, and checks its status and its text, which only one of the streams has."""
+    """Runs booth at this member, and checks its status and its text. Only one of the two streams may have text."""
     wanted = Ran(status, "", text) if status else Ran(status, text, "")
     ran = member.booth(*words)
     require(left(ran, wanted), f"booth {' '.join(words)} at {member.address} left {ran}, and not {wanted}")
@@ -88,7 +88,7 @@ def date(moment):
 
 
 def lists(cluster, owner):
-    """Every running member lists this owner, with the end of the lease in the owner's record, by booth."""
+    """Checks by booth that every running member lists this owner, with the end of the lease in the owner's record."""
     for member in cluster.members:
         if not member.is_running():
             continue
@@ -96,21 +96,21 @@ def lists(cluster, owner):
         ran = member.booth("list")
         wanted = {f"ticket: {NAME}, leader: none\n"}
         if owner is not None:
-            # (it may be renewed meanwhile, and a member that only heard of it counts whole seconds)
+            # (the lease may be renewed meanwhile, and a member that is not the holder counts whole seconds)
             moments = [end + more for end in (before, owner.record().until) for more in (-1, 0, 1)]
             wanted = {f"ticket: {NAME}, leader: {owner.address}, expires: {date(end)}\n" for end in moments}
         require(ran.status == 0 and ran.printed in wanted and not ran.said, f"{member.address} lists {ran}")
 
 
 def lease_of(member):
-    """The lease in the record of this member."""
+    """Returns the lease in the record of this member."""
     with open(member.record_path(), "rb") as file:
         return record_file.in_force(record_file.slots_in(file.read(record_file.FILE_BYTES))).record.lease
 
 
 def stands(cluster, owner):
-    """Every running member shows, for the only ticket, this owner and the remaining seconds of the lease in its record.
-    Only the owner shows the term of that lease. Returns the term.
+    """Checks that every running member shows, for the only ticket, this owner and the remaining seconds of the lease in
+    its record. Only the owner shows the term of that lease. Returns the term.
     """
     leases = []
     for member in cluster.members:
@@ -121,7 +121,7 @@ def stands(cluster, owner):
         answer = member.ask("CTkt", frames.ticket_body(TICKET, frames.NO_ONE, 0, 0))
         require(answer and answer.result == "ok" and len(answer.body) == 76, f"{member.address} answers {answer}")
         told = struct.unpack(">3I", answer.body[64:])
-        # (it may be renewed meanwhile, and a member that only heard of it counts whole seconds)
+        # (the lease may be renewed meanwhile, and a member that is not the holder counts whole seconds)
         leases += [lease_of(owner)] if owner else []
         terms = {lease.term for lease in leases} if member is owner else {0}
         lefts = [(lease.until / 1000 - now() - 1, lease.until / 1000 - asked + 2) for lease in leases]
@@ -135,7 +135,7 @@ def stands(cluster, owner):
 
 
 def counts_as(member):
-    """The figures that booth prints for the members are the daemon's counters."""
+    """Checks that the figures that booth prints about the members are the daemon's counters."""
     drops, others = member.counts()
     ran = member.booth("peers")
     first, *lines = ran.printed.splitlines()
@@ -150,5 +150,5 @@ def counts_as(member):
 
 
 def abstains(cluster, started):
-    """The moment from which each member answers rounds, if it started before now and without a record."""
+    """Returns the time from which each member votes, if it started before now and without a record."""
     time.sleep(max(0, started + cluster.times.abstention() + 0.05 - now()))

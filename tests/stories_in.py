@@ -1,15 +1,12 @@
 """Reads files of stories: their texts, their parts and their configurations.
 
-It is imported by the programs in tests/, and not run by itself.
+It is imported by the programs in tests/, and not run by itself. Blank lines separate the paragraphs of a file, and a
+line that begins with blanks continues the line before it. The first paragraph says what the file shows; each of its
+lines begins with `# `. A text begins with `# ` and its name. In a file of parts or of configurations `: ` and a
+description follow the name; in a file of stories the name is the sentence of the story.
 
-Blank lines part the paragraphs of a file, and a line that begins with blanks continues with the line before it. The
-first paragraph of a file, each line of which begins with `# `, says what the file shows. A text begins with `# ` and
-its name: in a file of parts or of configurations `: ` and what it is stand behind the name, and in a file of stories
-the name is what the story shows.
-
-`[for FIRST to LAST: TEXT]` is the text for each of these numbers, which stands in it for `{n}`, or with three digits
-for `{n:03}`. In place of the blank before the text may be a line end or a blank line. The texts are then parted by it
-too.
+`[for FIRST to LAST: TEXT]` repeats the text for each of these numbers. The number replaces `{n}`, and with three digits
+`{n:03}`. If a line end or a blank line comes before the text instead of the blank, it also separates the repetitions.
 """
 
 import os

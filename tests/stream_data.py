@@ -1,17 +1,16 @@
 """Makes the bytes of streams from their texts.
 
-It is imported by the programs in tests/, and not run by itself.
-
-A text is words with one blank between each two, or `-` for no bytes. `48:a` is a frame that says that it has 48 bytes
-and has them, each of them an `a` but for the length field. `48:a/20-48` is its bytes from the 20th on, up to the 48th.
-Each other word is in hexadecimal, and `78*9` is the byte 78 nine times.
+It is imported by the programs in tests/, and not run by itself. A text has words with one blank between each two, or is
+`-` for no bytes. `48:a` is a frame of 48 bytes, whose length field is right and whose other bytes are all `a`.
+`48:a/20-48` are its bytes from the 20th up to the 48th. Each other word is in hexadecimal, and `78*9` is the byte 78
+nine times.
 """
 
 import re
 
 from row_driver import Trouble
 
-# where the length field of a frame begins and ends
+# the beginning and the end of a frame's length field, in bytes
 LENGTH_AT, LENGTH_END = 24, 28
 
 

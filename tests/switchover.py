@@ -1,9 +1,9 @@
 #!/usr/bin/env python3
 """Checks the order of the steps of booth-switchover, and what it undoes.
 
-Run it as `python3 tests/switchover.py [WORD..]`: it runs the stories whose name has one of the words, or all. Members,
-booth and systemctl are arranged, so it needs nothing that is built. It takes less than a minute, prints a line for each
-story, and has the status 1 if one failed.
+Run it as `python3 tests/switchover.py [WORD..]`. It runs the stories whose name has one of the words, or all stories.
+Members, booth and systemctl are stand-ins, so it needs no built programs. It takes less than a minute, prints a line
+for each story, and has the status 1 if one failed.
 """
 
 import contextlib
@@ -29,7 +29,7 @@ PORT = 20_000 + os.getpid() % 10_000
 ADDRESSES = own_addresses()
 UNIT = "booth-follow@db8.service"
 
-# what stands for booth and systemctl: it notes each call, and does what files say
+# the stand-ins for booth and systemctl: each records its calls, and reads from files what to do
 STAND_INS = {
     "booth": """
 for word in "$@"; do last=$word; done
@@ -40,7 +40,7 @@ if [ -e "$1.fails" ]; then cat "$1.fails"; exit 1; fi
 [ "$1" = grant ] && cat own >holder
 exit 0
 """,
-    # a site that is a Pacemaker cluster: its ticket, and its resource, which stops in standby
+    # the cluster of a Pacemaker site: its ticket, and its resource, which stops in standby
     "crm_ticket": """
 [ ! -e ticket.fails ] || { echo 'no connection' >&2; exit 102; }
 case " $* " in
@@ -85,7 +85,7 @@ class Member(FakeMember):
         self.room = room
 
     def answers(self, request: bytes) -> List[bytes]:
-        """The datagrams that are sent to the client that asks this."""
+        """Returns the datagrams that are sent to the client that asks this."""
         self.texts["CLst"] = [f"db8 {self.room.text('holder').strip()} {int(time.time()) + 50}", "hand none 0"]
         return super().answers(request)
 
@@ -115,7 +115,7 @@ class Room:
             file.write(text)
 
     def text(self, name: str) -> str:
-        """The text of a file of the room, empty if it is missing."""
+        """Returns the text of a file of the room, empty if it is missing."""
         try:
             with open(f"{self.folder}/{name}", encoding="utf-8") as file:
                 return file.read()
@@ -123,7 +123,7 @@ class Room:
             return ""
 
     def started(self, *words: str) -> "subprocess.Popen[str]":
-        """A running switchover with these arguments."""
+        """Returns a running switchover with these arguments."""
         path = {"PATH": f"{self.folder}/bin:{os.environ['PATH']}", "BOOTH_FOLLOW_RUN": f"{self.folder}/state"}
         path["BOOTH_CIB"] = f"{self.folder}/cib.xml"
         command = [f"{TOP}/packaging/booth-switchover", "-c", f"{self.folder}/booth.conf", "-s", self.one, *words]
@@ -131,13 +131,13 @@ class Room:
         return subprocess.Popen(command, env={**os.environ, **path}, text=True, **streams)
 
     def run(self, *words: str) -> Ended:
-        """The outcome of a switchover with these arguments."""
+        """Returns the outcome of a switchover with these arguments."""
         with self.started(*words) as switchover:
             printed, _ = switchover.communicate(timeout=60)
         return Ended(switchover.returncode, printed)
 
     def calls(self) -> str:
-        """The calls that change something, in order: the first words of each."""
+        """Returns the calls that change something, in order: the first words of each."""
         kept = [call for call in self.text("calls").splitlines() if " is-active " not in call]
         kept = [call.replace(" --ticket db8", "") for call in kept if not call.startswith("crm_mon")]
         return ", ".join(" ".join(call.split()[:2]) for call in kept)
@@ -156,7 +156,7 @@ class Room:
 
     @contextlib.contextmanager
     def members(self, *silent: str) -> Iterator[None]:
-        """All members except these answer in this block."""
+        """Lets all members except these answer in this block."""
         with contextlib.ExitStack() as stack:
             for address in self.addresses:
                 if address not in silent:
@@ -175,7 +175,8 @@ def story(function: Story) -> Story:
 
 
 def ends_with(room: Room, status: int, text: str, calls: str, *words: str) -> str:
-    """A switchover to the second site ends with this status, this text as its last line, and these calls."""
+    """Checks that a switchover to the second site ends with this status, this text as its last line, and these calls.
+    """
     done = room.run("-t", "2", *(words or ("db8", room.two)))
     lines = done.printed.strip().splitlines()
     need(done.status == status and lines and text in lines[-1], f"{done}, and not {status} with {text!r}")
@@ -343,7 +344,7 @@ def a_cluster_that_could_not_be_moved_is_refused(room: Room) -> None:
 
 
 def outcome(told: Story) -> bool:
-    """Whether a story passes, in its own room."""
+    """Returns whether a story passes, in its own room."""
     with scratch("booth-switchover-") as folder:
         try:
             told(Room(folder))

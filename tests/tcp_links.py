@@ -26,7 +26,7 @@ class Link:
 
     def __init__(self, address, key=None, local=None, room=None, rate=None):
         self.address, self.key = address, key
-        # how many bytes a second are taken, and how many were
+        # the bytes that are read per second, and the bytes that were read so far
         self.rate, self.begun, self.taken = rate, time.monotonic(), 0
         self.socket = socket.socket(socket.AF_INET6 if ":" in address else socket.AF_INET)
         self.socket.settimeout(SECONDS_TO_ANSWER)
@@ -49,7 +49,7 @@ class Link:
         self.socket.close()
 
     def receive(self, count):
-        """The next bytes, exactly this many, however they are cut, and read no faster than this link allows."""
+        """Reads exactly this many bytes, in whatever parts they come, and no faster than this link allows."""
         came = bytearray()
         while len(came) < count:
             try:
@@ -65,17 +65,17 @@ class Link:
         return bytes(came)
 
     def frame(self):
-        """The next frame, by the length in its head."""
+        """Returns the next frame, by the length in its head."""
         head = self.receive(frames.HEAD_BYTES)
         return head + self.receive(frames.Head.read(head).length - frames.HEAD_BYTES)
 
     def request(self, letters="CLst", body=b""):
-        """A request, and its number."""
+        """Returns a request, and its number."""
         number = next(numbers)
         return number, frames.request_now(letters, number, body, self.key)
 
     def ask(self, letters="CLst", body=b"", cut=None, pause=0.001):
-        """The reply to a request that is sent whole, or in two pieces that are cut at this place."""
+        """Returns the reply to a request that is sent whole, or in two pieces that are cut at this place."""
         number, request = self.request(letters, body)
         if cut is None:
             self.socket.sendall(request)
@@ -86,7 +86,7 @@ class Link:
         return self.reply(letters, number)
 
     def reply(self, letters, number):
-        """The next frame, which must answer this request."""
+        """Returns the next frame, which must answer this request."""
         frame = self.frame()
         head = frames.Head.read(frame)
         if (head.cmd, head.request) != (frames.code(frames.ANSWER_TO[letters]), number):
@@ -94,7 +94,7 @@ class Link:
         return frame
 
     def ends(self, seconds):
-        """Whether the daemon closes the link within this time. Bytes that arrive before are ignored."""
+        """Returns whether the daemon closes the link within this time. Bytes that arrive before are ignored."""
         end = time.monotonic() + seconds
         while time.monotonic() < end:
             self.socket.settimeout(max(0.001, end - time.monotonic()))
@@ -110,13 +110,13 @@ class Link:
 
 @contextlib.contextmanager
 def links(count, address, key=None):
-    """This many links at once."""
+    """Opens this many links."""
     with contextlib.ExitStack() as stack:
         yield [stack.enter_context(Link(address, key)) for _ in range(count)]
 
 
 def open_files(process):
-    """How many files a process has open."""
+    """Returns how many files a process has open."""
     return len(os.listdir(f"/proc/{process}/fd"))
 
 

@@ -1,12 +1,13 @@
 #!/usr/bin/env python3
 """Checks three real boothd with 4,096 tickets: lists, grants, a restart and a takeover work as with one ticket.
 
-Run it as `python3 tests/thousands.py [BOOTHD BOOTH BOOTH-FOLLOW [TICKETS]]`, by default those that `make build`
-leaves. It takes some 40 seconds, most of which it waits for leases, prints a line for each check, ends all that it
-started, and has the status 1 if a check failed. If a program is not built it checks nothing, with status 0.
+Run it as `python3 tests/thousands.py [BOOTHD BOOTH BOOTH-FOLLOW [TICKETS]]`. By default the programs are those that
+`make build` leaves. It takes some 40 seconds, mostly waiting for leases. It prints a line for each check, ends
+all programs that it started, and has the status 1 if a check failed. If a program is not built it checks nothing, with
+status 0.
 
-A list of so many tickets comes in parts. Of each part's tickets some are granted, the first and the last among them,
-and a service follows one of the last part.
+A list of that many tickets has several parts. Some tickets of each part are granted, among them the first and the last
+one. A service follows a ticket of the last part.
 """
 
 import os
@@ -25,27 +26,27 @@ from stories import PATIENCE, Wrong, passed, require
 from tcp_links import Link
 
 TICKETS = 4_096
-# a lease that is over soon, renewed early enough on a busy machine
+# (a short lease, which is renewed early enough on a busy machine)
 TIMES = Times(expire=12, timeout=1, retries=3, renewal=6)
-# how many tickets of each part are granted
+# the number of tickets that are granted in each part
 GRANTED_OF_A_PART = 4
-# the most memory that a member may have had, in bytes: names of 20 bytes, and no prerequisites
+# the limit for the peak memory of a member, in bytes: names of 20 bytes, and no prerequisites
 MOST_MEMORY = 24_000_000
 
 
 def names(count):
-    """Names of 20 bytes."""
+    """Returns names of 20 bytes."""
     return [b"ticket-%06d-site-a" % number for number in range(count)]
 
 
 def peak_memory(process):
-    """The greatest memory of a process, in bytes."""
+    """Returns the greatest memory of a process, in bytes."""
     with open(f"/proc/{process.pid}/status", encoding="ascii") as file:
         return next(int(line.split()[1]) * 1024 for line in file if line.startswith("VmHWM:"))
 
 
 def parts_of_list(member):
-    """The names of the tickets in each part of the member's list, as a client over TCP gets them."""
+    """Returns the names of the tickets in each part of the member's list, as a client over TCP gets them."""
     parts, is_last = [], False
     with Link(member.address) as link:
         number, request = link.request()
@@ -60,14 +61,14 @@ def parts_of_list(member):
 
 
 def some_of(parts):
-    """The first and the last ticket of each part, and some between them."""
+    """Returns the first and the last ticket of each part, and some between them."""
     places = range(GRANTED_OF_A_PART)
     return [part[place * (len(part) - 1) // (GRANTED_OF_A_PART - 1)] for part in parts for place in places if part]
 
 
 def line_of(ticket, holder):
-    """The possible lines of booth, one of which must be printed: a member that only heard of a lease counts whole
-    seconds.
+    """Returns the possible lines of booth, one of which must be printed: a member that only heard of a lease counts
+    whole seconds.
     """
     name = ticket.decode()
     record = holder and holder.record(ticket)
@@ -78,12 +79,12 @@ def line_of(ticket, holder):
 
 
 def lists_right(member, tickets, holder=None, held=()):
-    """Whether booth prints one line of each ticket, in the file's order, each as the holder's records say."""
+    """Returns whether booth prints one line of each ticket, in the file's order, each as the holder's records say."""
     held = set(held)
     before = {ticket: line_of(ticket, holder if ticket in held else None) for ticket in tickets}
     ran = member.booth("list")
     if ran.said.startswith("booth: no reply\n"):
-        # (thousands of datagrams go around just after a start: one of the list's may be lost)
+        # (members exchange thousands of datagrams just after a start, so one of the list's may be lost)
         return False
     require((ran.status, ran.said) == (0, ""), f"booth list at {member.address}: {ran.status}, {ran.said!r}")
     lines = ran.printed.splitlines()
@@ -94,7 +95,7 @@ def lists_right(member, tickets, holder=None, held=()):
 
 
 def all_list(cluster, tickets, holder=None, held=()):
-    """Every running member lists all tickets correctly, once it has heard of them."""
+    """Checks that every running member lists all tickets correctly, as soon as it has received their states."""
     for member in cluster.members:
         if member.is_running():
             is_right = wait_for(lambda member=member: lists_right(member, tickets, holder, held), PATIENCE)
@@ -107,7 +108,7 @@ def holds_all(member, tickets):
 
 
 def grant_all(member, tickets):
-    """Grants each ticket, again if its members do not agree yet."""
+    """Grants each ticket, and repeats a grant if its members do not agree yet."""
     wanted = list(tickets)
 
     def is_done():

@@ -1,12 +1,12 @@
 #!/usr/bin/env python3
 """Checks how `booth` asks a member: by datagrams, over TCP, and by one after the other.
 
-Run it as `python3 tests/transport.py [BOOTH [BOOTHD]]`, by default those that `make build` leaves. It takes some
-half a minute, prints a line for each check with what it measured, ends all that it started, and has the status 1 if
-a check failed. If a program is not built it checks nothing, with status 0.
+Run it as `python3 tests/transport.py [BOOTH [BOOTHD]]`. By default the programs are those that `make build` leaves. It
+takes some half a minute, prints a line for each check with what it measured, ends all programs that it started, and has
+the status 1 if a check failed. If a program is not built it checks nothing, with status 0.
 
-Most members here are none: each takes datagrams, or links, or both, and answers what docs/PROTOCOL.md has. The last
-checks ask a real daemon, the very last one while others send it more datagrams than it can read.
+Most members here are stand-ins: each accepts datagrams, or links, or both, and answers as docs/PROTOCOL.md says. The
+last checks ask a real daemon, and the very last one asks it while others send it more datagrams than it can read.
 """
 
 import os
@@ -28,12 +28,12 @@ from scratch import scratch
 from serving import NotServing, built_program, end_by_signals, own_addresses
 
 KEY = b"a-key-of-the-cluster"
-# as booth(8) says: how long a member is silent before it is asked over TCP, and how long one waits for an answer
+# by booth(8), in seconds: how long booth waits for a datagram before it asks over TCP, and for an answer in all
 SECONDS_OF_SILENCE, SECONDS_OF_PATIENCE = 1.0, 5.0
-# how late a thing may be on a busy machine
+# the additional time on a busy machine, in seconds
 SLACK = 2.0
 LINE = "ticket-db8 192.0.2.10 4102444800\n"
-# senders of the flood, how long it lasts, and how many times a command is tried in it
+# the flood: its senders, its seconds, and the number of commands that are tried in it
 SENDERS, SECONDS_OF_FLOOD, TRIES = 3, 12, 20
 
 
@@ -42,7 +42,7 @@ class Wrong(Exception):
 
 
 def require(holds: bool, why: str) -> None:
-    """Raises `Wrong` with this reason unless it holds."""
+    """Raises `Wrong` with this reason if a condition is false."""
     if not holds:
         raise Wrong(why)
 
@@ -121,7 +121,7 @@ class FakeMember:
             self.socket.sendto(self.answer(request), asker)
 
     def take_bytes(self, link: socket.socket, links: Dict[socket.socket, bytes]) -> None:
-        """Answers the frame of a link once it is whole."""
+        """Answers a frame of a link when all its bytes have arrived."""
         more = link.recv(4096)
         if not more:
             del links[link]

@@ -48,7 +48,7 @@ def ways_that_carry_nothing(folder):
     require_problems(looked((None, 0, 2, 0), (None, 0, 2, 0)), warning("no-way", two, third))
     # members that hold nothing may be silent for days
     require_problems(looked((90_000, 5, 6, 0), (90_000, 5, 6, 0)))
-    # a holder is heard in the time of a lease of 60 s, and so is who answers it
+    # (within a lease of 60 s a holder is heard, and so is each member that answers it)
     told = looked((2, 7, 8, 0), (2, 7, 8, 0), of_one=(90, 5, 6, 0))
     require_problems(told, warning("one-way", one, third))
     text = first_text(told)
@@ -83,13 +83,13 @@ def counters_that_rose(folder):
     member = told["members"][1]
     require_same((member["dropped_more"]["badmac"], member["started_anew"]), (2, False))
     require_same(member["peers"][1]["more"], {"received": 2, "sent": 4, "errors": 5})
-    # what stands still is well again; of three messages and more none came at the third
+    # counters that stand still count as well again; of three or more messages of the third member none arrived
     dropped, third_lines = "dropped 9 0 6 0 0 0 0 1", three.peers(third, two=(2, 11, 10, 0))
     require_problems(looked(of_two, third_lines))
     told = looked(three.peers(two, dropped, third=(2, 10, 15, 5)), third_lines)
     require_problems(told, warning("one-way", third, two))
     require("(3 messages since the last look)" in told["summary"], told["summary"])
-    # counters that fell are those of a daemon that restarted: they count from 0
+    # (counters fell, so the daemon was restarted: they count from 0)
     of_two = three.peers(two, "dropped 0 0 1 0 0 0 0 0", one=(2, 1, 1, 0), third=(2, 1, 1, 0))
     told = looked(of_two, three.peers(third, two=(2, 12, 11, 0)))
     require_problems(told, warning("dropped", two), notice("restarted", two))
@@ -97,7 +97,7 @@ def counters_that_rose(folder):
     text = next(each["text"] for each in told["problems"] if each["kind"] == "restarted")
     form = f"{two}: restarted since the last look; without records of version 2 it votes in no election until"
     found = re.fullmatch(f"{form} (.*)", text)
-    # a promise lasts expire, acquire-after and a guard; of db, without times of its own, 600 s and 1.203 s
+    # (a promise lasts expire, acquire-after and a guard; db has no times of its own: 600 s and 1.203 s)
     ends = [date(told["time"] + 601.203 + more) for more in (-1, 0, 1)]
     require(found and found[1] in ends, f"{text}, and not until {ends[1]}")
 
@@ -150,7 +150,7 @@ def what_is_so_for_a_moment(folder):
     """a problem that a second look does not find, for example while a ticket moves, is not reported"""
     three = Three(folder)
     one, two, third = three.addresses
-    # (the answers to the second look: all is well, or something else is so, which the first did not find)
+    # (the second look finds that all is well, or finds another problem, which the first look did not have)
     for later in (three.held(one, two), three.held(one, None)):
         moving = three.fake(two, three.held(None, two))
 
@@ -215,7 +215,8 @@ def words_that_are_not_taken(folder):
         (["-w", "soon"], f"argument -w/--watch: {nan.replace('nan', 'soon')}"),
         (["-b", "-j"], "--brief and --json exclude each other"),
         (["-m", "booth.txt"], f"argument -m/--metrics: {no_prom}"),
-        (["--members"], "--members and --sync need --check"),
+        (["--members"], "--members needs --check or --doctor"),
+        (["--sync", "5"], "--sync needs --check"),
         (["--check", "x", "-w"], "--check allows only --members, --sync, --timeout, --brief and --json"),
         (["-c", none], f"cannot read {none}: No such file or directory"),
         (["-c", folder], f"cannot read {folder}: Is a directory"),
@@ -251,6 +252,6 @@ def what_cannot_be_printed(folder):
             command = " ".join([sys.executable, "-IS", f"{TOP}/packaging/{words[0]}", *words[1:]])
             shell = ["bash", "-c", f"{command} {where}; exit ${{PIPESTATUS[0]}}"]
             done = subprocess.run(shell, stdout=subprocess.PIPE, stderr=subprocess.PIPE, timeout=60, check=False)
-            # (a reader that is gone may be noticed or not)
+            # (a program may notice or not that its reader is gone)
             found = done.returncode if where != "| :" or done.returncode not in (0, 3) else 0
             require_same((found, done.stderr.decode()), (result, text), f"{words[0]} {where}: ")

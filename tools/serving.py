@@ -61,7 +61,7 @@ def end_by_signals():
 
 @contextlib.contextmanager
 def turn(name):
-    """A `with` block that only one of these programs can be in at a time. The others wait."""
+    """Yields a `with` block that only one of these programs can be in at a time. The others wait."""
     # (locks the directory itself, which leaves no file behind, and which boothd does not look at)
     folder = os.open(os.path.dirname(LOCK), os.O_RDONLY)
     try:

@@ -69,7 +69,7 @@ def program(name: str) -> str:
 
 
 def ran(seconds: float, *words: str) -> Ran:
-    """Runs a program for at most so many seconds."""
+    """Runs a program for at most `seconds` seconds."""
     try:
         streams = {"stdin": subprocess.DEVNULL, "stdout": subprocess.PIPE, "stderr": subprocess.STDOUT}
         done = subprocess.run(words, timeout=seconds, check=False, **streams)

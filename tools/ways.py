@@ -8,7 +8,7 @@ tools/judging.py, and not run by itself.
 from problems import WARNING, Problem
 from wording import span
 
-# if so many messages in a row are lost, the path counts as broken
+# the path counts as broken after this many lost messages in a row
 LOST_IN_TURN = 3
 # in seconds: how much longer than a lease a holder may be silent, because `last` is a whole second
 SLACK = 2
