@@ -264,7 +264,8 @@ def a_service_that_is_restarted_for_a_term(cluster, services):
     without_checks = lambda: [word for word in services.words(one) if word != "check"]
     is_restarted = wait_for(lambda: without_checks()[: len(adopted)] == adopted, PAUSE + PATIENCE)
     require(is_restarted, f"it was run with {services.words(one)}")
-    require(b"looks whether the service runs" in services.said(), f"it was not adopted: {services.said()}")
+    adopts = b"checks whether the service, which an earlier follower left running"
+    require(adopts in services.said(), f"it was not adopted: {services.said()}")
     passed("the next follower does not know the term of its start, and restarts it too")
 
 
