@@ -122,7 +122,7 @@ def wanted_field(name: str, text: str) -> object:
         return several(text, 3)
     if name == "shown":
         return several(text, 2)
-    if name in ("sure", "managed", "round"):
+    if name in ("hello", "sure", "managed", "round"):
         return truth(text)
     if name in ("due", "job", "force", "abstain"):
         return None if text == "none" else moment(text)

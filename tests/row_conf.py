@@ -80,7 +80,7 @@ def full(_row: Row) -> bytes:
     prereqs = b"".join(b"attr-prereq=manual %063d ne %0127d\n" % (number, number) for number in range(8))
     times = b"expire=10000000\nacquire-after=10000000\ntimeout=99009\nretries=100\nrenewal-freq=9999999\n"
     weights = b"weights=" + b",".join([b"1000000000"] * 16) + b"\n"
-    start = b"site=10.0.0.1\nticket=__default__\nmode=manual\n" + times + weights
+    start = b"site=10.0.0.1\nticket=__default__\nmode=manual\nsteady=yes\n" + times + weights
     handler = b"before-acquire-handler=" + b"h" * 255 + b"\n"
     return start + handler + prereqs + b"".join(b"ticket=%063d\n" % number for number in range(4096))
 

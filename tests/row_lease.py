@@ -1,8 +1,8 @@
 """Plays the stories of single members under the lease rules: tests/rows/rules/lease/.
 
 A story has a sentence, the start of a core, and its lines. `S1 at 5` starts a core at 5, and `S1 at 5 with 1` starts it
-from a record. `alone` means that the site is the only member, and `15 of 16` that it is the site at place 15 of 16
-members.
+from a record. `steady S1 at 5` starts one that follows the steady rules. `alone` means that the site is the only
+member, and `15 of 16` that it is the site at place 15 of 16 members.
 
 A line with a call is `at`, the time, the call with its arguments, and after `: ` the action that the core must return.
 The calls are `hello`; `ask` and a reason; `hear` and a message; `kept` or `failed`, the result of the write that waits;
@@ -30,14 +30,14 @@ PLAIN = ("hello", "tick", "renew")
 
 def start(line: str) -> str:
     """Returns the driver's line of a start."""
-    found = re.fullmatch(r"(S1|S2|AR|alone|(\d+) of (\d+)) at (\d+)(?: with (.+))?", line)
+    found = re.fullmatch(r"(steady )?(S1|S2|AR|alone|(\d+) of (\d+)) at (\d+)(?: with (.+))?", line)
     if found is None:
         raise Trouble(f"no start: {line}")
-    who, place, members, now, kept = found.groups()
-    record = rule_words.record(kept) if kept else None
+    steady, who, place, members, now, kept = found.groups()
+    seat = rule_words.Seat(int(place or 0), int(members or 1), is_steady=bool(steady))
     if who in rule_words.MEMBERS:
-        return f"start {rule_words.start_of(number(who) - 1, 3, moment(now), record)}"
-    return f"start {rule_words.start(moment(now), int(place or 0), int(members or 1), True, 0, record)}"
+        seat = rule_words.seat_of(number(who) - 1, 3, bool(steady))
+    return f"start {rule_words.start(moment(now), seat, rule_words.record(kept) if kept else None)}"
 
 
 def note(now: int, what: str) -> str:

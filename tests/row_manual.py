@@ -106,7 +106,7 @@ def steps_of_story(story: Story) -> List[Step]:
     if story.blocks or not lines:
         raise Trouble(f"a story has its lines in one block: {sentence}")
     kept = None if opening == "new" else record(opening)
-    line = f"start {rule_words.start_of(0, 3, 0, kept)}"
+    line = f"start {rule_words.start(0, rule_words.seat_of(0, 3), kept)}"
     started = Step(sentence, opening, line, lambda answer, _: (len(answer), 1))
     return [started] + [step(sentence, row) for row in lines]
 

@@ -1,8 +1,8 @@
 """Plays the stories of whole tickets: tests/rows/rules/ticket/.
 
 A story has a sentence, lines that explain it if needed, its ticket, and its turns, which are separated by blank lines.
-A ticket is a member, `of` and the number of members, `by hand` if it is manual, and `from` and its stored record. It
-starts at 0.
+A ticket is `steady` if it follows the steady rules, a member, `of` and the number of members, `by hand` if it is
+manual, and `from` and its stored record. It starts at 0.
 
 The first line of a call is `at`, the time, and one of these: `grant` or `revoke` with its options (from client 77, or
 from another one after ` of `); `from` and a member's message; `over`, a job and its status; or `due`. The lines below
@@ -111,11 +111,12 @@ def printed_act(line: str) -> Act:
 
 def opened(text: str) -> str:
     """Returns the opening of a ticket in the driver's form."""
-    found = re.fullmatch(r"(\S+) of (\d+)( by hand)?(?: from (.*))?", text)
+    found = re.fullmatch(r"(steady )?(\S+) of (\d+)( by hand)?(?: from (.*))?", text)
     if found is None:
         raise Trouble(f"no ticket: {text}")
-    who, members, manual, kept = found.groups()
-    start = rule_words.start_of(number(who) - 1, number(members), 0, record(kept) if kept else None)
+    steady, who, members, manual, kept = found.groups()
+    seat = rule_words.seat_of(number(who) - 1, number(members), bool(steady))
+    start = rule_words.start(0, seat, record(kept) if kept else None)
     return f"{int(bool(manual))} {start}"
 
 

@@ -19,6 +19,8 @@ TOP = os.path.dirname(os.path.dirname(os.path.abspath(__file__)))
 # the members of all stories: two sites and an arbitrator
 MEMBERS = {"S1": 1, "S2": 2, "AR": 3, "none": NO_ONE}
 TICKET = b"ticket-db8"
+# the time between two renewals in ms, if a story names no other
+RENEWAL = 300_000
 
 
 def moment(word: str) -> int:
@@ -181,14 +183,32 @@ def printed_say(words: List[str]) -> Say:
     return Say(words[0], printed_message(words[1:]))
 
 
-def start(now: int, place: int, members: int, is_site: bool, rank: int, kept: Optional[Record]) -> str:
+class Seat(NamedTuple):
+    """A member's place among the members of its cluster, whether it follows the steady rules, and the time between two
+    renewals in ms.
+    """
+
+    place: int
+    members: int
+    is_site: bool = True
+    rank: int = 0
+    is_steady: bool = False
+    renewal: int = RENEWAL
+
+    def words(self) -> str:
+        """Returns the driver's words."""
+        seat = (self.place + 1, self.place, self.members, int(self.is_site), self.rank)
+        return " ".join(map(str, (*seat, int(self.is_steady), self.renewal)))
+
+
+def seat_of(place: int, members: int, is_steady: bool = False) -> Seat:
+    """Returns the seat of a member of the stories: two sites, and arbitrators."""
+    return Seat(place, members, place < 2, 1 if place == 1 else 0, is_steady)
+
+
+def start(now: int, seat: Seat, kept: Optional[Record]) -> str:
     """Returns the driver's words of a start."""
-    return f"{now} {place + 1} {place} {members} {int(is_site)} {rank} {kept.words() if kept else '-'}"
-
-
-def start_of(place: int, members: int, now: int, kept: Optional[Record]) -> str:
-    """Returns the driver's words of the start of a member of the stories: two sites, and arbitrators."""
-    return start(now, place, members, place < 2, 1 if place == 1 else 0, kept)
+    return f"{now} {seat.words()} {kept.words() if kept else '-'}"
 
 
 class Story(NamedTuple):

@@ -40,10 +40,11 @@ NUMBERS = {
 }
 HASHES = ["sha1", "sha256"]
 MODES = {"auto": False, "AUTO": False, "manual": True, "MANUAL": True}
+YES = {"no": False, "NO": False, "yes": True, "YES": True}
 OF_FILE = {"port", "maxtimeskew", "authfile", "authfile-old", "authhash", "transport", "debug"}
 OF_FILE |= {f"{who}-{what}" for who in ("site", "arbitrator") for what in ("user", "group")}
 OF_TICKET = {"expire", "acquire-after", "timeout", "retries", "renewal-freq"}
-OF_TICKET |= {"weights", "mode", "attr-prereq", "before-acquire-handler"}
+OF_TICKET |= {"weights", "mode", "attr-prereq", "before-acquire-handler", "steady"}
 
 
 class Unreadable(Exception):
@@ -71,6 +72,7 @@ class Ticket(NamedTuple):
     handler: Optional[str]
     # the weights of the members, in their order; a missing one counts as 0
     weights: Tuple[int, ...] = ()
+    is_steady: bool = False
 
     def promise(self):
         """Returns how long a member keeps a promise, and how long it votes in no election after a first start."""
@@ -178,13 +180,15 @@ class Reading:
     def value(self, number, key, value):
         if key == "mode" and value in MODES:
             return MODES[value]
+        if key == "steady" and value in YES:
+            return YES[value]
         if key == "authhash" and value in HASHES:
             return value
         if key in NUMBERS and NUMBER.fullmatch(value):
             least, most, _ = NUMBERS[key]
             if least <= int(value) <= most:
                 return int(value)
-        if key in ("mode", "authhash") or key in NUMBERS:
+        if key in ("mode", "steady", "authhash") or key in NUMBERS:
             raise self.fault(number, f"bad value for {key}")
         return value
 
@@ -198,7 +202,8 @@ class Reading:
         renewal = expire / 2 if said["renewal-freq"] is None else said["renewal-freq"]
         times = (expire, said["acquire-after"], said["timeout"], said["retries"], renewal)
         weights = tuple(map(weight_of, said["weights"].split(","))) if "weights" in said else ()
-        return Ticket(name, said.get("mode", False), *times, said.get("before-acquire-handler"), weights)
+        handler = said.get("before-acquire-handler")
+        return Ticket(name, said.get("mode", False), *times, handler, weights, said.get("steady", False))
 
 
 def read(path):

@@ -116,6 +116,7 @@ def text_of(wishes: Wishes, tickets: Sequence[str]) -> str:
     for ticket in tickets:
         lines += ["", f'ticket = "{ticket}"']
         lines += [f"  {key:13} = {times[key]}" for key in TIMES if key in times]
+        lines.append(f"  {'steady':13} = yes")
         if wishes.hands_over:
             lines.append(f"  before-acquire-handler = {HANDLER}")
     return "\n".join(lines) + "\n"

@@ -265,15 +265,27 @@ fn elsewhere(refused: &Refused<'_>) -> Cause {
     cause
 }
 
+fn busy_grant(refused: &Refused<'_>) -> Cause {
+    let mut cause = of_member(refused, "");
+    if is_manual(refused) {
+        cause.put(" runs the handler of an earlier grant, ");
+    } else {
+        cause.put(" acquires it already, has promised it to another site, ");
+    }
+    if let Some(ticket) = ticket_of(refused) {
+        if ticket.steady && !ticket.manual {
+            cause.put("started without a record of it less than ");
+            put_whole_seconds(&mut cause, silence(&ticket.times));
+            cause.put(" ago, ");
+        }
+    }
+    cause.put("or has 64 clients that wait: try again later");
+    cause
+}
+
 fn busy(refused: &Refused<'_>) -> Cause {
     let text = match refused.request {
-        Request::Grant { .. } => {
-            if is_manual(refused) {
-                " runs the handler of an earlier grant, or has 64 clients that wait: try again later"
-            } else {
-                " acquires it already, has promised it to another site, or has 64 clients that wait: try again later"
-            }
-        }
+        Request::Grant { .. } => return busy_grant(refused),
         Request::Revoke => " acquires it, or its lease has just ended: try again later",
         Request::Attribute =>
             " has 64 attributes of the ticket already, or 512 of all tickets: delete one",

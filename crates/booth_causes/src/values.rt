@@ -30,5 +30,6 @@ pub(crate) fn allowed(key: ConfKey) -> &'static str {
             "KIND NAME eq VALUE, or KIND NAME ne VALUE, where KIND is auto or manual",
         ConfKey::Mode => "auto or manual",
         ConfKey::Authhash => "sha1 or sha256",
+        ConfKey::Steady => "yes or no",
     }
 }

@@ -12,7 +12,7 @@ use Rattle.booth_conf.specs.SaidReader.{said}
 use Rattle.booth_conf.specs.Steps.{added}
 use Rattle.booth_conf.specs.Reads.{lines_of, said_lines}
 use Rattle.booth_conf.specs.Config.{ConfigSays, config_of, file_fault}
-use Rattle.booth_conf.specs.Print.{setting_name, setting_value, setting_line, line_text, lines_text, set, optional, authfile_entries, authfile_old_entries, hash_entry, extra_entry, early_entries, late_entries, renewal_said, renewal_entries, weights_said, weights_entries, handler_entries, prereq_entry, word_of, times_entries, key_entries, ticket_settings, settings_of, printed}
+use Rattle.booth_conf.specs.Print.{setting_name, setting_value, setting_line, line_text, lines_text, set, optional, authfile_entries, authfile_old_entries, hash_entry, extra_entry, early_entries, late_entries, renewal_said, renewal_entries, weights_said, weights_entries, handler_entries, prereq_entry, word_of, times_entries, key_entries, ticket_settings, settings_of, printed, steady_entries}
 use Rattle.booth_conf.specs.Sound.{is_within, each, is_text, is_command, is_extra, is_member, are_weights, is_prereq, is_seconds, is_renewal, is_ticket, IsSound}
 use Rattle.booth_conf.specs.Says.{Says, said_config}
 use Rattle.booth_conf.specs.declared.limits.TheConstants.{SECONDS}
@@ -143,9 +143,11 @@ times_printed times f =
     optional_printed is_ticket_entry keys.RenewalFreq (option_map Number (renewal_said times)) (renewal_printed times (times.renewal == times.expire / 2) refl f.renewal) in
     rw (seconds_within 1 times.expire f.expire, seconds_within 0 times.after f.after, seconds_within 1 times.timeout f.timeout, f.retries) renewal
 
-mode_printed : (manual : Bool) → list_all is_ticket_entry (set keys.Mode (Word (word_of manual)) ∷ []) ≡ true
-mode_printed true = refl
-mode_printed false = refl
+mode_printed : (manual steady : Bool) → list_all is_ticket_entry (set keys.Mode (Word (word_of manual)) ∷ steady_entries steady) ≡ true
+mode_printed true true = refl
+mode_printed true false = refl
+mode_printed false true = refl
+mode_printed false false = refl
 
 keys_printed : (t : TicketConf) → TicketFacts t → list_all is_ticket_entry (key_entries t) ≡ true
 keys_printed t f =
@@ -153,7 +155,7 @@ keys_printed t f =
     all_both is_ticket_entry (times_entries t.times) _ (times_printed t.times (times_facts t.times f.times))
     (all_both is_ticket_entry (weights_entries t.weights.items) _ (optional_printed is_ticket_entry keys.Weights (weights_said t.weights.items) (weights_printed t.weights.items f.weights))
     (all_both is_ticket_entry (handler_entries t.handler) _ (optional_printed is_ticket_entry keys.BeforeAcquireHandler (option_map Text t.handler) (handler_printed t.handler f.handler))
-    (all_both is_ticket_entry (map prereq_entry t.prereqs) _ (prereqs_printed t.prereqs qs.1) (mode_printed t.manual))))
+    (all_both is_ticket_entry (map prereq_entry t.prereqs) _ (prereqs_printed t.prereqs qs.1) (mode_printed t.manual t.steady))))
 
 ticket_printed : (t : TicketConf) → is_ticket t ≡ true →
     list_all is_printed (ticket_settings t) ≡ true

@@ -38,6 +38,9 @@ word_again choices.Mode (suc (suc n)) h = grind (arith, nat_tests)
 word_again choices.Hash zero h = refl
 word_again choices.Hash (suc zero) h = refl
 word_again choices.Hash (suc (suc n)) h = grind (arith, nat_tests)
+word_again choices.Steady zero h = refl
+word_again choices.Steady (suc zero) h = refl
+word_again choices.Steady (suc (suc n)) h = grind (arith, nat_tests)
 
 weights_here : (ws : List ℕ) → (nat_lt 0 (length ws) && are_weights ws) ≡ true →
     form_in forms.Weights (value_text forms.Weights (weights_value ws)) ≡ Some (weights_value ws)
@@ -146,6 +149,9 @@ word_stands choices.Mode (suc (suc n)) h = grind (arith, nat_tests)
 word_stands choices.Hash zero h = (refl, lit≤ tt)
 word_stands choices.Hash (suc zero) h = (refl, lit≤ tt)
 word_stands choices.Hash (suc (suc n)) h = grind (arith, nat_tests)
+word_stands choices.Steady zero h = (refl, lit≤ tt)
+word_stands choices.Steady (suc zero) h = (refl, lit≤ tt)
+word_stands choices.Steady (suc (suc n)) h = grind (arith, nat_tests)
 
 weights_stand : (ws : List ℕ) → (nat_lt 0 (length ws) && are_weights ws) ≡ true →
     (is_sayable (weights_text ws) ≡ true) × (length (weights_text ws) ≤ 11 * MEMBERS)

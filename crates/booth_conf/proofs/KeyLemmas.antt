@@ -36,6 +36,7 @@ at_number keys.AttrPrereq = refl
 at_number keys.Mode = refl
 at_number keys.AuthfileOld = refl
 at_number keys.Authhash = refl
+at_number keys.Steady = refl
 
 some_one : {X : Type 0} (x y : X) → Some x ≡ Some y → x ≡ y
 some_one x y e = cc

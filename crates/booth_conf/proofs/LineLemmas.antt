@@ -5,7 +5,7 @@ use Rattle.std.specs.List.{flat_map}
 use Rattle.std.proofs.lemmas.List.{map_more, take_more}
 use Rattle.std.proofs.lemmas.Grind.{flat_map-append}
 use Rattle.booth_conf.specs.Keys.{row_of}
-use Rattle.booth_conf.specs.Print.{line_text, lines_text, entries_text, entry_name, entry_value, setting_name, setting_value, set, times_entries, weights_entries, handler_entries, prereq_entry, word_at, word_of, key_entries, ticket_settings, authfile_entries, authfile_old_entries, hash_entry, hash_place, extra_entry, early_entries, late_entries, top_entries, printed}
+use Rattle.booth_conf.specs.Print.{line_text, lines_text, entries_text, entry_name, entry_value, setting_name, setting_value, set, times_entries, weights_entries, handler_entries, prereq_entry, word_at, word_of, key_entries, ticket_settings, authfile_entries, authfile_old_entries, hash_entry, hash_place, extra_entry, early_entries, late_entries, top_entries, printed, steady_entries}
 use Rattle.booth_conf.specs.Config.{ConfigSays}
 use Rattle.booth_keys.specs.declared.ring.Hash.{Hash}
 use Rattle.booth_conf.specs.declared.keys.KeyNo.{KeyNo}
@@ -63,21 +63,22 @@ tickets_more xs i x lt is =
     ∙ ap lines_text (flat_map-append ticket_settings (take i xs) (x ∷ []) ∙ ap (λ ss. flat_map ticket_settings (take i xs) ++ ss) (append-nil (ticket_settings x)))
     ∙ lines_append (flat_map ticket_settings (take i xs)) (ticket_settings x)
 
-pub ticket_pushed : (t u v w x y z : List ℕ) (ticket : TicketConf) →
+pub ticket_pushed : (t u v w x y m z : List ℕ) (ticket : TicketConf) →
     u ≡ t ++ line_text (row_of keys.Ticket).name ticket.name → v ≡ u ++ entries_text (times_entries ticket.times)
     → w ≡ v ++ entries_text (weights_entries ticket.weights.items) → x ≡ w ++ entries_text (handler_entries ticket.handler)
     → y ≡ x ++ entries_text (map prereq_entry ticket.prereqs)
-    → z ≡ y ++ line_text (row_of keys.Mode).name (word_at Mode (word_of ticket.manual))
+    → m ≡ y ++ line_text (row_of keys.Mode).name (word_at Mode (word_of ticket.manual))
+    → z ≡ m ++ entries_text (steady_entries ticket.steady)
     → z ≡ t ++ lines_text (ticket_settings ticket)
-ticket_pushed t u v w x y z ticket a b c d e f =
-    let mode : List Entry = set keys.Mode (Word (word_of ticket.manual)) ∷ [] in
+ticket_pushed t u v w x y m z ticket a b c d e f g =
+    let mode : List Entry = set keys.Mode (Word (word_of ticket.manual)) ∷ steady_entries ticket.steady in
     let prereqs : List Entry = map prereq_entry ticket.prereqs in
     let handler : List Entry = handler_entries ticket.handler in
     let weights : List Entry = weights_entries ticket.weights.items in
     let times : List Entry = times_entries ticket.times in
     let name : List ℕ = line_text (row_of keys.Ticket).name ticket.name in
     let mode_line : List ℕ = line_text (row_of keys.Mode).name (word_at Mode (word_of ticket.manual)) in
-    let end : z ≡ y ++ entries_text mode = f ∙ ap (λ xs. y ++ xs) (sym (append-nil mode_line)) in
+    let end : z ≡ y ++ entries_text mode = two_pushed y m z mode_line (entries_text (steady_entries ticket.steady)) f g in
     let last : z ≡ x ++ entries_text (prereqs ++ mode) =
     two_pushed x y z (entries_text prereqs) (entries_text mode) e end
     ∙ ap (λ xs. x ++ xs) (sym (entries_append prereqs mode)) in

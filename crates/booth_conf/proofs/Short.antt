@@ -13,7 +13,7 @@ use Rattle.booth_base.specs.declared.times.Times.{Times}
 use Rattle.booth_conf.specs.Grammar.{is_other}
 use Rattle.booth_conf.specs.Keys.{row_of}
 use Rattle.booth_conf.specs.Config.{ConfigSays}
-use Rattle.booth_conf.specs.Print.{written, pair_line, line_text, lines_text, role_name, entry_name, entry_value, setting_name, setting_value, set, optional, authfile_entries, authfile_old_entries, hash_entry, extra_key, extra_entry, early_entries, late_entries, renewal_said, renewal_entries, weights_said, weights_entries, handler_entries, prereq_entry, word_of, times_entries, key_entries, ticket_settings, settings_of, printed}
+use Rattle.booth_conf.specs.Print.{written, pair_line, line_text, lines_text, role_name, entry_name, entry_value, setting_name, setting_value, set, optional, authfile_entries, authfile_old_entries, hash_entry, extra_key, extra_entry, early_entries, late_entries, renewal_said, renewal_entries, weights_said, weights_entries, handler_entries, prereq_entry, word_of, times_entries, key_entries, ticket_settings, settings_of, printed, steady_said, steady_entries}
 use Rattle.booth_conf.specs.Sound.{is_within, is_text, is_extra, is_address, is_ticket, are_new, same_key, IsSound}
 use Rattle.booth_conf.specs.SoundDraft.{is_entry}
 use Rattle.booth_conf.specs.declared.limits.TheConstants.{PREREQS, TEXT_BYTES}
@@ -189,18 +189,20 @@ sum_times times =
     omega (arith, renewal)
 
 abbrev ticket_most : ℕ
-ticket_most = 626 + 11 * MEMBERS + 229 * PREREQS
+ticket_most = 660 + 11 * MEMBERS + 229 * PREREQS
 
 total_ticket : (t : TicketConf) → length t.prereqs ≤ PREREQS →
     total (ticket_settings t) ≤ ticket_most
 total_ticket t few =
-    let mode : List Entry = set keys.Mode (Word (word_of t.manual)) ∷ [] in
+    let steady : List Entry = steady_entries t.steady in
+    let mode : List Entry = set keys.Mode (Word (word_of t.manual)) ∷ steady in
+    let most_steady : sum steady ≤ 34 = sum_optional keys.Steady (steady_said t.steady) in
     let prereqs : List Entry = map prereq_entry t.prereqs in
     let handler : List Entry = handler_entries t.handler in
     let weights : List Entry = weights_entries t.weights.items in
     let most_weights : sum weights ≤ 28 + 11 * MEMBERS = sum_optional keys.Weights (weights_said t.weights.items) in
     let most_handler : sum handler ≤ 283 = sum_optional keys.BeforeAcquireHandler (option_map Text t.handler) in
-    let most_mode : sum mode ≤ 34 = lit≤ tt in
+    let most_mode : sum mode ≤ 68 = omega (arith, most_steady) in
     omega (
       arith,
       total_of (key_entries t),

@@ -8,9 +8,9 @@ use Rattle.std.proofs.lemmas.List.Sums.{sum_by-append}
 use Rattle.std.proofs.lemmas.Bool.Decides.{nat_tests}
 use Rattle.booth_base.specs.declared.times.Times.{Times}
 use Rattle.booth_conf.specs.Keys.{row_of, are_one}
-use Rattle.booth_conf.specs.Sections.{has_key, given, as_number, as_text, as_weights, prereq_of, entry_clash, most_of}
-use Rattle.booth_conf.specs.Config.{is_manual, renewal_of, ticket_of}
-use Rattle.booth_conf.specs.Print.{set, optional, renewal_said, weights_said, prereq_entry, word_of, key_entries}
+use Rattle.booth_conf.specs.Sections.{has_key, given, as_number, as_text, as_weights, prereq_of, entry_clash, most_of, as_word}
+use Rattle.booth_conf.specs.Config.{is_manual, renewal_of, ticket_of, is_yes}
+use Rattle.booth_conf.specs.Print.{set, optional, renewal_said, weights_said, prereq_entry, word_of, key_entries, steady_said, steady_entries}
 use Rattle.booth_conf.specs.Sound.{is_within, is_seconds, is_renewal, are_times, is_ticket, is_ticket_name, are_weights, each, is_command, are_prereqs, is_prereq}
 use Rattle.booth_conf.specs.declared.limits.TheConstants.{LEAST_RETRIES, MOST_RETRIES, PREREQS, SECONDS}
 use Rattle.booth_conf.specs.declared.keys.ConfKey.{ConfKey}
@@ -44,7 +44,7 @@ given_prereqs key (q ∷ qs) rest h = rw h (given_prereqs key qs rest h)
 
 -- the settings from each optional key on
 abbrev mode_on : TicketConf → List Entry
-mode_on t = set keys.Mode (Word (word_of t.manual)) ∷ []
+mode_on t = set keys.Mode (Word (word_of t.manual)) ∷ steady_entries t.steady
 
 abbrev prereqs_on : TicketConf → List Entry
 prereqs_on t = map prereq_entry t.prereqs ++ mode_on t
@@ -55,24 +55,29 @@ handler_on t = optional keys.BeforeAcquireHandler (option_map Text t.handler) ++
 abbrev weights_on : TicketConf → List Entry
 weights_on t = optional keys.Weights (weights_said t.weights.items) ++ handler_on t
 
+unsaid_steady : (key : ConfKey) (steady : Bool) → are_one key keys.Steady ≡ false → given key (steady_entries steady) ≡ None
+unsaid_steady key false h = refl
+unsaid_steady key true h = rw h refl
+
 handler_given : (t : TicketConf) → given keys.BeforeAcquireHandler (key_entries t) ≡ option_map Text t.handler
 handler_given t =
     given_behind keys.BeforeAcquireHandler keys.RenewalFreq (option_map Number (renewal_said t.times)) (weights_on t) refl
     ∙ given_behind keys.BeforeAcquireHandler keys.Weights (weights_said t.weights.items) (handler_on t) refl
-    ∙ given_here keys.BeforeAcquireHandler (option_map Text t.handler) (prereqs_on t) refl (given_prereqs keys.BeforeAcquireHandler t.prereqs (mode_on t) refl)
+    ∙ given_here keys.BeforeAcquireHandler (option_map Text t.handler) (prereqs_on t) refl (given_prereqs keys.BeforeAcquireHandler t.prereqs (mode_on t) refl ∙ unsaid_steady keys.BeforeAcquireHandler t.steady refl)
 
 weights_are : (t : TicketConf) → given keys.Weights (key_entries t) ≡ weights_said t.weights.items
 weights_are t =
     given_behind keys.Weights keys.RenewalFreq (option_map Number (renewal_said t.times)) (weights_on t) refl
     ∙ given_here keys.Weights (weights_said t.weights.items) (handler_on t) refl
-    (given_behind keys.Weights keys.BeforeAcquireHandler (option_map Text t.handler) (prereqs_on t) refl ∙ given_prereqs keys.Weights t.prereqs (mode_on t) refl)
+    (given_behind keys.Weights keys.BeforeAcquireHandler (option_map Text t.handler) (prereqs_on t) refl ∙ given_prereqs keys.Weights t.prereqs (mode_on t) refl ∙ unsaid_steady keys.Weights t.steady refl)
 
 renewal_given : (t : TicketConf) → given keys.RenewalFreq (key_entries t) ≡ option_map Number (renewal_said t.times)
 renewal_given t =
     given_here keys.RenewalFreq (option_map Number (renewal_said t.times)) (weights_on t) refl
     (given_behind keys.RenewalFreq keys.Weights (weights_said t.weights.items) (handler_on t) refl
     ∙ given_behind keys.RenewalFreq keys.BeforeAcquireHandler (option_map Text t.handler) (prereqs_on t) refl
-    ∙ given_prereqs keys.RenewalFreq t.prereqs (mode_on t) refl)
+    ∙ given_prereqs keys.RenewalFreq t.prereqs (mode_on t) refl
+    ∙ unsaid_steady keys.RenewalFreq t.steady refl)
 
 mode_given : (t : TicketConf) → given keys.Mode (key_entries t) ≡ Some (Word (word_of t.manual))
 mode_given t =
@@ -80,6 +85,18 @@ mode_given t =
     ∙ given_behind keys.Mode keys.Weights (weights_said t.weights.items) (handler_on t) refl
     ∙ given_behind keys.Mode keys.BeforeAcquireHandler (option_map Text t.handler) (prereqs_on t) refl
     ∙ given_prereqs keys.Mode t.prereqs (mode_on t) refl
+
+steady_here : (steady : Bool) → given keys.Steady (steady_entries steady) ≡ steady_said steady
+steady_here false = refl
+steady_here true = refl
+
+steady_given : (t : TicketConf) → given keys.Steady (key_entries t) ≡ steady_said t.steady
+steady_given t =
+    given_behind keys.Steady keys.RenewalFreq (option_map Number (renewal_said t.times)) (weights_on t) refl
+    ∙ given_behind keys.Steady keys.Weights (weights_said t.weights.items) (handler_on t) refl
+    ∙ given_behind keys.Steady keys.BeforeAcquireHandler (option_map Text t.handler) (prereqs_on t) refl
+    ∙ given_prereqs keys.Steady t.prereqs (mode_on t) refl
+    ∙ steady_here t.steady
 
 -- PREREQUISITES
 
@@ -98,8 +115,12 @@ no_prereq_handler : (o : Option (List ℕ)) (rest : List Entry) →
 no_prereq_handler None rest = refl
 no_prereq_handler (Some text) rest = refl
 
+no_prereq_steady : (steady : Bool) → filter_map prereq_of (steady_entries steady) ≡ []
+no_prereq_steady false = refl
+no_prereq_steady true = refl
+
 prereqs_here : (qs : List PrereqOf) (t : TicketConf) → filter_map prereq_of (map prereq_entry qs ++ mode_on t) ≡ qs
-prereqs_here [] t = refl
+prereqs_here [] t = no_prereq_steady t.steady
 prereqs_here (q ∷ qs) t = ap (λ xs. q ∷ xs) (prereqs_here qs t)
 
 prereqs_given : (t : TicketConf) → filter_map prereq_of (key_entries t) ≡ t.prereqs
@@ -174,12 +195,16 @@ manual_at : (manual : Bool) → is_manual (word_of manual) ≡ manual
 manual_at true = refl
 manual_at false = refl
 
+steady_at : (steady : Bool) → is_yes (unwrap_or (option_or (option_and_then as_word (steady_said steady)) None) 0) ≡ steady
+steady_at false = refl
+steady_at true = refl
+
 -- what is printed of a ticket says that ticket
 pub ticket_again : (t : TicketConf) → is_ticket t ≡ true → ticket_of [] (named_said t) ≡ t
 ticket_again t h =
     let f : TicketFacts t = ticket_facts t h in
     let g : TimesFacts t.times = times_facts t.times f.times in
-    rw (mode_given t, manual_at t.manual, weights_are t, weights_at t.weights.items, handler_given t, handler_at t.handler, prereqs_given t, renewal_given t, seconds_again 1 t.times.expire g.expire, seconds_again 0 t.times.after g.after, seconds_again 1 t.times.timeout g.timeout, renewal_at t.times (t.times.renewal == t.times.expire / 2) refl g.renewal) refl
+    rw (mode_given t, manual_at t.manual, steady_given t, steady_at t.steady, weights_are t, weights_at t.weights.items, handler_given t, handler_at t.handler, prereqs_given t, renewal_given t, seconds_again 1 t.times.expire g.expire, seconds_again 0 t.times.after g.after, seconds_again 1 t.times.timeout g.timeout, renewal_at t.times (t.times.renewal == t.times.expire / 2) refl g.renewal) refl
 
 -- NO CLASH: the keys stand in the order of the table, so each is new
 
@@ -252,6 +277,10 @@ timed t =
     set keys.Expire (Number (t.times.expire / 1000)) ∷ set keys.AcquireAfter (Number (t.times.after / 1000))
     ∷ set keys.Timeout (Number (t.times.timeout / 1000)) ∷ set keys.Retries (Number t.times.retries) ∷ []
 
+stands_steady : (steady : Bool) (before : List Entry) → are_below 24 before ≡ true → MayStand before (steady_entries steady)
+stands_steady false before h = tt
+stands_steady true before h = (may_behind before (set keys.Steady (Word 1)) h, tt)
+
 stands : (t : TicketConf) → length t.prereqs ≤ PREREQS → MayStand [] (key_entries t)
 stands t few = (
   refl,
@@ -266,7 +295,10 @@ stands t few = (
             behind keys.BeforeAcquireHandler (option_map Text t.handler) b (prereqs_on t) low_b (λ c low_c.
             let none : count_by (has_key keys.AttrPrereq) c ≡ 0 = none_counted keys.AttrPrereq c low_c in
             stands_prereqs t.prereqs c (mode_on t) (below_more 20 21 c (lit≤ tt) low_c) (omega (arith, none)) (λ d low_d.
-            (may_behind d (set keys.Mode (Word (word_of t.manual))) low_d, tt))))),
+            let mode : Entry = set keys.Mode (Word (word_of t.manual)) in
+            let low : are_below 24 (d ++ mode ∷ []) ≡ true =
+            below_more 22 24 (d ++ mode ∷ []) (lit≤ tt) (below_push d mode low_d) in
+            (may_behind d mode low_d, stands_steady t.steady (d ++ mode ∷ []) low))))),
       ),
     ),
   ),

@@ -59,6 +59,10 @@ times_of defaults own =
           (option_or (number_given keys.RenewalFreq own) (number_given keys.RenewalFreq defaults)) expire;
     }
 
+-- the second word of `steady` is `yes`
+abbrev pub is_yes : ℕ → Bool
+is_yes place = place == 1
+
 -- the second word of a mode is `manual`
 abbrev pub is_manual : ℕ → Bool
 is_manual place = place == 1
@@ -68,6 +72,7 @@ ticket_of defaults t = record {
   name = t.name;
   manual = is_manual (chosen (word_given keys.Mode t.section) (word_given keys.Mode defaults) 0);
   times = times_of defaults t.section;
+  steady = is_yes (chosen (word_given keys.Steady t.section) (word_given keys.Steady defaults) 0);
   weights = chosen (weights_given keys.Weights t.section) (weights_given keys.Weights defaults) (record { items = [] });
   handler = option_or (text_given keys.BeforeAcquireHandler t.section) (text_given keys.BeforeAcquireHandler defaults);
   prereqs = filter_map prereq_of t.section;

@@ -48,6 +48,7 @@ row_of keys.AttrPrereq = row 20 (codes "attr-prereq") OfTicket Prereq
 row_of keys.Mode = row 21 (codes "mode") OfTicket (OneOf choices.Mode)
 row_of keys.AuthfileOld = row 22 (codes "authfile-old") File (Text 1)
 row_of keys.Authhash = row 23 (codes "authhash") File (OneOf choices.Hash)
+row_of keys.Steady = row 24 (codes "steady") OfTicket (OneOf choices.Steady)
 
 abbrev pub all_keys : List ConfKey
 all_keys =
@@ -55,7 +56,7 @@ all_keys =
     ∷ keys.SiteGroup ∷ keys.ArbitratorUser ∷ keys.ArbitratorGroup ∷ keys.Site ∷ keys.Arbitrator
     ∷ keys.Ticket ∷ keys.Expire ∷ keys.AcquireAfter ∷ keys.Timeout ∷ keys.Retries ∷ keys.RenewalFreq
     ∷ keys.Weights ∷ keys.BeforeAcquireHandler ∷ keys.AttrPrereq ∷ keys.Mode
-    ∷ keys.AuthfileOld ∷ keys.Authhash ∷ []
+    ∷ keys.AuthfileOld ∷ keys.Authhash ∷ keys.Steady ∷ []
 
 abbrev pub is_named : List ℕ → ConfKey → Bool
 is_named name key = bytes_eq (row_of key).name name

@@ -172,6 +172,14 @@ abbrev pub word_of : Bool → ℕ
 word_of false = 0
 word_of true = 1
 
+-- `steady` is printed only if it is `yes`
+abbrev pub steady_said : Bool → Option Value
+steady_said false = None
+steady_said true = Some (Word 1)
+
+abbrev pub steady_entries : Bool → List Entry
+steady_entries steady = optional keys.Steady (steady_said steady)
+
 -- the times in seconds
 abbrev pub times_entries : Times → List Entry
 times_entries times =
@@ -182,7 +190,7 @@ times_entries times =
 abbrev pub key_entries : TicketConf → List Entry
 key_entries t =
     times_entries t.times ++ (weights_entries t.weights.items ++ (handler_entries t.handler
-    ++ (map prereq_entry t.prereqs ++ set keys.Mode (Word (word_of t.manual)) ∷ [])))
+    ++ (map prereq_entry t.prereqs ++ set keys.Mode (Word (word_of t.manual)) ∷ steady_entries t.steady)))
 
 abbrev pub ticket_settings : TicketConf → List Setting
 ticket_settings t = Ticket t.name ∷ map Of (key_entries t)

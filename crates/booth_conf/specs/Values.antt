@@ -89,6 +89,7 @@ abbrev pub words_of : Choice → List (List ℕ × List ℕ)
 words_of choices.Transport = (codes "UDP", codes "udp") ∷ []
 words_of choices.Mode = (codes "auto", codes "AUTO") ∷ (codes "manual", codes "MANUAL") ∷ []
 words_of choices.Hash = (codes "sha1", codes "sha1") ∷ (codes "sha256", codes "sha256") ∷ []
+words_of choices.Steady = (codes "no", codes "NO") ∷ (codes "yes", codes "YES") ∷ []
 
 abbrev pub is_word_of : List ℕ → List ℕ × List ℕ → Bool
 is_word_of text word = bytes_eq text word.0 || bytes_eq text word.1

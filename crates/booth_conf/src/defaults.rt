@@ -1,7 +1,7 @@
 //! Tickets with the defaults filled in.
 ghost use Rattle.std.specs.Prelude.{◌≡◌, ◌*◌, [], IfOk, map};
 ghost use Rattle.std.specs.Option.{option_or};
-ghost use Rattle.booth_conf.specs.Config.{chosen, is_manual, renewal_of, ticket_of, times_of};
+ghost use Rattle.booth_conf.specs.Config.{chosen, is_manual, is_yes, renewal_of, ticket_of, times_of};
 
 use crate::keys::ConfKey;
 use crate::sections::{NamedSection, Section};
@@ -77,6 +77,13 @@ fn is_manual(own: Option<usize>, default: Option<usize>) -> bool
     own.or(default).unwrap_or(0) == 1
 }
 
+// Returns whether the word of `steady` is the second, `yes`.
+fn is_yes(own: Option<usize>, default: Option<usize>) -> bool
+    ensures { result ≡ is_yes (chosen own default 0) }
+{
+    own.or(default).unwrap_or(0) == 1
+}
+
 fn ticket(
     alloc: Global,
     defaults: &Section<'_>,
@@ -89,6 +96,7 @@ fn ticket(
         name: named.name.copy(),
         manual: is_manual(own.word(ConfKey::Mode), defaults.word(ConfKey::Mode)),
         times: times(defaults, own),
+        steady: is_yes(own.word(ConfKey::Steady), defaults.word(ConfKey::Steady)),
         weights: own
             .weights_or(defaults, ConfKey::Weights)
             .unwrap_or(ArrayVec::new()),

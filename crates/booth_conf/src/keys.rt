@@ -4,7 +4,7 @@ ghost use Rattle.booth_conf.specs.Keys.{IsRow, are_one, has_number, row, is_name
 
 use crate::limits::{LEAST_RETRIES, MOST_RETRIES, SECONDS};
 
-/// The number of a key: 1 to 23.
+/// The number of a key: 1 to 24.
 #[derive(Clone, Copy, Debug, PartialEq, Eq)]
 pub struct KeyNo(pub u8);
 
@@ -14,6 +14,7 @@ pub enum Choice {
     Transport,
     Mode,
     Hash,
+    Steady,
 }
 
 /// The form that the value of a key must have.
@@ -59,6 +60,7 @@ pub enum ConfKey {
     Mode,
     AuthfileOld,
     Authhash,
+    Steady,
 }
 
 /// The scope of a key: the whole file, or the last `ticket` line.
@@ -115,7 +117,7 @@ fn text(least: usize) -> Form
 
 impl ConfKey {
     /// Each key, in the order of their numbers.
-    const ALL: [ConfKey; 23] = [
+    const ALL: [ConfKey; 24] = [
         ConfKey::Port,
         ConfKey::Transport,
         ConfKey::Authfile,
@@ -139,6 +141,7 @@ impl ConfKey {
         ConfKey::Mode,
         ConfKey::AuthfileOld,
         ConfKey::Authhash,
+        ConfKey::Steady,
     ];
 
     /// Returns the key's row in the table.
@@ -174,6 +177,7 @@ impl ConfKey {
             ConfKey::Mode => Row::ticket(21, "mode", Form::OneOf(Choice::Mode)),
             ConfKey::AuthfileOld => Row::file(22, "authfile-old", text(1)),
             ConfKey::Authhash => Row::file(23, "authhash", Form::OneOf(Choice::Hash)),
+            ConfKey::Steady => Row::ticket(24, "steady", Form::OneOf(Choice::Steady)),
         }
     }
 

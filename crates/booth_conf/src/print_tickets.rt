@@ -2,7 +2,7 @@
 ghost use Rattle.std.specs.Prelude.{◌≡◌, ◌∷◌, [], map};
 ghost use Rattle.std.specs.List.{flat_map};
 ghost use Rattle.booth_conf.specs.Grows.{Grows};
-ghost use Rattle.booth_conf.specs.Print.{entries_text, handler_entries, lines_text, prereq_entry, renewal_entries, role_name, ticket_settings, times_entries, weights_entries, word_at, word_of};
+ghost use Rattle.booth_conf.specs.Print.{entries_text, handler_entries, lines_text, prereq_entry, renewal_entries, role_name, steady_entries, ticket_settings, times_entries, weights_entries, word_at, word_of};
 ghost use Rattle.booth_conf.specs.declared.keys.Choice.TheVariants.{Mode};
 ghost use Rattle.booth_conf.specs.declared.settings.Setting.TheVariants.{Member as MemberSetting};
 
@@ -114,6 +114,17 @@ fn mode_word(manual: bool) -> &'static [u8]
     if manual { b"manual" } else { b"auto" }
 }
 
+// Prints that the steady rules are followed, if they are.
+fn push_steady(out: &mut Vec<u8>, steady: bool) -> Result<(), AllocError>
+    ensures { Grows result out.old.items out.new.items (entries_text (steady_entries steady)) }
+{
+    if steady {
+        push_line(out, ConfKey::Steady.row().name, b"yes")
+    } else {
+        Ok(())
+    }
+}
+
 #[tactic(auto, using(crate::proofs::LineLemmas::ticket_pushed))]
 fn push_ticket(alloc: Global, out: &mut Vec<u8>, ticket: &TicketConf) -> Result<(), AllocError>
     ensures { Grows result out.old.items out.new.items (lines_text (ticket_settings ticket.now)) }
@@ -123,7 +134,8 @@ fn push_ticket(alloc: Global, out: &mut Vec<u8>, ticket: &TicketConf) -> Result<
     push_weights(alloc, out, &ticket.weights)?;
     push_handler(out, &ticket.handler)?;
     push_prereqs(alloc, out, ticket.prereqs.all())?;
-    push_line(out, ConfKey::Mode.row().name, mode_word(ticket.manual))
+    push_line(out, ConfKey::Mode.row().name, mode_word(ticket.manual))?;
+    push_steady(out, ticket.steady)
 }
 
 /// Prints the tickets.

@@ -97,6 +97,8 @@ pub struct TicketConf {
     /// Whether only an operator grants it.
     pub manual: bool,
     pub times: Times,
+    /// Whether its members follow the steady rules.
+    pub steady: bool,
     /// The weights of the members in their order, as in the file. A missing weight is 0.
     pub weights: ArrayVec<u32, MEMBERS>,
     /// The path and the arguments of the program that runs before the ticket is acquired.
@@ -133,6 +135,7 @@ impl TicketConf {
             name: self.name.copy(),
             manual: self.manual,
             times: self.times,
+            steady: self.steady,
             weights: copy_weights(&self.weights),
             handler: copy_path(&self.handler),
             prereqs: self.prereqs.copy(alloc)?,

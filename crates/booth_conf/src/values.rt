@@ -35,6 +35,12 @@ fn word(choice: Choice, bytes: &[u8]) -> Option<usize>
             }
             is_either(bytes, "sha256", "sha256").then_some(1)
         }
+        Choice::Steady => {
+            if is_either(bytes, "no", "NO") {
+                return Some(0);
+            }
+            is_either(bytes, "yes", "YES").then_some(1)
+        }
     }
 }
 

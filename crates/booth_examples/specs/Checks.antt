@@ -65,6 +65,7 @@ least_ticket = record {
   weights = record { items = [] };
   handler = None;
   prereqs = [];
+  steady = false;
 }
 
 abbrev pub fits_in : World → List WorldEntry → WorldEntry → Bool

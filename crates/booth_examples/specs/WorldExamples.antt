@@ -43,6 +43,7 @@ web = record {
   weights = record { items = [] };
   handler = None;
   prereqs = [];
+  steady = false;
 }
 
 abbrev pub two_sites : List Member

@@ -11,6 +11,7 @@ pub mod PeerLemmas
 pub mod DueLemmas
 pub mod TurnLemmas
 pub mod StartLemmas
+pub mod TimerLemmas
 pub mod PathLemmas
 pub mod ReachLemmas
 pub mod ManualTalkLemmas

@@ -39,6 +39,7 @@ setup_of node index ticket = record {
   rank = rank_at node index;
   times = ticket.times;
   second = node.second;
+  steady = ticket.steady;
 }
 
 -- The setups of these tickets, from this place on.

@@ -20,7 +20,7 @@ use crate::event::Event;
 use crate::jobs::{job_at, job_of};
 use crate::{Common, NodeConfig};
 use booth_attr::Attrs;
-use booth_auth::seal;
+use booth_auth::ring_seal;
 use booth_base::{Name, Peer};
 use booth_conf::{Config, GrantKind, Member};
 use booth_host::{Failed, Host};
@@ -69,7 +69,7 @@ fn write(node: &NodeConfig, head: &Head, part: &TicketPart, now: u64, frame: &mu
         head: *head,
         body: Body::Ticket(part.copy()),
     };
-    seal(&message, node.ring.as_ref(), now, frame);
+    ring_seal(&message, node.ring.as_ref(), now, frame);
 }
 
 // Sends the frame to the receiver of a message, and counts the send.

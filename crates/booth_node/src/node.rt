@@ -1,5 +1,6 @@
 //! A node, and its turn.
 ghost use Rattle.std.specs.Prelude.{◌≡◌, ◌≤◌, ◌<◌, ◌^◌, ℕ, true, map, length, position, vec_capacity, IfOk, IsSome, IsSomeAnd};
+ghost use Rattle.booth_auth.specs.WithKey.{ring_with};
 ghost use Rattle.booth_conf.specs.Config.{has_id};
 ghost use Rattle.booth_node.specs.Opening.{opened};
 ghost use Rattle.booth_host.specs.Past.{GrewSome};
@@ -17,7 +18,7 @@ use booth_base::{MemberId, Peer};
 use booth_chain::Wheel;
 use booth_conf::Config;
 use booth_host::{Arrival, Datagram, Failed, Host};
-use booth_keys::Ring;
+use booth_keys::{Key, Ring};
 use booth_rec::Record;
 use booth_ticket::Service;
 use std::alloc::{AllocError, Global};
@@ -49,6 +50,16 @@ pub struct Node {
     ghost room: { length table.tickets.items ≤ vec_capacity due },
 }
 
+// Returns the ring of a member that has this key and no other, or none.
+fn ring_with(key: Option<Key>) -> Option<Ring>
+    ensures { result ≡ ring_with key }
+{
+    match key {
+        Some(key) => Some(Ring::of(key)),
+        None => None,
+    }
+}
+
 impl Node {
     ghost use Rattle.booth_node.specs.View.{node_config, state_of};
 
@@ -61,7 +72,7 @@ impl Node {
     /// # Errors
     ///
     /// Returns `AllocError` if the memory has run out.
-    pub fn open(
+    pub fn open_ring(
         alloc: Global,
         config: Config,
         ring: Option<Ring>,
@@ -93,6 +104,29 @@ impl Node {
             wheel,
             due,
         })
+    }
+
+    /// Opens a node as `open_ring` does, at a member that has this key and no other, or none. It seals with HMAC-SHA1.
+    ///
+    /// # Errors
+    ///
+    /// Returns `AllocError` if the memory has run out.
+    pub fn open(
+        alloc: Global,
+        config: Config,
+        key: Option<Key>,
+        me: MemberId,
+        records: &[Option<Record>],
+        now: u64,
+    ) -> Result<Node, AllocError>
+        requires member { IsSome (position (has_id me) config.members) }
+        requires records { length records.now ≡ length config.tickets }
+        ensures node { IfOk result (λ node.
+            node_config node ≡ record { config = config; ring = ring_with key; me = me; second = true }) }
+        ensures state { IfOk result (λ node. state_of node
+            ≡ opened (record { config = config; ring = ring_with key; me = me; second = true }) records.now now) }
+    {
+        Node::open_ring(alloc, config, ring_with(key), me, records, now)
     }
 
     /// Returns the number of datagrams that were dropped for each fault, in the gate's order.

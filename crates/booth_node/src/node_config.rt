@@ -1,7 +1,7 @@
 //! The setup of a node.
 ghost use Rattle.booth_auth.specs.Verdict.{verdict, Passes};
 
-use booth_auth::{DropFault, gate};
+use booth_auth::{DropFault, ring_gate};
 use booth_base::MemberId;
 use booth_conf::Config;
 use booth_keys::Ring;
@@ -24,6 +24,6 @@ impl NodeConfig {
     pub(crate) fn admit<'a>(&self, now: u64, bytes: &'a [u8]) -> Result<Message<'a>, DropFault>
         ensures { Passes result (verdict self.now.config self.now.ring self.now.me now bytes.now) }
     {
-        gate(&self.config, self.ring.as_ref(), self.me, now, bytes)
+        ring_gate(&self.config, self.ring.as_ref(), self.me, now, bytes)
     }
 }

@@ -75,6 +75,7 @@ fn setup_of(node: &NodeConfig, index: usize, ticket: &TicketConf) -> Setup
         rank: rank_at(node, index),
         times: ticket.times,
         second: node.second,
+        steady: ticket.steady,
     }
 }
 

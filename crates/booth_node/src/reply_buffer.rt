@@ -13,7 +13,7 @@ use crate::lists::write_part;
 use crate::replies::{Part, answer, part_message, reply_message, told_for, write_text};
 use crate::{Common, NodeConfig};
 use booth_attr::Attrs;
-use booth_auth::seal;
+use booth_auth::ring_seal;
 use booth_base::TextBuf;
 use booth_ticket::Ticket;
 use booth_wire::{Frame, Message};
@@ -58,7 +58,7 @@ impl ReplyBuffer {
         let told = told_for(node, now, tickets, &message.body);
         match answer(node.me, message, self.text.bytes(), told) {
             Some(reply) => {
-                seal(&reply, node.ring.as_ref(), now, &mut self.frame);
+                ring_seal(&reply, node.ring.as_ref(), now, &mut self.frame);
                 true
             }
             None => false,
@@ -73,7 +73,7 @@ impl ReplyBuffer {
     {
         let count = write_part(node, tickets, now, &mut self.line, &mut self.text);
         let message = part_message(node.me, part, count >= tickets.len(), self.text.bytes());
-        seal(&message, node.ring.as_ref(), now, &mut self.frame);
+        ring_seal(&message, node.ring.as_ref(), now, &mut self.frame);
         count
     }
 
@@ -97,6 +97,6 @@ impl ReplyBuffer {
         write_pairs(attrs, place, &request.wish, &mut self.text);
         let made = attend(attrs, place, request, self.text.bytes());
         let message = reply_message(node.me, request.number, answer_cmd(&request.wish), made);
-        seal(&message, node.ring.as_ref(), now, &mut self.frame);
+        ring_seal(&message, node.ring.as_ref(), now, &mut self.frame);
     }
 }

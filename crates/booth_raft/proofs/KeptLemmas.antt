@@ -176,7 +176,7 @@ pub renew_good : (setup : Setup) (view : View) (now : ℕ) → now < 2 ^ 62 → 
 renew_good setup view now early none facts =
     on_option (Good setup now) view.round _ _
     (λ e. renew_by_term_good setup view now none facts.round_fits)
-    (λ round e. on_cond (Good setup now) (needs_term setup view) _ _
+    (λ round e. on_cond (Good setup now) (needs_term setup view round) _ _
     (renew_by_term_good setup view now none facts.round_fits)
     (on_cond (Good setup now) (round.number == LAST_NUMBER) _ _
     (runs_out_good setup view now none facts.round_fits)

@@ -275,10 +275,10 @@ fn renew_by_term(setup: &Setup, view: &mut View, now: u64) -> Deed
     ask(setup, view, RACQ, now)
 }
 
-fn needs_term(setup: &Setup, view: &View) -> bool
-    ensures { result ≡ needs_term setup.now view.now }
+fn needs_term(setup: &Setup, view: &View, round: Round) -> bool
+    ensures { result ≡ needs_term setup.now view.now round }
 {
-    view.bound != Some(setup.me) || view.seen > view.term
+    view.bound != Some(setup.me) || view.seen > view.term || (setup.steady && !round.won)
 }
 
 // Opens the next round of the term, after the write of the own promise if there is one.
@@ -308,7 +308,7 @@ pub(crate) fn renew(setup: &Setup, view: &mut View, now: u64) -> Deed
     let Some(round) = view.round else {
         return renew_by_term(setup, view, now);
     };
-    if needs_term(setup, view) {
+    if needs_term(setup, view, round) {
         return renew_by_term(setup, view, now);
     }
     if round.number == LAST_NUMBER {

@@ -1,7 +1,7 @@
 //! The rules at a deadline: first a hello, and then the rule for the member's role.
 ghost use Rattle.std.specs.Prelude.{◌≡◌, ◌<◌, ◌^◌, IsTrue};
 ghost use Rattle.std.specs.Option.{ForSome};
-ghost use Rattle.booth_raft.specs.Deadlines.{candidate_due, due_now, follower_due, greeted, hello, is_tried, leader_due, leader_works, repeats, resends_or_renews, waits_or_acquires};
+ghost use Rattle.booth_raft.specs.Deadlines.{candidate_due, due_after_repeats, due_now, due_to_ask, follower_due, greeted, hello, is_over_early, is_silent, is_tried, leader_due, leader_works, repeats, resends_or_renews, still_asks, waits_or_acquires};
 ghost use Rattle.booth_raft.specs.GainReleaseLost.{lost};
 ghost use Rattle.booth_raft.specs.Outcome.{telling};
 ghost use Rattle.booth_raft.specs.Sound.{IsSound};
@@ -15,13 +15,19 @@ use crate::view::{Role, Round, View};
 use booth_wire::reasons::LOCF;
 use booth_wire::{Say, Setup};
 
-// Asks all members for their state, at the first deadline after the start.
+fn still_asks(setup: &Setup, view: &View) -> bool
+    ensures { result ≡ still_asks setup.now view.now }
+{
+    setup.steady && setup.site && !view.managed
+}
+
+// Asks all members for their state, at the first deadline after the start, and again if the member still asks.
 pub(crate) fn hello(setup: &Setup, view: &mut View, now: u64) -> Say
-    ensures view { view.new ≡ greeted view.old }
+    ensures view { view.new ≡ greeted setup.now view.old }
     ensures say { result ≡ hello setup.now view.old now }
 {
     if view.hello {
-        view.hello = false;
+        view.hello = still_asks(setup, view);
         asks_state(setup, view, now)
     } else {
         Say::Nothing
@@ -55,6 +61,12 @@ fn candidate_due(setup: &Setup, view: &mut View, now: u64) -> Deed
     Deed::saying(asks_again(setup, view, &round, now), Told::Nothing)
 }
 
+fn is_over_early(setup: &Setup, view: &View) -> bool
+    ensures { result ≡ is_over_early setup.now view.now }
+{
+    setup.steady && view.term < view.seen
+}
+
 fn resends_or_renews(setup: &Setup, view: &mut View, now: u64) -> Deed
     requires sound { IsSound setup.now }
     requires early { now < 2 ^ 62 }
@@ -65,7 +77,7 @@ fn resends_or_renews(setup: &Setup, view: &mut View, now: u64) -> Deed
     let Some(round) = view.round else {
         return Deed::wanting(Want::Renew);
     };
-    if round.won || !is_tried(setup, &round, now) {
+    if round.won || !is_tried(setup, &round, now) || is_over_early(setup, view) {
         return Deed::wanting(Want::Renew);
     }
     view.due = Some(retry_at(setup, view, now));
@@ -114,6 +126,17 @@ fn leader_due(setup: &Setup, view: &mut View, now: u64) -> Deed
     leader_works(setup, view, now)
 }
 
+fn due_after_repeats(setup: &Setup, view: &View) -> Option<u64>
+    requires sound { IsSound setup.now }
+    ensures { result ≡ due_after_repeats setup.now view.now }
+{
+    if setup.steady && setup.site && view.managed && view.shown.is_some() {
+        Some(failover_time(setup, view))
+    } else {
+        None
+    }
+}
+
 fn repeats(setup: &Setup, view: &mut View, now: u64) -> Deed
     requires sound { IsSound setup.now }
     requires early { now < 2 ^ 62 }
@@ -122,13 +145,20 @@ fn repeats(setup: &Setup, view: &mut View, now: u64) -> Deed
     ensures deed { result ≡ (repeats setup.now view.old now).deed }
 {
     view.due = if view.repeat == 1 {
-        None
+        due_after_repeats(setup, view)
     } else {
         Some(now + setup.times.timeout)
     };
     view.repeat -= 1;
     let again = revokes(setup, view.repeat_term, view.repeat_reason);
     Deed::saying(again, Told::Nothing)
+}
+
+/// Returns whether the member abstains, so that by the steady rules it acquires nothing.
+pub fn is_silent(setup: &Setup, view: &View, now: u64) -> bool
+    ensures { result ≡ is_silent setup.now view.now now }
+{
+    setup.steady && now < view.abstain
 }
 
 fn waits_or_acquires(setup: &Setup, view: &mut View, now: u64) -> Deed
@@ -141,6 +171,10 @@ fn waits_or_acquires(setup: &Setup, view: &mut View, now: u64) -> Deed
         view.due = Some(failover_time(setup, view));
         return Deed::quiet();
     }
+    if is_silent(setup, view, now) {
+        view.due = Some(view.abstain);
+        return Deed::quiet();
+    }
     if is_promised_elsewhere(view.promise, setup.me, now) {
         let free = others_until(view.promise, setup.me);
         view.due = Some(free.saturating_add(setup.rank as u64 * setup.times.timeout));
@@ -148,6 +182,18 @@ fn waits_or_acquires(setup: &Setup, view: &mut View, now: u64) -> Deed
     }
     view.shown = None;
     Deed::wanting(Want::Acquire)
+}
+
+fn due_to_ask(setup: &Setup, view: &View, now: u64) -> Option<u64>
+    requires sound { IsSound setup.now }
+    requires early { now < 2 ^ 62 }
+    ensures { result ≡ due_to_ask setup.now view.now now }
+{
+    if view.hello {
+        Some(now + setup.times.renewal)
+    } else {
+        None
+    }
 }
 
 fn follower_due(setup: &Setup, view: &mut View, now: u64) -> Deed
@@ -162,7 +208,7 @@ fn follower_due(setup: &Setup, view: &mut View, now: u64) -> Deed
     if setup.site && view.managed {
         return waits_or_acquires(setup, view, now);
     }
-    view.due = None;
+    view.due = due_to_ask(setup, view, now);
     Deed::quiet()
 }
 

@@ -1,12 +1,13 @@
 //! The rules gain, release and lost: the first part of each, which requests a write, and the part after the write.
 ghost use Rattle.std.specs.Prelude.{◌≡◌, ◌<◌, ◌^◌, IsTrue};
 ghost use Rattle.booth_rec.specs.Record.{lease_end};
-ghost use Rattle.booth_raft.specs.GainReleaseLost.{due_by_rank, free_record, gained, gain, finish_gain, let_go, lost, own_end, release, finish_release, released, record_of, retry_at, retry_release_at, finish_round_end, round_ends, unreleased, without_own};
+ghost use Rattle.booth_raft.specs.GainReleaseLost.{due_after_round, due_by_rank, free_record, gained, gain, finish_gain, is_held_elsewhere, keeps_shown, let_go, lost, own_end, release, finish_release, released, record_of, retry_at, retry_release_at, finish_round_end, round_ends, unreleased, without_own};
 ghost use Rattle.booth_raft.specs.Sound.{IsSound};
 
 use crate::deed::{Deed, Told};
 use crate::messages::{revokes, tells_gain};
 use crate::outcome::keeping;
+use crate::start_and_learn::failover_time;
 use crate::view::{Role, Round, Rule, Shown, View};
 use booth_base::{MemberId, guard_ms};
 use booth_rec::{Lease, Promise, Record};
@@ -140,18 +141,49 @@ fn let_go(setup: &Setup, view: &mut View, tried: Record)
     view.role = Role::Follower;
 }
 
+fn is_held_elsewhere(shown: Option<Shown>, me: MemberId, now: u64) -> bool
+    ensures { result ≡ is_held_elsewhere shown me now }
+{
+    shown.is_some_and(|s| s.owner != me && now < s.until)
+}
+
+fn keeps_shown(setup: &Setup, view: &View, now: u64) -> bool
+    ensures { result ≡ keeps_shown setup.now view.now now }
+{
+    setup.steady && is_held_elsewhere(view.shown, setup.me, now)
+}
+
+fn due_after_round(setup: &Setup, view: &View, now: u64) -> Option<u64>
+    requires sound { IsSound setup.now }
+    requires early { now < 2 ^ 62 }
+    ensures { result ≡ due_after_round setup.now view.now now }
+{
+    if view.managed && keeps_shown(setup, view, now) {
+        Some(failover_time(setup, view))
+    } else {
+        due_by_rank(setup, view, now)
+    }
+}
+
 fn released(setup: &Setup, view: &mut View, tried: Record, reason: u32, now: u64)
     requires sound { IsSound setup.now }
     requires early { now < 2 ^ 62 }
     ensures { view.new ≡ released setup.now view.old tried reason now }
 {
-    let by_rank = due_by_rank(setup, view, now);
+    let after_round = due_after_round(setup, view, now);
+    let shown = if keeps_shown(setup, view, now) {
+        view.shown
+    } else {
+        None
+    };
     let_go(setup, view, tried);
     if reason == SPLT {
         view.repeat = 0;
-        view.due = by_rank;
+        view.shown = shown;
+        view.due = after_round;
     } else {
         view.managed = false;
+        view.hello = view.hello && !setup.steady;
         view.repeat = 2;
         view.repeat_reason = reason;
         view.repeat_term = view.term;

@@ -19,6 +19,7 @@ mod view;
 
 pub use ask_and_renew::are_terms_spent;
 pub use booth_rec::Promise;
+pub use deadlines::is_silent;
 pub use deed::{Deed, Note, Told, Want};
 pub use gain_release_lost::own_end;
 pub use machine::Core;

@@ -125,12 +125,12 @@ impl Core {
         finish(&self.setup, &mut self.view, now, ok)
     }
 
-    /// Asks all members for their state, at the first deadline after the start.
+    /// Asks all members for their state, at the first deadline after the start, and again if the member still asks.
     pub fn hello(&mut self, now: u64) -> Say
         requires early { now < 2 ^ 62 }
         requires idle { self.old.view.waiting ≡ None }
         requires due { IsDue self.old.view now }
-        ensures view { self.new ≡ with_view self.old (greeted self.old.view) }
+        ensures view { self.new ≡ with_view self.old (greeted self.old.setup self.old.view) }
         ensures say { result ≡ hello self.old.setup self.old.view now }
     {
         hello(&self.setup, &mut self.view, now)
@@ -141,7 +141,6 @@ impl Core {
         requires early { now < 2 ^ 62 }
         requires idle { self.old.view.waiting ≡ None }
         requires due { IsDue self.old.view now }
-        requires greeted { self.old.view.hello ≡ false }
         requires role { is_working self.old.view.role ≡ false }
         ensures step { record { core = self.new; deed = result } ≡ step self.old
             (due_now self.old.setup self.old.view now) }

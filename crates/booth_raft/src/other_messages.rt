@@ -2,7 +2,7 @@
 ghost use Rattle.std.specs.Prelude.{◌≡◌, ◌<◌, ◌^◌, ◌==◌, not, IsTrue};
 ghost use Rattle.std.specs.Option.{ForSome};
 ghost use Rattle.booth_raft.specs.Messages.{answer_cmd};
-ghost use Rattle.booth_raft.specs.OtherMessages.{freed, given_back, handed_on, hear, is_owner, left_alone, revoked};
+ghost use Rattle.booth_raft.specs.OtherMessages.{freed, given_back, handed_on, hear, is_bound_elsewhere, is_owner, left_alone, refused, revoked, unasking};
 ghost use Rattle.booth_raft.specs.Sound.{IsSound};
 ghost use Rattle.booth_raft.specs.declared.view.RoundKind.{RoundKind};
 
@@ -10,9 +10,10 @@ use crate::deed::{Deed, Told};
 use crate::messages::tells_state;
 use crate::rounds_and_answers::{hear_answer, hear_round};
 use crate::start_and_learn::{learned, with_seen};
-use crate::view::{Role, RoundKind, Shown, View};
+use crate::view::{Role, Round, RoundKind, Shown, View};
 use booth_base::MemberId;
 use booth_wire::reasons::{LOCF, SPLT};
+use booth_wire::results::TODT;
 use booth_wire::{Cmd, Head, Setup, TicketPart};
 
 // Drops a promise to a site, if its term is at most this one.
@@ -65,6 +66,15 @@ fn given_back(setup: &Setup, view: &mut View, reason: u32, now: u64)
     }
 }
 
+// Notes that a member which heard of a release no longer asks for the state.
+fn unasking(setup: &Setup, view: &mut View, reason: u32)
+    ensures { view.new ≡ unasking setup.now view.old reason }
+{
+    if setup.steady && reason != SPLT {
+        view.hello = false;
+    }
+}
+
 // Handles a release message.
 fn revoked(setup: &Setup, view: &mut View, head: &Head, term: u32, now: u64)
     requires sound { IsSound setup.now }
@@ -76,6 +86,40 @@ fn revoked(setup: &Setup, view: &mut View, head: &Head, term: u32, now: u64)
         view.shown = None;
         given_back(setup, view, head.reason, now);
     }
+}
+
+fn is_bound_elsewhere(round: Option<Round>, head: &Head, part: &TicketPart) -> bool
+    ensures { result ≡ is_bound_elsewhere round head.now part.now }
+{
+    match round {
+        Some(round) => {
+            head.result == TODT
+                && round.number == head.options
+                && round.term == part.term
+                && !round.won
+        }
+        None => false,
+    }
+}
+
+// Handles a refusal of the open round.
+fn refused(setup: &Setup, view: &mut View, head: &Head, part: &TicketPart)
+    ensures { view.new ≡ refused setup.now view.old head.now part.now }
+{
+    if setup.steady && is_bound_elsewhere(view.round, head, part) {
+        with_seen(view, view.term.saturating_add(1));
+    }
+}
+
+// Handles a message about a release.
+fn hear_release(setup: &Setup, view: &mut View, head: &Head, part: &TicketPart, now: u64)
+    requires sound { IsSound setup.now }
+    requires early { now < 2 ^ 62 }
+    ensures { view.new ≡ (hear setup.now view.old 0 head.now part.now now Cmd.Revk).view }
+{
+    with_seen(view, part.term);
+    unasking(setup, view, head.reason);
+    revoked(setup, view, head, part.term, now);
 }
 
 // Returns whether a number is the number of a round of this kind.
@@ -173,13 +217,17 @@ pub(crate) fn hear(
             learned(setup, view, part, now);
             Deed::saying(tells_state(setup, view, head, now), Told::Nothing)
         }
-        Cmd::MIdx | Cmd::Rjc | Cmd::UpdE => {
+        Cmd::Rjc => {
+            refused(setup, view, head, part);
+            learned(setup, view, part, now);
+            Deed::quiet()
+        }
+        Cmd::MIdx | Cmd::UpdE => {
             learned(setup, view, part, now);
             Deed::quiet()
         }
         Cmd::Revk => {
-            with_seen(view, part.term);
-            revoked(setup, view, head, part.term, now);
+            hear_release(setup, view, head, part, now);
             Deed::quiet()
         }
         // (commands of clients, and their answers)

@@ -116,7 +116,7 @@ fn tick(core: &mut Core, now: u64, words: &mut Words<'_>, answer: &mut Answer)
     requires early { now < 2 ^ 62 }
     requires idle { core.old.view.waiting ≡ None }
 {
-    if is_due(core, now) && !core.view().hello && core.view().role != Role::Working {
+    if is_due(core, now) && core.view().role != Role::Working {
         deed(answer, &core.tick(now));
     } else {
         words.refuse();

@@ -1,5 +1,5 @@
 //! Records, messages and starts from words.
-ghost use Rattle.std.specs.Prelude.{◌<◌, ◌^◌, IsTrue};
+ghost use Rattle.std.specs.Prelude.{◌≡◌, ◌<◌, ◌^◌, IsTrue};
 ghost use Rattle.booth_raft.specs.Sound.{IsSound};
 
 use booth_base::{MemberId, Name, Times};
@@ -8,14 +8,25 @@ use booth_rec::Record;
 use booth_rows::Words;
 use booth_wire::{Cmd, Head, Setup, TicketPart};
 
-/// The times of each ticket: a lease of 600 s, and a promise of 601,203 ms.
-const TIMES: Times = Times {
-    expire: 600_000,
-    after: 0,
-    timeout: 5_000,
-    retries: 10,
-    renewal: 300_000,
-};
+/// The length of each ticket's lease, in ms. A promise lasts 601,203 ms.
+const EXPIRE: u64 = 600_000;
+
+// Returns the times of a ticket that is renewed this often, in ms.
+fn times_with(renewal: u64) -> Times
+    ensures renewal { result.renewal ≡ renewal }
+    ensures expire { result.expire ≡ 600000 }
+    ensures after { result.after ≡ 0 }
+    ensures timeout { result.timeout ≡ 5000 }
+    ensures retries { result.retries ≡ 10 }
+{
+    Times {
+        expire: EXPIRE,
+        after: 0,
+        timeout: 5_000,
+        retries: 10,
+        renewal,
+    }
+}
 
 // Reads a record, or one `-` for no record.
 fn record(words: &mut Words<'_>) -> Option<Record> {
@@ -82,13 +93,14 @@ pub(crate) struct Start {
 }
 
 impl Start {
-    /// Reads a start. It refuses one whose place or rank is too large.
+    /// Reads a start. It refuses one whose place, rank or time between renewals is too large.
     pub(crate) fn read(words: &mut Words<'_>) -> Option<Start> {
         let now = words.moment();
         let me = MemberId(words.number());
         let (place, members) = (words.number(), words.number());
         let (site, rank) = (words.flag(), words.number());
-        if place >= members || members > 16 || rank >= 16 {
+        let (steady, renewal) = (words.flag(), words.moment());
+        if place >= members || members > 16 || rank >= 16 || renewal >= EXPIRE {
             words.refuse();
             return None;
         }
@@ -99,8 +111,9 @@ impl Start {
             members,
             site,
             rank,
-            times: TIMES,
+            times: times_with(renewal),
             second: true,
+            steady,
         };
         let kept = record(words);
         Some(Start { now, setup, kept })

@@ -75,7 +75,7 @@ fn start_node(
     ensures state { IfOk result (λ node. state_of node ≡ opened (node_in config.now place) kept.now reading) }
 {
     let me = id_at(config, place);
-    Node::open(alloc, config.copy(alloc)?, None, me, kept, reading)
+    Node::open_ring(alloc, config.copy(alloc)?, None, me, kept, reading)
 }
 
 // Returns a list with no record for each ticket.

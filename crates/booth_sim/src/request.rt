@@ -6,7 +6,7 @@ ghost use Rattle.booth_wire.specs.PlainMessage.{content_of, has_text, is_named, 
 ghost use Rattle.booth_auth.specs.Sealed.{sealed};
 ghost use Rattle.booth_sim.specs.Happenings.{request};
 
-use booth_auth::seal;
+use booth_auth::ring_seal;
 use booth_base::{Address, MemberId, NO_ONE, Name, Peer};
 use booth_wire::{Body, Cmd, Frame, Head, Message, TicketPart};
 
@@ -50,5 +50,5 @@ pub(crate) fn put_request(cmd: Cmd, ticket: &Name, event: u32, frame: &mut Frame
     requires { kind_of cmd ≡ TicketKind }
     ensures { frame.new ≡ sealed None (request cmd ticket.now event) }
 {
-    seal(&message_of(cmd, ticket, event), None, 0, frame);
+    ring_seal(&message_of(cmd, ticket, event), None, 0, frame);
 }

@@ -5,7 +5,7 @@ use Rattle.booth_wire.specs.declared.message.Setup.{Setup}
 use Rattle.booth_raft.specs.declared.view.Role.{Role}
 use Rattle.booth_raft.specs.declared.view.Role.TheVariants.{Follower, Working, Candidate, Leader}
 use Rattle.booth_raft.specs.declared.view.View.{View}
-use Rattle.booth_raft.specs.Deadlines.{due_now, is_tried, waits_or_acquires, follower_due, leader_due, resends_or_renews, candidate_due}
+use Rattle.booth_raft.specs.Deadlines.{candidate_due, due_now, due_to_ask, follower_due, is_sent_again, is_silent, is_tried, leader_due, resends_or_renews, waits_or_acquires}
 use Rattle.booth_raft.specs.GainReleaseLost.{own_end}
 use Rattle.booth_raft.specs.Members.{is_promised_elsewhere, is_follower, is_leader}
 use Rattle.booth_raft.specs.Messages.{shown_end}
@@ -25,8 +25,9 @@ acquires : (setup : Setup) (view : View) (now : ℕ) → view.waiting ≡ None
     → IsTrue setup.site → Fits setup (waits_or_acquires setup view now)
 acquires setup view now idle follows site =
     on_cond (Fits setup) (nat_lt now (shown_end view.shown)) _ _ tt
+    (on_cond (Fits setup) (is_silent setup view now) _ _ tt
     (on_cond (Fits setup) (is_promised_elsewhere view.promise setup.me now) _ _ tt
-    (site, follows, idle))
+    (site, follows, idle)))
 
 follower_fits : (setup : Setup) (view : View) (now : ℕ) → view.waiting ≡ None
     → IsTrue (is_follower view.role)
@@ -34,7 +35,7 @@ follower_fits : (setup : Setup) (view : View) (now : ℕ) → view.waiting ≡ N
 follower_fits setup view now idle follows =
     on_cond (Fits setup) (nat_lt 0 view.repeat) _ _ tt
     (on_test (Fits setup) (setup.site && view.managed) (waits_or_acquires setup view now)
-    (quiet (record view { due = None }))
+    (quiet (record view { due = due_to_ask setup view now }))
     (λ e. acquires setup view now idle follows (both_true setup.site view.managed e)) (λ e. tt))
 
 candidate_fits : (setup : Setup) (view : View) (now : ℕ) → Fits setup (candidate_due setup view now)
@@ -47,7 +48,7 @@ renews : (setup : Setup) (view : View) (now : ℕ) → view.waiting ≡ None
     → Fits setup (resends_or_renews setup view now)
 renews setup view now idle leads =
     on_option (Fits setup) view.round _ _ (λ none. (leads, idle))
-    (λ round is. on_cond (Fits setup) (not round.won && is_tried setup round now) _ _ tt
+    (λ round is. on_cond (Fits setup) (is_sent_again setup view round now) _ _ tt
     (leads, idle))
 
 leader_fits : (setup : Setup) (view : View) (now : ℕ) → view.waiting ≡ None

@@ -15,6 +15,7 @@ use Rattle.booth_wire.specs.declared.message.Setup.{Setup}
 use Rattle.booth_wire.specs.declared.message.Say.{Say as Words}
 use Rattle.booth_wire.specs.declared.codes.reasons.TheConstants.{ADMN}
 use Rattle.booth_wire.specs.declared.codes.results.TheConstants.{ASYN, SUCCESS}
+use Rattle.booth_raft.specs.Deadlines.{is_silent}
 use Rattle.booth_raft.specs.declared.deed.Note.TheVariants.{Asked}
 use Rattle.booth_raft.specs.declared.deed.Told.TheVariants as tells
 use Rattle.booth_raft.specs.declared.view.Role.{Role}
@@ -43,7 +44,7 @@ use Rattle.booth_ticket.specs.Acts.{Act, IsAct, Ask, kept, said, said_to_each}
 use Rattle.booth_ticket.specs.Automatic.{hear, hear_message}
 use Rattle.booth_ticket.specs.Keeping.{carry_out, keep_once}
 use Rattle.booth_ticket.specs.Laws.{AsksVotes, Completes, GrantAsksAll, HasLease, IsDoneBy, MajorityGains, asked_record, asking_acts, gaining_acts, lease_kept, lease_of, told_granted}
-use Rattle.booth_ticket.specs.Requests.{Answered, acquire_for, follow_request, grant, grant_result, is_holder, is_shown_elsewhere, refused_grant, reply}
+use Rattle.booth_ticket.specs.Requests.{Answered, acquire_for, follow_request, grant, grant_result, is_busy, is_holder, is_shown_elsewhere, refused_grant, reply}
 use Rattle.booth_ticket.specs.Saying.{others, say, say_each, say_to}
 use Rattle.booth_ticket.specs.Waiting.{Left, joined, staying, tell, tell_each, tell_one, waits}
 use Rattle.booth_ticket.proofs.SayLemmas.{each_said}
@@ -65,15 +66,13 @@ first_none false answer rest e = (refl, e)
 
 unrefused : (setup : Setup) (view : View) (spare : ℕ) (ready : Bool) (options now : ℕ)
     → refused_grant setup view spare ready options now ≡ None
-    → (not (is_follower view.role) || is_promised_elsewhere view.promise setup.me now ≡ false)
+    → (is_busy setup view now ≡ false)
     × (are_terms_spent view ≡ false)
 unrefused setup view spare ready options now e =
     let one = first_none (not setup.site || not (options == 0 || waits options)) _ _ e in
     let two = first_none (is_holder setup view now) _ _ one.1 in
     let three = first_none (is_shown_elsewhere view.shown setup.me now) _ _ two.1 in
-    let four =
-    first_none (not (is_follower view.role) || is_promised_elsewhere view.promise setup.me
-    now) _ _ three.1 in
+    let four = first_none (is_busy setup view now) _ _ three.1 in
     let five = first_none (not ready) _ _ four.1 in
     let six = first_none (are_terms_spent view) _ _ five.1 in
     (four.0, six.0)
@@ -277,7 +276,7 @@ asks_everyone setup view waiters spare ready request now none few =
     IsDoneBy (begins setup waiters request now o) (asking_acts setup view request now) Holds)
     (are_terms_spent (noted setup view now Asked)) _ _ free.1
     (asks_and_tells setup waiters request now view setup.second itself
-    (follows view.role (is_promised_elsewhere view.promise setup.me now) free.0)
+    (follows view.role (is_promised_elsewhere view.promise setup.me now || is_silent setup view now) free.0)
     (few_again setup waiters request now view setup.second itself refl few)))
 
 -- ---- an answer is heard

@@ -5,6 +5,7 @@ pub mod GainLemmas
 pub mod SpeechLemmas
 pub mod SayLemmas
 pub mod TellLemmas
+pub mod StepLemmas
 pub mod FollowLemmas
 pub mod RoomLemmas
 pub mod CaseLemmas

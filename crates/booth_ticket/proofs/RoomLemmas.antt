@@ -15,7 +15,7 @@ use Rattle.booth_ticket.specs.declared.request.Request.{Request}
 use Rattle.booth_ticket.specs.declared.request.Wish.{Wish}
 use Rattle.booth_ticket.specs.declared.request.Wish.TheVariants.{Grant, Revoke}
 use Rattle.booth_ticket.specs.ManualRequests.{as_waiting, forces, is_another_shown, is_strange, refused_by_hand, unforced, wants_handler}
-use Rattle.booth_ticket.specs.Requests.{is_holder, is_shown_elsewhere, holder_result, refused_grant}
+use Rattle.booth_ticket.specs.Requests.{holder_result, is_busy, is_holder, is_shown_elsewhere, refused_grant}
 use Rattle.booth_ticket.specs.Waiting.{commits, joins, waits}
 
 both_right : (a b : Bool) → a && b ≡ true → b ≡ true
@@ -75,8 +75,7 @@ module _ (spare : ℕ) where
           (on_cond Fine (is_holder setup view now) _ _
           (fine (holder_result view.sure spare options) (held view.sure options))
           (on_cond Fine (is_shown_elsewhere view.shown setup.me now) _ _ (fine OVER (other OVER refl))
-          (on_cond Fine
-          (not (is_follower view.role) || is_promised_elsewhere view.promise setup.me now) _ _
+          (on_cond Fine (is_busy setup view now) _ _
           (fine BUSY (other BUSY refl))
           (on_cond Fine (not ready) _ _ (fine APRQ (other APRQ refl))
           (on_cond Fine (are_terms_spent view) _ _ (fine FAIL (other FAIL refl))
@@ -99,9 +98,7 @@ module _ (spare : ℕ) where
       let one = passed (not setup.site || not (options == 0 || waits options)) IARG _ none in
       let two = passed (is_holder setup view now) _ _ one.1 in
       let three = passed (is_shown_elsewhere view.shown setup.me now) OVER _ two.1 in
-      let four =
-      passed (not (is_follower view.role) || is_promised_elsewhere view.promise setup.me now) BUSY _
-      three.1 in
+      let four = passed (is_busy setup view now) BUSY _ three.1 in
       let five = passed (not ready) APRQ _ four.1 in
       let six = passed (are_terms_spent view) FAIL _ five.1 in
       let seven = passed (waits options && spare == 0) BUSY None six.1 in

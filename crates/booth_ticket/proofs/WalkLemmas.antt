@@ -241,7 +241,7 @@ module _ (setup : Setup) (waiters : List Waiter) (P : Ask → Type 0) (allows : 
   tick_walks view given =
       after Any IsIts (say setup None (hello setup view given.now)) _
       (said None (hello setup view given.now) (rules_speak.greeted setup view given.now))
-      (λ done any. after Says IsIts (role_due (core_of (greeted view)) given) _ (role_walks (core_of (greeted view)) given refl)
+      (λ done any. after Says IsIts (role_due (core_of (greeted setup view)) given) _ (role_walks (core_of (greeted setup view)) given refl)
       (λ begun says. carried None given.now begun says))
 
   pub job_walks : (view : View) (job : ℕ) (service : Service) (now : ℕ) → Walks IsIts (hear_job (core_of view) job service now)

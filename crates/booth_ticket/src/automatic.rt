@@ -84,7 +84,6 @@ fn rule_due<W: Hands>(core: &mut Core, given: Given, hands: &mut W) -> Deed
     requires early { given.now < 2 ^ 62 }
     requires idle { core.old.view.waiting ≡ None }
     requires due { IsDue core.old.view given.now }
-    requires greeted { core.old.view.hello ≡ false }
     requires role { is_working core.old.view.role ≡ false }
     ensures did { Did W.did (rule_due core.old given) (record { core = core.new; deed = result })
         hands.old hands.new }
@@ -101,7 +100,6 @@ fn role_due<W: Hands>(core: &mut Core, given: Given, hands: &mut W) -> Deed
     requires early { given.now < 2 ^ 62 }
     requires idle { core.old.view.waiting ≡ None }
     requires due { IsDue core.old.view given.now }
-    requires greeted { core.old.view.hello ≡ false }
     ensures did { Did W.did (role_due core.old given) (record { core = core.new; deed = result })
         hands.old hands.new }
     ensures waits { KeepWaits result.keep core.new.view.waiting given.now }

@@ -4,7 +4,7 @@ ghost use Rattle.booth_wire.specs.declared.codes.results.TheConstants.{ASYN};
 ghost use Rattle.booth_raft.specs.Members.{is_follower};
 ghost use Rattle.booth_ticket.specs.Acts.{Did};
 ghost use Rattle.booth_ticket.specs.Answers.{answered};
-ghost use Rattle.booth_ticket.specs.Requests.{is_holder, is_shown_elsewhere, holder_result, refused_grant, grant_result, acquire_for, grant, refused_revoke, revoke_result, release_for, revoke, do_for, follow_request};
+ghost use Rattle.booth_ticket.specs.Requests.{is_holder, is_shown_elsewhere, holder_result, refused_grant, grant_result, acquire_for, grant, refused_revoke, revoke_result, release_for, revoke, do_for, follow_request, is_busy};
 ghost use Rattle.booth_ticket.specs.Waiting.{waiting_at, spare_in, waits, joins};
 
 use crate::handling::{acquire_by, telling};
@@ -15,7 +15,8 @@ use crate::telling::{commits, join, reply, tell, waits};
 use crate::waiters::Waiters;
 use booth_base::MemberId;
 use booth_raft::{
-    Core, Deed, Note, Role, Shown, Told, View, are_terms_spent, is_promised_elsewhere, own_end,
+    Core, Deed, Note, Role, Shown, Told, View, are_terms_spent, is_promised_elsewhere, is_silent,
+    own_end,
 };
 use booth_wire::Setup;
 use booth_wire::options::WAIT;
@@ -50,6 +51,14 @@ fn holder_result(sure: bool, spare: u32, options: u32) -> u32
     }
 }
 
+fn is_busy(setup: &Setup, view: &View, now: u64) -> bool
+    ensures { result ≡ is_busy setup.now view.now now }
+{
+    view.role != Role::Follower
+        || is_promised_elsewhere(view.promise, setup.me, now)
+        || is_silent(setup, view, now)
+}
+
 // Returns the immediate reply to a grant, or `None` if the ticket is acquired.
 fn refused_grant(
     setup: &Setup,
@@ -70,7 +79,7 @@ fn refused_grant(
     if is_shown_elsewhere(view.shown, setup.me, now) {
         return Some(OVER);
     }
-    if view.role != Role::Follower || is_promised_elsewhere(view.promise, setup.me, now) {
+    if is_busy(setup, view, now) {
         return Some(BUSY);
     }
     if !ready {

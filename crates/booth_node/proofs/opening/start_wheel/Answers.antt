@@ -1,8 +1,10 @@
-use Rattle.std.proofs.Common.{map, sym, ◌∙◌, arith}
-use Rattle.std.specs.Prelude.{None}
+use Rattle.std.proofs.Common.{◌≡◌, ℕ, ◌<◌, length, map, sym, ap, ◌∙◌, arith}
+use Rattle.std.specs.Prelude.{Option, None, slice_index_or, slice_set}
 use Rattle.std.proofs.lemmas.Grind.{common_steps}
 use Rattle.std.proofs.lemmas.List.{ext_get_or, length-map}
 use Rattle.booth_node.specs.Reaction.{deadline_of}
+use Rattle.booth_chain.specs.Wheel.{Timer}
+use Rattle.booth_node.proofs.TimerLemmas.{next_timed}
 use Rattle.booth_node.proofs.opening.start_wheel.Goals as goal
 
 pub returns-clause-timed : goal.returns-clause-timed
@@ -15,7 +17,13 @@ returns-clause-timed c =
 
 pub loop-place-preserved : goal.loop-place-preserved
 loop-place-preserved c = record {
-  timed = grind (arith, common_steps);
+  timed = λ slot below.
+      let slots = c.loop-place.invariant.slots in
+      let inside : c.loop-place.place < length c.args.tickets.now = let test = c.loop-place-test.true in omega (arith, test) in
+      ap (λ (t : Timer). slice_index_or t.deadlines slot None) c.set_deadline.ensures
+      ∙ ap (λ (d : Option ℕ). slice_index_or (slice_set c.loop-place.wheel.deadlines c.loop-place.place d) slot None) c.deadline.ensures
+      ∙ next_timed c.loop-place.wheel.deadlines c.args.tickets.now c.loop-place.place c.index-tickets-place.result
+      c.index-tickets-place.is inside (omega (arith, inside, slots)) c.loop-place.invariant.timed slot below;
   slots = grind (arith, common_steps);
   last = grind (arith, common_steps);
 }
