@@ -316,9 +316,9 @@ module _ (w : World) (is_world : IsWorld w) (ticket : TicketConf) (automatic : I
       → IsBehind x.before x.entry x.after y.before y.entry y.after → GaveBack w ticket s one time
   first_gave_back s t time ne one other x y behind =
       ⊎_elim
-      (λ (apart : IsApartFrom (cluster_of w ticket) s x.kept early.time late.time).
+      (λ (apart : IsApartFrom (cluster_of w ticket) ticket.times.after s x.kept early.time late.time).
       absurd (
-      let a : AreApart (cluster_of w ticket) late.time late.time =
+      let a : AreApart (cluster_of w ticket) ticket.times.after late.time late.time =
       apart late.time later.not_before (omega arith)
       (in_force_before s late.time time x.kept x.below y.no_later y.within x.in_force) in
       let n : w.ticks * (1000000 * ticket.times.after) < 1001000 * (late.time - late.time) = a in omega (arith, n)))

@@ -35,7 +35,7 @@ use Rattle.booth_ticket.specs.declared.waiters.Waiter.{Waiter}
 use Rattle.booth_ticket.specs.Acts.{Act, IsAct, Ask, kept, said, said_to_each}
 use Rattle.booth_ticket.specs.Keeping.{carry_out, keep_once}
 use Rattle.booth_ticket.specs.Laws.{HasLease, IsDoneBy, told_granted}
-use Rattle.booth_ticket.specs.Requests.{Answered, acquire_for, follow_request, grant, grant_result, is_holder, is_shown_elsewhere, refused_grant, reply}
+use Rattle.booth_ticket.specs.Requests.{Answered, acquire_for, follow_request, grant, grant_result, is_busy, is_holder, is_shown_elsewhere, refused_grant, reply}
 use Rattle.booth_ticket.specs.Saying.{others, say, say_each, say_to}
 use Rattle.booth_ticket.specs.Waiting.{Left, joined, tell, waiter_of, waits}
 use Rattle.booth_raft.proofs.FactsLemmas.{untrue}
@@ -57,7 +57,7 @@ unspent setup view spare ready options now e =
     let one = first_none (not setup.site || not (options == 0 || waits options)) _ _ e in
     let two = first_none (is_holder setup view now) _ _ one.1 in
     let three = first_none (is_shown_elsewhere view.shown setup.me now) _ _ two.1 in
-    let four = first_none (not (is_follower view.role) || is_promised_elsewhere view.promise setup.me now) _ _ three.1 in
+    let four = first_none (is_busy setup view now) _ _ three.1 in
     let five = first_none (not ready) _ _ four.1 in
     (first_none (are_terms_spent view) _ _ five.1).0
 

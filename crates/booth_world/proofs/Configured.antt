@@ -354,7 +354,7 @@ pub seats_of : (w : World) (ticket : TicketConf) (setting : Setting w ticket) (m
     → (session : Session) × (session.second ≡ node.second) × (seats : Seats w ticket setting m session node) × (seats.place ≡ place) × (seats.conf ≡ conf)
 seats_of w ticket setting m node below is place conf there named timed =
     let r = session_of w ticket setting m node below is place in
-    let session : Session = record { second = node.second; rank = r.0; few = r.1 } in (
+    let session : Session = record { second = node.second; phase = 0; steady = conf.steady; rank = r.0; few = r.1 } in (
       session,
       refl,
       record {
@@ -363,13 +363,14 @@ seats_of w ticket setting m node below is place conf there named timed =
         conf = conf;
         there = there;
         named = named;
-        same = ap (λ (name : List ℕ). setup_by name conf.times node.config.members node.me (own_place node) (rank_at node place) node.second) named
-            ∙ ap (λ (times : Times). setup_by ticket.name times node.config.members node.me (own_place node) (rank_at node place) node.second) timed
-            ∙ ap (λ (members : List Member). setup_by ticket.name ticket.times members node.me (own_place node) (rank_at node place) node.second) is.members
-            ∙ ap (λ (id : MemberId). setup_by ticket.name ticket.times w.members id (own_place node) (rank_at node place) node.second) is.me
-            ∙ ap (λ (n : ℕ). setup_by ticket.name ticket.times w.members (id_at w m) n (rank_at node place) node.second)
+        same = ap (λ (name : List ℕ). setup_by name conf.times node.config.members node.me (own_place node) (rank_at node place) node.second conf.steady) named
+            ∙ ap (λ (times : Times). setup_by ticket.name times node.config.members node.me (own_place node) (rank_at node place) node.second conf.steady) timed
+            ∙ ap (λ (members : List Member). setup_by ticket.name ticket.times members node.me (own_place node) (rank_at node place) node.second conf.steady) is.members
+            ∙ ap (λ (id : MemberId). setup_by ticket.name ticket.times w.members id (own_place node) (rank_at node place) node.second conf.steady) is.me
+            ∙ ap (λ (n : ℕ). setup_by ticket.name ticket.times w.members (id_at w m) n (rank_at node place) node.second conf.steady)
             (own_place_of w ticket setting m node below is)
-            ∙ ap (λ (rank : ℕ). setup_by ticket.name ticket.times w.members (id_at w m) m rank node.second) r.2;
+            ∙ ap (λ (rank : ℕ). setup_by ticket.name ticket.times w.members (id_at w m) m rank node.second conf.steady) r.2;
+        first = refl;
       },
       refl,
       refl,

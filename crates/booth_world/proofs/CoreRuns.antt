@@ -1,5 +1,5 @@
 -- Releases are the entries', and the three laws hold of entries of the cores.
-use Rattle.std.proofs.Common.{◌≡◌, ◌⊎◌, ℕ, ◌<◌, ◌≤◌, List, [], ◌∷◌, ◌++◌, Bool, true, false, refl, sym, ap, ◌∙◌, subst, inl, inr, ⊎_elim, arith}
+use Rattle.std.proofs.Common.{mul-le-mul_left, ◌*◌, ◌-◌, ◌≡◌, ◌⊎◌, ℕ, ◌<◌, ◌≤◌, List, [], ◌∷◌, ◌++◌, Bool, true, false, refl, sym, ap, ◌∙◌, subst, inl, inr, ⊎_elim, arith}
 use Rattle.std.specs.Prelude.{Option, Some, None, IsSomeAnd}
 use Rattle.booth_rec.specs.declared.record.Record.{Record}
 use Rattle.booth_rec.specs.Record.{IsInForce}
@@ -11,7 +11,7 @@ use Rattle.booth_raft.specs.declared.view.Waiting.{Waiting}
 use Rattle.booth_raft.specs.Facts.{TriesOf, ViewFacts}
 use Rattle.booth_raft.specs.GainReleaseLost.{free_record}
 use Rattle.booth_world.specs.Facts.{Has, Release}
-use Rattle.booth_world.specs.States.{KeptRecord, WorldState, opening, Cluster, HasClocks, reads}
+use Rattle.booth_world.specs.States.{distance_in, IsWindow, KeptRecord, WorldState, opening, Cluster, HasClocks, HasPhases, reads}
 use Rattle.booth_world.specs.Steps.{WorldStep, IsRun, world_of}
 use Rattle.booth_world.specs.Held.{IsHeldBy, Held, IsApartFrom, IsApart, GivesBackLease, ReleasedBetween}
 use Rattle.booth_world.specs.Agreement.{record_in}
@@ -20,19 +20,19 @@ use Rattle.booth_world.specs.Cores.{Session, CoreEntry, ReadsTime, CallsCore, Ha
 use Rattle.booth_world.specs.CoreLaws.{IsReleasing, IsReleaseAt, IsReleaseIn, CoreHoldsBy, CoreHolds, CoreCourse, early_cores, late_cores, CoresHoldOne, CoresAreApart, CoreTermsNeverFall}
 use Rattle.booth_world.proofs.Views.{kept_of, record_has}
 use Rattle.booth_world.proofs.AskSteps.{the_value}
-use Rattle.booth_world.proofs.Runs.{runs_hold_one, runs_hold_apart, runs_keep_terms}
+use Rattle.booth_world.proofs.Runs.{runs_have_phases, runs_hold_one, runs_hold_apart, runs_keep_terms}
 use Rattle.booth_world.proofs.WorldGood.{opening_good, run_good}
 use Rattle.booth_world.proofs.CoreSteps.{CoresHold, opens, enters, enter_all, IsSecondAt, AreSecondFrom, second_append}
 use Rattle.booth_world.specs.Steps.{AreSecond}
 use Rattle.booth_world.proofs.Lists.{none_is, put_all}
-use Rattle.booth_world.proofs.LaterTerms.{runs_rise}
+use Rattle.booth_world.proofs.LaterTerms.{runs_rise_within}
 use Rattle.booth_world.specs.CoreLaws.{IsSecondStart, AreSecondStarts, LaterCoreHasLaterTerm}
 use Rattle.booth_world.specs.Cores.{CorePlace, has_given, call_given, answer_given}
 use Rattle.booth_world.specs.Rules.{lease_rules}
 use Rattle.booth_wire.specs.declared.message.Say.TheVariants as says
 use Rattle.booth_world.specs.Gives.{Given}
 
-module _ (c : Cluster) (cast : Cast) (clocks : HasClocks c) (is_cast : IsCast c cast) where
+module _ (c : Cluster) (cast : Cast) (clocks : HasClocks c) (phases : HasPhases c) (is_cast : IsCast c cast) where
   one_released : (setup : Setup) (view : View) (w : Waiting) (m now : ℕ) (kept : Record) (releases : List Release) (z : Release) → w.tried ≡ kept
       → TriesOf setup view w.rule w.tried
       → Has (released_by w.rule (record { site = m; term = w.tried.term; at = now }) releases) z
@@ -97,7 +97,7 @@ module _ (c : Cluster) (cast : Cast) (clocks : HasClocks c) (is_cast : IsCast c 
       → AreEntered c cast cores entries → Has (cores_after c cast cores entries).releases z → Has cores.releases z ⊎ IsReleaseIn c cast cores entries z
   all_released cores [] steps z run i all has = inl has
   all_released cores (entry ∷ entries) steps z run i all has =
-      let one = enters c cast clocks is_cast cores entry steps run i all.0 in
+      let one = enters c cast clocks phases is_cast cores entry steps run i all.0 in
       ⊎_elim
       (λ (old : Has (entered c cast cores entry).releases z). ⊎_elim
       (λ (older : Has cores.releases z). inl older)
@@ -116,12 +116,12 @@ pub record Runs (c : Cluster) (cast : Cast) (early late : List CoreEntry) (i : C
   pub run_all : IsRun c (opening c) (first ++ more)
   pub early_holds : CoresHold c cast (early_cores c cast early) (world_of c first)
   pub late_holds : CoresHold c cast (late_cores c cast early late) (world_of c (first ++ more))
-  pub all_second : AreSecondFrom c cast i.clocks i.is_cast (opening_cores c cast) early → AreSecondFrom c cast i.clocks i.is_cast (early_cores c cast early) late → AreSecond (first ++ more)
+  pub all_second : AreSecondFrom c cast i.clocks i.phases i.is_cast (opening_cores c cast) early → AreSecondFrom c cast i.clocks i.phases i.is_cast (early_cores c cast early) late → AreSecond (first ++ more)
 
 pub runs_of : (c : Cluster) (cast : Cast) (early late : List CoreEntry) (i : CoreCourse c cast early late) → Runs c cast early late i
 runs_of c cast early late i =
-    let one = enter_all c cast i.clocks i.is_cast (opening_cores c cast) early [] tt (opens c cast i.clocks i.is_cast) i.enters_early in
-    let two = enter_all c cast i.clocks i.is_cast (early_cores c cast early) late one.more one.run one.holds i.enters_late in record {
+    let one = enter_all c cast i.clocks i.phases i.is_cast (opening_cores c cast) early [] tt (opens c cast i.clocks i.phases i.is_cast) i.enters_early in
+    let two = enter_all c cast i.clocks i.phases i.is_cast (early_cores c cast early) late one.more one.run one.holds i.enters_late in record {
       first = one.more;
       more = two.more;
       run_first = one.run;
@@ -152,21 +152,29 @@ pub cores_hold_one : CoresHoldOne
 cores_hold_one c cast entries course timed s t hs ht =
     let r = runs_of c cast entries [] course in
     let cores = early_cores c cast entries in
-    runs_hold_one c course.clocks timed r.first r.run_first s t
+    runs_hold_one c course.clocks timed course.phases r.first r.run_first s t
     (held c cast cores (world_of c r.first) s r.early_holds hs)
     (held c cast cores (world_of c r.first) t r.early_holds ht)
 
+-- a smaller distance
+less_apart : (c : Cluster) (less more s : ℕ) (k : Record) (early late : ℕ) → less ≤ more → IsApartFrom c more s k early late → IsApartFrom c less s k early late
+less_apart c less more s k early late below apart at from to force =
+    let far : c.ticks * (1000000 * more) < 1001000 * (late - at) = apart at from to force in
+    let fewer = mul-le-mul_left c.ticks below in
+    omega (arith, far, fewer)
+
 pub cores_are_apart : CoresAreApart
-cores_are_apart c cast early late course timed s t other k hs ht =
+cores_are_apart c cast early late course timed s t other k distance least hs ht =
     let r = runs_of c cast early late course in
     let w = world_of c r.first in
     let z = world_of c (r.first ++ r.more) in
     let first = held_by c cast (early_cores c cast early) w s k r.early_holds hs in
+    let of_phase = runs_have_phases c course.clocks course.phases r.first r.run_first s first.0 first.2 in
     ⊎_elim
-    (λ (apart : IsApart c s first.0 w z).
-    inl (subst (λ (k : Record). IsApartFrom c s k (early_cores c cast early).now (late_cores c cast early late).now) first.1
-    (subst (λ (a : ℕ). IsApartFrom c s (record_in cast.id_of first.0) a (late_cores c cast early late).now) r.early_holds.same_now
-    (subst (λ (b : ℕ). IsApartFrom c s (record_in cast.id_of first.0) w.now b) r.late_holds.same_now apart))))
+    (λ (apart : IsApart c (distance_in c of_phase.2) s first.0 w z).
+    inl (less_apart c distance (distance_in c of_phase.2) s k _ _ (least of_phase.2) (subst (λ (k : Record). IsApartFrom c (distance_in c of_phase.2) s k (early_cores c cast early).now (late_cores c cast early late).now) first.1
+    (subst (λ (a : ℕ). IsApartFrom c (distance_in c of_phase.2) s (record_in cast.id_of first.0) a (late_cores c cast early late).now) r.early_holds.same_now
+    (subst (λ (b : ℕ). IsApartFrom c (distance_in c of_phase.2) s (record_in cast.id_of first.0) w.now b) r.late_holds.same_now apart)))))
     (λ (b : ReleasedBetween w z s first.0).
     let in_late = subst (λ (l : List Release). Has l b.release) r.late_holds.same_releases b.fact in
     ⊎_elim
@@ -174,8 +182,8 @@ cores_are_apart c cast early late course timed s t other k hs ht =
     absurd (b.fresh (subst (λ (l : List Release). Has l b.release) (sym r.early_holds.same_releases) old)))
     (λ (new : IsReleaseIn c cast (early_cores c cast early) late b.release).
     inr (b.release, new, subst (λ (k : Record). GivesBackLease s k.lease b.release) first.1 b.gives_back))
-    (all_released c cast course.clocks course.is_cast (early_cores c cast early) late r.first b.release r.run_first r.early_holds course.enters_late in_late))
-    (runs_hold_apart c course.clocks timed r.first r.more r.run_all s t other first.0 first.2
+    (all_released c cast course.clocks course.phases course.is_cast (early_cores c cast early) late r.first b.release r.run_first r.early_holds course.enters_late in_late))
+    (runs_hold_apart c course.clocks timed course.phases r.first r.more r.run_all s t other first.0 of_phase.0 of_phase.2 of_phase.1 of_phase.3 first.2
     (held c cast (late_cores c cast early late) z t r.late_holds ht))
 
 pub core_terms : CoreTermsNeverFall
@@ -211,7 +219,7 @@ tried_is_highest c cast entries course m below view is waits waiting k h =
     let facts = place.view_facts view is in
     let tried = tries_term (setup_in cast (early_cores c cast entries) m) view waits.rule waits.tried (facts.tried waits waiting) in
     let z = kept_of cast.id_of (w.member m).may k (subst (λ (l : List Record). Has l k) (sym place.same_may) h) in
-    let good = (run_good c course.clocks (opening c) r.first (opening_good c course.clocks) r.run_first).each m in
+    let good = (run_good c course.clocks course.phases (opening c) r.first (opening_good c course.clocks) r.run_first).each m in
     let most : z.0.term ≤ (w.member m).term = good.term agrees.up z.0 z.1 in
     let own : view.term ≡ (w.member m).term = agrees.term in
     let same : z.0.term ≡ k.term = ap (λ (q : Record). q.term) z.2 in
@@ -250,8 +258,8 @@ entry_second c cast cores (StartsWith m session kept) up so = given_second cores
   releases = cores.releases;
 }) up so
 
-module _ (c : Cluster) (cast : Cast) (clocks : HasClocks c) (is_cast : IsCast c cast) where
-  at_second : (cores : Cores) (entry : CoreEntry) → UpSecond cores → IsSecondStart entry → MayEnter c cast cores entry → IsSecondAt c cast clocks is_cast cores entry
+module _ (c : Cluster) (cast : Cast) (clocks : HasClocks c) (phases : HasPhases c) (is_cast : IsCast c cast) where
+  at_second : (cores : Cores) (entry : CoreEntry) → UpSecond cores → IsSecondStart entry → MayEnter c cast cores entry → IsSecondAt c cast clocks phases is_cast cores entry
   at_second cores (TimePasses time) up so may = tt
   at_second cores (ReadsTime m time) up so may = tt
   at_second cores (CallsCore m call) up so may = let v = the_value _ (cores.place m).view may.1 in up m v.0 v.1
@@ -259,7 +267,7 @@ module _ (c : Cluster) (cast : Cast) (clocks : HasClocks c) (is_cast : IsCast c 
   at_second cores (Stops m) up so may = tt
   at_second cores (StartsWith m session kept) up so may = so
 
-  second_from : (cores : Cores) (entries : List CoreEntry) → UpSecond cores → AreSecondStarts entries → AreEntered c cast cores entries → AreSecondFrom c cast clocks is_cast cores entries
+  second_from : (cores : Cores) (entries : List CoreEntry) → UpSecond cores → AreSecondStarts entries → AreEntered c cast cores entries → AreSecondFrom c cast clocks phases is_cast cores entries
   second_from cores [] up so all = tt
   second_from cores (entry ∷ entries) up so all =
       (at_second cores entry up so.0 all.0, second_from (entered c cast cores entry) entries (entry_second c cast cores entry up so.0) so.1 all.1)
@@ -273,17 +281,19 @@ pub all_are_second : (c : Cluster) (cast : Cast) (early late : List CoreEntry) (
     → AreSecondStarts early → AreSecondStarts late → AreSecond (r.first ++ r.more)
 all_are_second c cast early late course r es ls =
     let none_up : UpSecond (opening_cores c cast) = λ m view e. absurd (none_is view e) in
-    let early_up = up_after c cast course.clocks course.is_cast (opening_cores c cast) early none_up es in
-    r.all_second (second_from c cast course.clocks course.is_cast (opening_cores c cast) early none_up es course.enters_early)
-    (second_from c cast course.clocks course.is_cast (early_cores c cast early) late early_up ls course.enters_late)
+    let early_up = up_after c cast course.clocks course.phases course.is_cast (opening_cores c cast) early none_up es in
+    r.all_second (second_from c cast course.clocks course.phases course.is_cast (opening_cores c cast) early none_up es course.enters_early)
+    (second_from c cast course.clocks course.phases course.is_cast (early_cores c cast early) late early_up ls course.enters_late)
 
 pub later_core : LaterCoreHasLaterTerm
-later_core c cast early late course timed on es ls s t other k n l m kl nl hs ht =
+later_core c cast early late course timed on es ls s t other k n l m kl nl phase window hs ht =
     let r = runs_of c cast early late course in
     let w = world_of c r.first in
     let z = world_of c (r.first ++ r.more) in
     let second = all_are_second c cast early late course r es ls in
     let a = held_by c cast (early_cores c cast early) w s k r.early_holds hs in
     let b = held_by c cast (late_cores c cast early late) z t n r.late_holds ht in
-    runs_rise c course.clocks timed on r.first r.more r.run_all second s t other a.0 b.0 l m
-    (ap (λ (k : Record). k.lease) a.1 ∙ kl) (ap (λ (k : Record). k.lease) b.1 ∙ nl) a.2 b.2
+    runs_rise_within c course.clocks timed course.phases on r.first r.more r.run_all second s t other a.0 b.0 l m
+    (ap (λ (k : Record). k.lease) a.1 ∙ kl) (ap (λ (k : Record). k.lease) b.1 ∙ nl) phase
+    (subst (λ (x : ℕ). IsWindow c phase x z.now) (sym r.early_holds.same_now) (subst (λ (y : ℕ). IsWindow c phase (early_cores c cast early).now y) (sym r.late_holds.same_now) window))
+    a.2 b.2

@@ -15,15 +15,17 @@ use Rattle.booth_raft.proofs.KeptLemmas.{ask_good, finish_good, release_good, re
 use Rattle.booth_raft.proofs.DueLemmas.{due_now_good, greeted_facts, noted_facts}
 use Rattle.booth_world.specs.Reading.{MayBeRead, IsLaterOrKept}
 use Rattle.booth_world.specs.Facts.{Has, Round, Answer, Gain, Release, Facts}
-use Rattle.booth_world.specs.States.{MemberState, WorldState, opening, put, Cluster, HasClocks, reads}
+use Rattle.booth_world.specs.States.{MemberState, WorldState, opening, put, Cluster, HasClocks, HasPhases, IsIn, reads}
 use Rattle.booth_world.specs.Lives.{reading_clock, crashing}
 use Rattle.booth_world.specs.Steps.{WorldStep, ReadsClock, Crashes, MemberDoes, Passes, IsRun, AreSecond, after_steps, world_of}
 use Rattle.booth_world.specs.Agreement.{IsSeated, records_in, Agrees}
 use Rattle.booth_world.specs.Messages.{IsFact, IsSaid}
 use Rattle.booth_world.specs.Gives.{Mark, AddsOnly, IsMarkedRound, IsMarkedAnswer, IsMarkedGain, Given, given_by, may_answered, releases_answered}
 use Rattle.booth_world.specs.Calls.{mark_at, Caller, IsMember, MayCall, Gives, GivesIn}
+use Rattle.booth_world.specs.Stability.{InSession}
+use Rattle.booth_world.proofs.HearSteps.{untrue}
 use Rattle.booth_world.specs.Rules.{MemberMessage, CoreCall, Asks, Hears, Greets, MeetsDeadline, MakesNote, RenewsLease, GivesBack, lease_call}
-use Rattle.booth_world.specs.Cores.{Session, CoreEntry, ReadsTime, CallsCore, HasAnswer, Stops, StartsWith, CorePlace, Cores, opening_cores, Cast, IsCast, MayCallCore, MayEnter, said_more, has_given, after_call, after_answer, mark_in, entered, AreEntered, cores_after, setup_in, TimePasses}
+use Rattle.booth_world.specs.Cores.{IsInTime, Session, CoreEntry, ReadsTime, CallsCore, HasAnswer, Stops, StartsWith, CorePlace, Cores, opening_cores, Cast, IsCast, MayCallCore, MayEnter, said_more, has_given, after_call, after_answer, mark_in, entered, AreEntered, cores_after, setup_in, TimePasses}
 use Rattle.booth_world.proofs.Lists.{none_is, some_same, put_all}
 use Rattle.booth_world.proofs.Invariant.{Good}
 use Rattle.booth_world.proofs.AskSteps.{the_value}
@@ -44,6 +46,7 @@ put_both {A} {B} Q f g m x y here there k = go (k == m) refl
 pub record CorePlaceHolds (c : Cluster) (cast : Cast) (f : Facts) (m : ℕ) (x : MemberState) (s : CorePlace) : Type 0 where
   pub same_may : records_in cast.id_of x.may ≡ s.may
   pub same_second : x.second ≡ s.session.second
+  pub same_phase : x.phase ≡ s.session.phase
   pub same_reading : x.reading ≡ s.reading
   pub same_at : x.at ≡ s.at
   pub down : s.view ≡ None → x.up ≡ false
@@ -106,13 +109,14 @@ append_none : (a : List WorldStep) → a ++ [] ≡ a
 append_none [] = refl
 append_none (x ∷ a) = ap (λ (l : List WorldStep). x ∷ l) (append_none a)
 
-module _ (c : Cluster) (cast : Cast) (clocks : HasClocks c) (is_cast : IsCast c cast) where
+module _ (c : Cluster) (cast : Cast) (clocks : HasClocks c) (phases : HasPhases c) (is_cast : IsCast c cast) where
   pub opens : CoresHold c cast (opening_cores c cast) (opening c)
   opens = record {
     same_now = refl;
     each = λ m below. record {
       same_may = refl;
       same_second = refl;
+      same_phase = refl;
       same_reading = refl;
       same_at = refl;
       down = λ e. refl;
@@ -132,6 +136,7 @@ module _ (c : Cluster) (cast : Cast) (clocks : HasClocks c) (is_cast : IsCast c 
   others_stay f f' m x y s same agree i = record {
     same_may = ap (λ (x : MemberState). records_in cast.id_of x.may) same ∙ i.same_may;
     same_second = ap (λ (x : MemberState). x.second) same ∙ i.same_second;
+    same_phase = ap (λ (x : MemberState). x.phase) same ∙ i.same_phase;
     same_reading = ap (λ (x : MemberState). x.reading) same ∙ i.same_reading;
     same_at = ap (λ (x : MemberState). x.at) same ∙ i.same_at;
     down = λ e. ap (λ (x : MemberState). x.up) same ∙ i.down e;
@@ -157,17 +162,18 @@ module _ (c : Cluster) (cast : Cast) (clocks : HasClocks c) (is_cast : IsCast c 
   same_mark cores w m i below = λ j. record {
     member = m;
     second = (i.each m below).same_second j;
+    phase = (i.each m below).same_phase j;
     reading = (i.each m below).same_reading j;
     at = (i.each m below).same_at j;
     now = i.same_now j;
   }
 
   given_holds : (cores : Cores) (steps : List WorldStep) (m : ℕ) (session : Session) (given : Given) → IsRun c (opening c) steps → CoresHold c cast cores (world_of c steps)
-      → m < c.members → GivesIn session.second c cast.id_of (world_of c steps) m given → ViewFacts (cast.setup m session) given.view
+      → m < c.members → InSession c (world_of c steps) m session.phase → GivesIn session.second session.phase c cast.id_of (world_of c steps) m given → ViewFacts (cast.setup m session) given.view
       → Reached c cast (has_given cores m session given) steps (session.second ≡ true)
-  given_holds cores steps m session given run i below gives view_facts =
+  given_holds cores steps m session given run i below set gives view_facts =
       let w = world_of c steps in
-      let call = calls_lead_on c cast.id_of w m session.second given below gives in
+      let call = calls_lead_on c cast.id_of w m session.second session.phase given below set gives in
       let next = call.2 in
       let z = after_steps c w call.0 in
       goes_on c cast (has_given cores m session given) steps call.0 (session.second ≡ true) call.3 run call.1
@@ -178,6 +184,7 @@ module _ (c : Cluster) (cast : Cast) (clocks : HasClocks c) (is_cast : IsCast c 
             (λ within. record {
               same_may = next.reached.may_now;
               same_second = next.reached.same_second;
+              same_phase = next.reached.same_phase;
               same_reading = next.reached.same_reading ∙ (i.each m below).same_reading;
               same_at = next.reached.same_at ∙ (i.each m below).same_at;
               down = λ e. absurd (none_is given.view (sym e));
@@ -189,17 +196,40 @@ module _ (c : Cluster) (cast : Cast) (clocks : HasClocks c) (is_cast : IsCast c 
         heard_now = messages_hold z.facts m given.say cores.said below next.reached.said
             (λ l h. let q = i.heard_now l h in (q.0, next.said_on l.sender l.head l.part l.head.cmd q.1));
         same_releases = next.adds.releases_now;
-        marked = subst (λ (mark : Mark). IsMarked (record mark { second = session.second } ∷ cores.marks) z.facts) (same_mark cores w m i below)
-            (marks_more (record (mark_at w m) { second = session.second }) cores.marks given.releases w.facts z.facts i.marked next.adds);
+        marked = subst (λ (mark : Mark). IsMarked (record mark { second = session.second; phase = session.phase } ∷ cores.marks) z.facts) (same_mark cores w m i below)
+            (marks_more (record (mark_at w m) { second = session.second; phase = session.phase }) cores.marks given.releases w.facts z.facts i.marked next.adds);
       })
 
+  placed_in : (cores : Cores) (w : WorldState) (m : ℕ) (view : View) → CoresHold c cast cores w → m < c.members → (cores.place m).view ≡ Some view
+      → Good c w → IsIn c (cores.place m).session.phase m
+  placed_in cores w m view i below e good =
+      let one = i.each m below in
+      subst (λ (p : ℕ). IsIn c p m) one.same_phase ((good.each m).session (one.agrees view e).up).1
+
+  -- a member that is up is in its session
+  in_session : (cores : Cores) (w : WorldState) (m : ℕ) (view : View) → CoresHold c cast cores w → m < c.members → (cores.place m).view ≡ Some view
+      → Good c w → IsInTime c cores m → InSession c w m (cores.place m).session.phase
+  in_session cores w m view i below e good timely =
+      let one = i.each m below in
+      let s = (good.each m).session (one.agrees view e).up in record {
+        opened = subst (λ (p : ℕ). (c.phase p).opens ≤ (w.member m).at) one.same_phase s.0;
+        past = (good.each m).clock.past;
+        timely = let n = i.same_now in omega (arith, n, timely);
+        placed = placed_in cores w m view i below e good;
+        own = λ up. one.same_phase;
+      }
+
   member_in : (cores : Cores) (w : WorldState) (m : ℕ) (view : View) → CoresHold c cast cores w → m < c.members → (cores.place m).view ≡ Some view
+      → Good c w → IsInTime c cores m
       → IsMember c w (record { id_of = cast.id_of; place = m; setup = setup_in cast cores m; view = view })
-  member_in cores w m view i below e = record {
+  member_in cores w m view i below e good timely = record {
     ids = is_cast.ids;
     below = below;
-    seated = subst (λ (b : Bool). IsSeated c cast.id_of m b (setup_in cast cores m)) (sym (i.each m below).same_second) (is_cast.seated m below (cores.place m).session);
-    sound = is_cast.sound m below (cores.place m).session;
+    seated = subst (λ (b : Bool). IsSeated c cast.id_of m b (w.member m).phase (setup_in cast cores m)) (sym (i.each m below).same_second)
+        (subst (λ (p : ℕ). IsSeated c cast.id_of m (cores.place m).session.second p (setup_in cast cores m)) (sym (i.each m below).same_phase)
+        (is_cast.seated m below (cores.place m).session (placed_in cores w m view i below e good)));
+    timely = subst (λ (p : ℕ). w.now ≤ (c.phase p).closes) (sym (i.each m below).same_phase) (let n = i.same_now in omega (arith, n, timely));
+    sound = is_cast.sound m below (cores.place m).session (placed_in cores w m view i below e good);
     view_facts = (i.each m below).view_facts view e;
     agrees = (i.each m below).agrees view e;
   }
@@ -219,11 +249,17 @@ module _ (c : Cluster) (cast : Cast) (clocks : HasClocks c) (is_cast : IsCast c 
   caller cores m view = record { id_of = cast.id_of; place = m; setup = setup_in cast cores m; view = view }
 
   may_call : (cores : Cores) (w : WorldState) (m : ℕ) (view : View) (call : CoreCall) → CoresHold c cast cores w → m < c.members
-      → MayCallCore cast cores m view call → MayCall c w (caller cores m view) call
+      → MayCallCore c cast cores m view call → MayCall c w (caller cores m view) call
   may_call cores w m view (Asks reason) i below may = may
   may_call cores w m view (Hears message) i below may =
-      let q = i.heard_now message may.0 in
-      record { timely = (i.each m below).same_at ∙ may.2 ∙ sym i.same_now; below = q.0; from = may.1; fact = q.1 }
+      let one = i.each m below in
+      let q = i.heard_now _ may.0 in
+      record {
+        timely = one.same_at ∙ may.2 ∙ sym i.same_now;
+        below = subst (λ (p : ℕ). message.sender < (c.phase p).seats.size) (sym one.same_phase) may.3;
+        from = subst (λ (p : ℕ). message.head.from ≡ cast.id_of ((c.phase p).seats.number message.sender)) (sym one.same_phase) may.1;
+        fact = subst (λ (p : ℕ). IsFact cast.id_of w.facts ((c.phase p).seats.number message.sender) message.head message.part message.head.cmd) (sym one.same_phase) q.1;
+      }
   may_call cores w m view Greets i below may = tt
   may_call cores w m view MeetsDeadline i below may = tt
   may_call cores w m view (MakesNote note) i below may = tt
@@ -232,11 +268,12 @@ module _ (c : Cluster) (cast : Cast) (clocks : HasClocks c) (is_cast : IsCast c 
 
   -- the session's version is the member's
   in_version : (cores : Cores) (w : WorldState) (m : ℕ) → CoresHold c cast cores w → m < c.members → (given : Given)
-      → Gives c cast.id_of w m given → GivesIn (cores.place m).session.second c cast.id_of w m given
+      → Gives c cast.id_of w m given → GivesIn (cores.place m).session.second (cores.place m).session.phase c cast.id_of w m given
   in_version cores w m i below given gives =
-      subst (λ (b : Bool). GivesIn b c cast.id_of w m given) (i.each m below).same_second gives
+      subst (λ (p : ℕ). GivesIn (cores.place m).session.second p c cast.id_of w m given) (i.each m below).same_phase
+      (subst (λ (b : Bool). GivesIn b (w.member m).phase c cast.id_of w m given) (i.each m below).same_second gives)
 
-  call_facts : (cores : Cores) (m : ℕ) (view : View) (now : ℕ) (call : CoreCall) → view.waiting ≡ None → MayCallCore cast cores m view call → now < 2 ^ 62 → ViewFacts (setup_in cast cores m) view
+  call_facts : (cores : Cores) (m : ℕ) (view : View) (now : ℕ) (call : CoreCall) → view.waiting ≡ None → MayCallCore c cast cores m view call → now < 2 ^ 62 → ViewFacts (setup_in cast cores m) view
       → ViewFacts (setup_in cast cores m) (lease_call (setup_in cast cores m) view now call).view
   call_facts cores m view now (Asks reason) none may small facts = (ask_good (setup_in cast cores m) view reason now).facts
   call_facts cores m view now (Hears message) none may small facts =
@@ -249,35 +286,38 @@ module _ (c : Cluster) (cast : Cast) (clocks : HasClocks c) (is_cast : IsCast c 
 
   -- what the world gives is what the entries count
   called : (cores : Cores) (steps : List WorldStep) (m : ℕ) (view : View) (call : CoreCall) → IsRun c (opening c) steps
-      → CoresHold c cast cores (world_of c steps) → m < c.members → (cores.place m).view ≡ Some view → view.waiting ≡ None → MayCallCore cast cores m view call
+      → CoresHold c cast cores (world_of c steps) → m < c.members → (cores.place m).view ≡ Some view → view.waiting ≡ None → MayCallCore c cast cores m view call → IsInTime c cores m
       → Reached c cast (after_call cast cores m call (Some view)) steps ((cores.place m).session.second ≡ true)
-  called cores steps m view call run i below e none may =
+  called cores steps m view call run i below e none may timely =
       let w = world_of c steps in
+      let good = good_world c clocks phases steps run in
       let one = i.each m below in
-      let gives = calls_are_steps.call_gives c clocks steps run _ (member_in cores w m view i below e) none call (may_call cores w m view call i below may) in
+      let gives = calls_are_steps.call_gives c clocks phases steps run _ (member_in cores w m view i below e good timely) none call (may_call cores w m view call i below may) in
       let by_reading = subst (λ (r : ℕ). Gives c cast.id_of w m (given_by (lease_call (setup_in cast cores m) view r call) (records_in cast.id_of (w.member m).may) w.facts.releases)) one.same_reading gives in
       let by_may = subst (λ (l : List Record). Gives c cast.id_of w m (given_by (lease_call (setup_in cast cores m) view (cores.place m).reading call) l w.facts.releases)) one.same_may by_reading in
       let by_all = subst (λ (l : List Release). Gives c cast.id_of w m (given_by (lease_call (setup_in cast cores m) view (cores.place m).reading call) (cores.place m).may l)) i.same_releases by_may in
-      given_holds cores steps m (cores.place m).session _ run i below (in_version cores w m i below _ by_all)
+      given_holds cores steps m (cores.place m).session _ run i below (in_session cores w m view i below e good timely) (in_version cores w m i below _ by_all)
       (call_facts cores m view (cores.place m).reading call none may
-      (subst (λ (r : ℕ). r < 2 ^ 62) one.same_reading (early w m (good_world c clocks steps run) below)) (one.view_facts view e))
+      (subst (λ (r : ℕ). r < 2 ^ 62) one.same_reading (early w m good below)) (one.view_facts view e))
 
   answered : (cores : Cores) (steps : List WorldStep) (m : ℕ) (view : View) (ok : Bool) → IsRun c (opening c) steps
-      → CoresHold c cast cores (world_of c steps) → m < c.members → (cores.place m).view ≡ Some view
+      → CoresHold c cast cores (world_of c steps) → m < c.members → (cores.place m).view ≡ Some view → IsInTime c cores m
       → Reached c cast (after_answer cast cores m ok (Some view)) steps ((cores.place m).session.second ≡ true)
-  answered cores steps m view ok run i below e =
+  answered cores steps m view ok run i below e timely =
       let w = world_of c steps in
+      let good = good_world c clocks phases steps run in
       let one = i.each m below in
-      let gives = calls_are_steps.answer_gives c clocks steps run _ (member_in cores w m view i below e) ok in
-      let by_reading = subst (λ (r : ℕ). Gives c cast.id_of w m (given_by (finish (setup_in cast cores m) view r ok) (may_answered view.waiting ok (records_in cast.id_of (w.member m).may)) (releases_answered (record { member = m; second = (w.member m).second; reading = r; at = (w.member m).at; now = w.now }) view.waiting ok w.facts.releases))) one.same_reading gives in
-      let by_at = subst (λ (t : ℕ). Gives c cast.id_of w m (given_by (finish (setup_in cast cores m) view (cores.place m).reading ok) (may_answered view.waiting ok (records_in cast.id_of (w.member m).may)) (releases_answered (record { member = m; second = (w.member m).second; reading = (cores.place m).reading; at = t; now = w.now }) view.waiting ok w.facts.releases))) one.same_at by_reading in
-      let by_now = subst (λ (t : ℕ). Gives c cast.id_of w m (given_by (finish (setup_in cast cores m) view (cores.place m).reading ok) (may_answered view.waiting ok (records_in cast.id_of (w.member m).may)) (releases_answered (record { member = m; second = (w.member m).second; reading = (cores.place m).reading; at = (cores.place m).at; now = t }) view.waiting ok w.facts.releases))) i.same_now by_at in
-      let by_version = subst (λ (b : Bool). Gives c cast.id_of w m (given_by (finish (setup_in cast cores m) view (cores.place m).reading ok) (may_answered view.waiting ok (records_in cast.id_of (w.member m).may)) (releases_answered (record { member = m; second = b; reading = (cores.place m).reading; at = (cores.place m).at; now = cores.now }) view.waiting ok w.facts.releases))) one.same_second by_now in
-      let by_may = subst (λ (l : List Record). Gives c cast.id_of w m (given_by (finish (setup_in cast cores m) view (cores.place m).reading ok) (may_answered view.waiting ok l) (releases_answered (mark_in cores m) view.waiting ok w.facts.releases))) one.same_may by_version in
+      let gives = calls_are_steps.answer_gives c clocks phases steps run _ (member_in cores w m view i below e good timely) ok in
+      let by_reading = subst (λ (r : ℕ). Gives c cast.id_of w m (given_by (finish (setup_in cast cores m) view r ok) (may_answered view.waiting ok (records_in cast.id_of (w.member m).may)) (releases_answered (record { member = m; second = (w.member m).second; phase = (w.member m).phase; reading = r; at = (w.member m).at; now = w.now }) view.waiting ok w.facts.releases))) one.same_reading gives in
+      let by_at = subst (λ (t : ℕ). Gives c cast.id_of w m (given_by (finish (setup_in cast cores m) view (cores.place m).reading ok) (may_answered view.waiting ok (records_in cast.id_of (w.member m).may)) (releases_answered (record { member = m; second = (w.member m).second; phase = (w.member m).phase; reading = (cores.place m).reading; at = t; now = w.now }) view.waiting ok w.facts.releases))) one.same_at by_reading in
+      let by_now = subst (λ (t : ℕ). Gives c cast.id_of w m (given_by (finish (setup_in cast cores m) view (cores.place m).reading ok) (may_answered view.waiting ok (records_in cast.id_of (w.member m).may)) (releases_answered (record { member = m; second = (w.member m).second; phase = (w.member m).phase; reading = (cores.place m).reading; at = (cores.place m).at; now = t }) view.waiting ok w.facts.releases))) i.same_now by_at in
+      let by_version = subst (λ (b : Bool). Gives c cast.id_of w m (given_by (finish (setup_in cast cores m) view (cores.place m).reading ok) (may_answered view.waiting ok (records_in cast.id_of (w.member m).may)) (releases_answered (record { member = m; second = b; phase = (w.member m).phase; reading = (cores.place m).reading; at = (cores.place m).at; now = cores.now }) view.waiting ok w.facts.releases))) one.same_second by_now in
+      let by_phase = subst (λ (p : ℕ). Gives c cast.id_of w m (given_by (finish (setup_in cast cores m) view (cores.place m).reading ok) (may_answered view.waiting ok (records_in cast.id_of (w.member m).may)) (releases_answered (record { member = m; second = (cores.place m).session.second; phase = p; reading = (cores.place m).reading; at = (cores.place m).at; now = cores.now }) view.waiting ok w.facts.releases))) one.same_phase by_version in
+      let by_may = subst (λ (l : List Record). Gives c cast.id_of w m (given_by (finish (setup_in cast cores m) view (cores.place m).reading ok) (may_answered view.waiting ok l) (releases_answered (mark_in cores m) view.waiting ok w.facts.releases))) one.same_may by_phase in
       let by_all = subst (λ (l : List Release). Gives c cast.id_of w m (given_by (finish (setup_in cast cores m) view (cores.place m).reading ok) (may_answered view.waiting ok (cores.place m).may) (releases_answered (mark_in cores m) view.waiting ok l))) i.same_releases by_may in
-      given_holds cores steps m (cores.place m).session _ run i below (in_version cores w m i below _ by_all)
+      given_holds cores steps m (cores.place m).session _ run i below (in_session cores w m view i below e good timely) (in_version cores w m i below _ by_all)
       (finish_good (setup_in cast cores m) view (cores.place m).reading ok
-      (subst (λ (r : ℕ). r < 2 ^ 62) one.same_reading (early w m (good_world c clocks steps run) below)) (one.view_facts view e)).facts
+      (subst (λ (r : ℕ). r < 2 ^ 62) one.same_reading (early w m good below)) (one.view_facts view e)).facts
 
   -- ---- time, and lives
 
@@ -294,7 +334,7 @@ module _ (c : Cluster) (cast : Cast) (clocks : HasClocks c) (is_cast : IsCast c 
   time_read cores steps m time run i below later within idle =
       let w = world_of c steps in
       goes_on c cast (entered c cast cores (ReadsTime m time)) steps (Passes time ∷ MemberDoes m ReadsClock ∷ []) (Unit {0}) (λ so. (tt, (tt, tt))) run
-      (record { later = let e = i.same_now in omega (arith, e, later); within = within }, ((below, tt), tt))
+      (record { later = let e = i.same_now in omega (arith, e, later); within = within }, ((below, tt, tt), tt))
       (record {
         same_now = refl;
         each = put_both (λ (k : ℕ) (x : MemberState) (s : CorePlace). k < c.members → CorePlaceHolds c cast w.facts k x s)
@@ -302,6 +342,7 @@ module _ (c : Cluster) (cast : Cast) (clocks : HasClocks c) (is_cast : IsCast c 
             (λ inside. record {
               same_may = (i.each m below).same_may;
               same_second = (i.each m below).same_second;
+              same_phase = (i.each m below).same_phase;
               same_reading = refl;
               same_at = refl;
               down = (i.each m below).down;
@@ -320,7 +361,7 @@ module _ (c : Cluster) (cast : Cast) (clocks : HasClocks c) (is_cast : IsCast c 
   stopped cores steps m view run i below e =
       let w = world_of c steps in
       goes_on c cast (entered c cast cores (Stops m)) steps (MemberDoes m Crashes ∷ []) (Unit {0}) (λ so. (tt, tt)) run
-      ((below, ((i.each m below).agrees view e).up), tt)
+      ((below, ((i.each m below).agrees view e).up, tt), tt)
       (record {
         same_now = i.same_now;
         each = put_both (λ (k : ℕ) (x : MemberState) (s : CorePlace). k < c.members → CorePlaceHolds c cast w.facts k x s)
@@ -328,6 +369,7 @@ module _ (c : Cluster) (cast : Cast) (clocks : HasClocks c) (is_cast : IsCast c 
             (λ inside. record {
               same_may = (i.each m below).same_may;
               same_second = (i.each m below).same_second;
+              same_phase = (i.each m below).same_phase;
               same_reading = (i.each m below).same_reading;
               same_at = (i.each m below).same_at;
               down = λ e. refl;
@@ -342,16 +384,26 @@ module _ (c : Cluster) (cast : Cast) (clocks : HasClocks c) (is_cast : IsCast c 
 
   starts_again : (cores : Cores) (steps : List WorldStep) (m : ℕ) (session : Session) (kept : Record) → IsRun c (opening c) steps → CoresHold c cast cores (world_of c steps)
       → m < c.members → (cores.place m).view ≡ None → MayBeRead (c.is_site m) (cores.place m).may kept → ((cores.place m).session.second ≡ true → session.second ≡ true)
-      → (c.goes_on ≡ true → IsLaterOrKept (cores.place m).may kept) → Reached c cast (entered c cast cores (StartsWith m session kept)) steps (session.second ≡ true)
-  starts_again cores steps m session kept run i below down read stays on =
+      → (c.goes_on ≡ true → IsLaterOrKept (cores.place m).may kept)
+      → (c.phase session.phase).opens ≤ (cores.place m).at → cores.now ≤ (c.phase session.phase).closes → IsIn c session.phase m → Reached c cast (entered c cast cores (StartsWith m session kept)) steps (session.second ≡ true)
+  starts_again cores steps m session kept run i below down read stays on opened timely placed =
       let w = world_of c steps in
+      let good = good_world c clocks phases steps run in
       let one = i.each m below in
-      let gives = calls_are_steps.start_gives c clocks steps run cast.id_of m session.second (cast.setup m session) is_cast.ids below (is_cast.seated m below session) (one.down down) (λ was. stays (sym one.same_second ∙ was)) kept
+      let gives = calls_are_steps.start_gives c clocks phases steps run cast.id_of m session.second session.phase (cast.setup m session) is_cast.ids below (is_cast.seated m below session placed) (one.down down) (λ was. stays (sym one.same_second ∙ was)) kept
       (subst (λ (l : List Record). MayBeRead (c.is_site m) l kept) (sym one.same_may) read)
       (λ going. subst (λ (l : List Record). IsLaterOrKept l kept) (sym one.same_may) (on going)) in
-      let by_reading = subst (λ (r : ℕ). GivesIn session.second c cast.id_of w m (record { view = started (cast.setup m session) kept r; say = says.Nothing; may = kept ∷ []; releases = w.facts.releases })) one.same_reading gives in
-      let by_all = subst (λ (l : List Release). GivesIn session.second c cast.id_of w m (record { view = started (cast.setup m session) kept (cores.place m).reading; say = says.Nothing; may = kept ∷ []; releases = l })) i.same_releases by_reading in
-      given_holds cores steps m session _ run i below by_all (start_facts (cast.setup m session) kept (cores.place m).reading)
+      let by_reading = subst (λ (r : ℕ). GivesIn session.second session.phase c cast.id_of w m (record { view = started (cast.setup m session) kept r; say = says.Nothing; may = kept ∷ []; releases = w.facts.releases })) one.same_reading gives in
+      let by_all = subst (λ (l : List Release). GivesIn session.second session.phase c cast.id_of w m (record { view = started (cast.setup m session) kept (cores.place m).reading; say = says.Nothing; may = kept ∷ []; releases = l })) i.same_releases by_reading in
+      given_holds cores steps m session _ run i below
+      (record {
+        opened = let a = one.same_at in omega (arith, a, opened);
+        past = (good.each m).clock.past;
+        timely = let n = i.same_now in omega (arith, n, timely);
+        placed = placed;
+        own = λ up. absurd (untrue (sym (one.down down) ∙ up));
+      })
+      by_all (start_facts (cast.setup m session) kept (cores.place m).reading)
 
   -- ---- entries
 
@@ -372,14 +424,14 @@ module _ (c : Cluster) (cast : Cast) (clocks : HasClocks c) (is_cast : IsCast c 
   enters cores (ReadsTime m time) steps run i may = time_read cores steps m time run i may.0 may.1 may.2 may.3
   enters cores (CallsCore m call) steps run i may =
       let v = the_value _ (cores.place m).view may.1 in
-      subst (λ (o : Option View). Reached c cast (after_call cast cores m call o) steps ((cores.place m).session.second ≡ true)) (sym v.1) (called cores steps m v.0 call run i may.0 v.1 v.2.0 v.2.1)
+      subst (λ (o : Option View). Reached c cast (after_call cast cores m call o) steps ((cores.place m).session.second ≡ true)) (sym v.1) (called cores steps m v.0 call run i may.0 v.1 v.2.0 v.2.1 may.2)
   enters cores (HasAnswer m kept ok) steps run i may =
       let v = the_value _ (cores.place m).view may.1 in
-      subst (λ (o : Option View). Reached c cast (after_answer cast cores m ok o) steps ((cores.place m).session.second ≡ true)) (sym v.1) (answered cores steps m v.0 ok run i may.0 v.1)
+      subst (λ (o : Option View). Reached c cast (after_answer cast cores m ok o) steps ((cores.place m).session.second ≡ true)) (sym v.1) (answered cores steps m v.0 ok run i may.0 v.1 may.2)
   enters cores (Stops m) steps run i may =
       let v = the_value _ (cores.place m).view may.1 in
       stopped cores steps m v.0 run i may.0 v.1
-  enters cores (StartsWith m session kept) steps run i may = starts_again cores steps m session kept run i may.0 may.1 may.2 may.3 may.4
+  enters cores (StartsWith m session kept) steps run i may = starts_again cores steps m session kept run i may.0 may.1 may.2 may.3 may.4 may.5 may.6 may.7
 
   pub enter_all : (cores : Cores) (entries : List CoreEntry) (steps : List WorldStep) → IsRun c (opening c) steps → CoresHold c cast cores (world_of c steps) → AreEntered c cast cores entries
       → Reached c cast (cores_after c cast cores entries) steps (AreSecondFrom cores entries)

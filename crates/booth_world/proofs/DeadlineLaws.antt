@@ -21,6 +21,7 @@ use Rattle.booth_raft.specs.GainReleaseLost.{own_end, release}
 use Rattle.booth_raft.specs.Members.{is_follower, is_leader, is_promised_elsewhere}
 use Rattle.booth_raft.specs.Messages.{state_part}
 use Rattle.booth_raft.specs.Notes.{noted}
+use Rattle.booth_raft.specs.Deadlines.{is_silent}
 use Rattle.booth_raft.specs.StartAndLearn.{holds_at_start, started}
 use Rattle.booth_raft.specs.State.{State, Step, step}
 use Rattle.booth_raft.proofs.FactsLemmas.{on_cond, on_test, untrue}
@@ -33,7 +34,7 @@ use Rattle.booth_ticket.specs.Acts.{Ask}
 use Rattle.booth_ticket.specs.Automatic.{come_due, end_job, hear, hear_job, hear_message, tick}
 use Rattle.booth_ticket.specs.Handling.{acquires}
 use Rattle.booth_ticket.specs.Keeping.{carry_out}
-use Rattle.booth_ticket.specs.Requests.{Answered, acquire_for, do_for, follow_request, grant, grant_result, is_holder, is_shown_elsewhere, refuse, refused_grant, refused_revoke, release_for, reply, revoke, revoke_result}
+use Rattle.booth_ticket.specs.Requests.{Answered, acquire_for, do_for, follow_request, grant, grant_result, is_busy, is_holder, is_shown_elsewhere, refuse, refused_grant, refused_revoke, release_for, reply, revoke, revoke_result}
 use Rattle.booth_ticket.specs.Waiting.{Left, joined, joins, staying, tell, tell_each, tell_one, waiter_of, waits}
 use Rattle.booth_ticket.proofs.CaseLemmas.{is_other}
 use Rattle.booth_ticket.proofs.WalkLemmas.{Any}
@@ -153,7 +154,7 @@ module _ (s : Setup) (view : View) (spare : ℕ) (ready : Bool) (options now : �
       on_cond IsDecided (not s.site || not (options == 0 || waits options)) _ _ (decided IARG (λ e. absurd (omega (arith, e))))
       (on_test IsDecided (is_holder s (record view { role = Follower }) now) _ _ (λ e. absurd (none_leads s.site _ e))
       (λ not_held. on_cond IsDecided (is_shown_elsewhere view.shown s.me now) _ _ (decided OVER (λ e. absurd (omega (arith, e))))
-      (on_cond IsDecided (is_promised_elsewhere view.promise s.me now) _ _ (decided BUSY (λ e. absurd (omega (arith, e))))
+      (on_cond IsDecided (is_busy s (record view { role = Follower }) now) _ _ (decided BUSY (λ e. absurd (omega (arith, e))))
       (on_cond IsDecided (not ready) _ _ (decided APRQ (λ e. absurd (omega (arith, e))))
       (on_cond IsDecided (are_terms_spent view) _ _ (decided FAIL (λ e. absurd (omega (arith, e))))
       (on_cond IsDecided (waits options && spare == 0) _ _ (decided BUSY (λ e. absurd (omega (arith, e)))) undecided))))))
@@ -165,7 +166,7 @@ module _ (s : Setup) (view : View) (spare : ℕ) (ready : Bool) (options now : �
       on_cond IsRefused (not s.site || not (options == 0 || waits options)) _ _ (is_refused IARG)
       (on_cond IsRefused (is_holder s (record view { role = role }) now) _ _ (is_refused _)
       (on_cond IsRefused (is_shown_elsewhere view.shown s.me now) _ _ (is_refused OVER)
-      (subst (λ (b : Bool). IsRefused (if not b || is_promised_elsewhere view.promise s.me now then Some BUSY else
+      (subst (λ (b : Bool). IsRefused (if not b || (is_promised_elsewhere view.promise s.me now || is_silent s view now) then Some BUSY else
       if not ready then Some APRQ else if are_terms_spent view then Some FAIL else
       if waits options && spare == 0 then Some BUSY else None)) (sym other) (is_refused BUSY))))
 

@@ -1,6 +1,6 @@
 -- The lease rules leave a deadline: who does not follow has one, and who follows tells each that it is over.
 use Rattle.std.proofs.Common.{◌≡◌, ℕ, ◌+◌, ◌*◌, ◌<◌, ◌≤◌, Bool, true, false, ◌&&◌, arith, refl, mul-le-mul_left}
-use Rattle.std.specs.Prelude.{Option, Some, None, IsSomeAnd, ◌==◌, nat_lt}
+use Rattle.std.specs.Prelude.{Option, Some, None, IsSomeAnd, ◌==◌, min, nat_lt, not}
 use Rattle.std.specs.Option.{is_none}
 use Rattle.booth_base.specs.declared.address.MemberId.{MemberId}
 use Rattle.booth_rec.specs.declared.record.Record.{Record}
@@ -25,7 +25,7 @@ use Rattle.booth_raft.specs.AskAndRenew.{answers_itself, are_terms_spent, ask, a
 use Rattle.booth_raft.specs.GainReleaseLost.{gain, record_of, release, retry_at, round_ends}
 use Rattle.booth_raft.specs.Members.{is_majority}
 use Rattle.booth_raft.specs.Messages.{asks_all}
-use Rattle.booth_raft.specs.OtherMessages.{freed, given_back, hear, is_freed_by, revoked}
+use Rattle.booth_raft.specs.OtherMessages.{freed, given_back, hear, is_bound_elsewhere, is_freed_by, revoked}
 use Rattle.booth_raft.specs.Outcome.{Outcome, keeping, saying}
 use Rattle.booth_raft.specs.RoundsAndAnswers.{answered_round, hear_answer, hear_round, is_answer_to, may_answer, promised, promises_round, shows_site, stood_down, told_by_answer, wins, with_answer, with_due}
 use Rattle.booth_raft.specs.StartAndLearn.{awaits_failover, learned, shows_leader, with_seen, with_shown}
@@ -169,7 +169,7 @@ module _ (s : Setup) (sound : IsShort s) (now : ℕ) (E : Told → Type 0) (ends
   pub renew_well : (view : View) → Well (renew s (record view { role = Leader }) now)
   renew_well view =
       on_option Well view.round _ _ (λ none. by_term view)
-      (λ round is. on_cond Well (needs_term s leads) _ _ (by_term view)
+      (λ round is. on_cond Well (needs_term s leads round) _ _ (by_term view)
       (on_cond Well (round.number == LAST_NUMBER) _ _ (runs view)
       (on_cond Well (s.second && answers_itself s leads now) _ _ (keeps_own view (round.number + 1))
       (begins_well leads (round.number + 1)))))
@@ -290,7 +290,16 @@ module _ (s : Setup) (sound : IsShort s) (now : ℕ) (E : Told → Type 0) (ends
       on_cond Well (head.options == 0) _ _ old (answer_well (with_seen view part.term) role place head part old)
   hear_well view role place head part cmds.Stat old = learns view role part old
   hear_well view role place head part cmds.MIdx old = learns view role part old
-  hear_well view role place head part cmds.Rjc old = learns view role part old
+  hear_well view role place head part cmds.Rjc old =
+      let own : View = record view { role = role } in
+      on_cond (λ (v : View). FineView (learned s v part now) tells.Nothing) (s.steady && is_bound_elsewhere own.round head part)
+      (with_seen own (min (view.term + 1) 4294967295)) own
+      (learns (with_seen view (min (view.term + 1) 4294967295)) role part old) (learns view role part old)
   hear_well view role place head part cmds.UpdE old = learns view role part old
-  hear_well view role place head part cmds.Revk old = revokes (with_seen view part.term) role head.from part.term head.reason old
+  hear_well view role place head part cmds.Revk old =
+      let own : View = with_seen (record view { role = role }) part.term in
+      on_cond (λ (v : View). FineView (revoked s v head.from part.term head.reason now) tells.Nothing)
+      (s.steady && not (head.reason == SPLT)) (record own { hello = false }) own
+      (revokes (record (with_seen view part.term) { hello = false }) role head.from part.term head.reason old)
+      (revokes (with_seen view part.term) role head.from part.term head.reason old)
   hear_well view role place head part cmd old = old

@@ -15,7 +15,7 @@ use Rattle.booth_raft.specs.declared.view.Role.{Role}
 use Rattle.booth_raft.specs.declared.view.Role.TheVariants.{Follower, Working, Candidate, Leader}
 use Rattle.booth_raft.specs.declared.view.View.{View}
 use Rattle.booth_raft.specs.AskAndRenew.{acquisition_failed, are_terms_spent, ask, finish}
-use Rattle.booth_raft.specs.Deadlines.{greeted, hello, is_tried}
+use Rattle.booth_raft.specs.Deadlines.{greeted, hello, is_sent_again, is_silent, is_tried}
 use Rattle.booth_raft.specs.GainReleaseLost.{own_end, retry_at}
 use Rattle.booth_raft.specs.Members.{is_promised_elsewhere}
 use Rattle.booth_raft.specs.Messages.{shown_end}
@@ -144,8 +144,9 @@ module _ (s : Setup) (sound : IsShort s) (now : ℕ) (E : Told → Type 0) (ends
       on_cond Goes (nat_lt 0 view.repeat) _ _ (refl, old)
       (on_cond Goes (s.site && view.managed) _ _
       (on_cond Goes (nat_lt now (shown_end view.shown)) _ _ (refl, old)
+      (on_cond Goes (is_silent s view now) _ _ (refl, old)
       (on_cond Goes (is_promised_elsewhere view.promise s.me now) _ _ (refl, old)
-      (on_cond (Always AnyAsk IsWell) ready _ _ (acquired (record view { shown = None }) job TLST) (refl, old))))
+      (on_cond (Always AnyAsk IsWell) ready _ _ (acquired (record view { shown = None }) job TLST) (refl, old)))))
       (refl, old))
     where
       Goes : Outcome → Type 0
@@ -172,7 +173,7 @@ module _ (s : Setup) (sound : IsShort s) (now : ℕ) (E : Told → Type 0) (ends
       on_cond Goes (nat_le (own_end view) now) _ _ (refl, is_lost)
       (on_cond Goes (is_some view.job) _ _ (refl, release_well s sound now E ends (record view { job = None }) LOCF no_split)
       (on_option Goes view.round _ _ (λ none. renewed view (if s.site then job else None))
-      (λ round is. on_cond Goes (not round.won && is_tried s round now) _ _ (refl, again) (renewed view (if s.site then job else None)))))
+      (λ round is. on_cond Goes (is_sent_again s view round now) _ _ (refl, again) (renewed view (if s.site then job else None)))))
     where
       Goes : Outcome → Type 0
       Goes outcome = GoesWell (record view { role = Leader }) ready job outcome
@@ -201,8 +202,8 @@ module _ (s : Setup) (sound : IsShort s) (now : ℕ) (E : Told → Type 0) (ends
   unfolding tick
   ticked view ready job old =
       always_then AnyAsk Any IsDone (say s None (hello s view now)) _ (all_any _)
-      (λ done any. always_then AnyAsk IsWell IsDone (role_due (core_of s (greeted view)) (given_of ready job)) _
-      (role_well (greeted view) view.role ready job old)
+      (λ done any. always_then AnyAsk IsWell IsDone (role_due (core_of s (greeted s view)) (given_of ready job)) _
+      (role_well (greeted s view) view.role ready job old)
       (λ begun b. carried None begun b))
 
   pub job_done : (view : View) (job : ℕ) (service : Service) → IsFine s sound now E ends view.role view

@@ -15,14 +15,14 @@ use Rattle.booth_raft.specs.declared.view.View.{View}
 use Rattle.booth_raft.specs.Members.{is_candidate, is_leader, is_promised_elsewhere}
 use Rattle.booth_raft.specs.Outcome.{Outcome, quiet}
 use Rattle.booth_world.specs.Facts.{Facts}
-use Rattle.booth_world.specs.States.{Pledge, KeptRecord, MemberState, Cluster, HasClocks}
+use Rattle.booth_world.specs.States.{Pledge, KeptRecord, MemberState, Cluster, HasClocks, promise_time, expire_in}
 use Rattle.booth_world.specs.Steps.{Starts}
 use Rattle.booth_world.specs.Agreement.{seat, version_in, bound_kept, promise_kept, abstain_kept, bound_in, promise_in, record_in, Agrees}
-use Rattle.booth_base.specs.Times.{promise_of}
 use Rattle.booth_world.specs.Lives.{pledge_at_start, MayRead, GoesOn}
 use Rattle.booth_world.proofs.LifeLaws.{named_read, within_at_start}
 use Rattle.booth_world.specs.Messages.{IsSaid}
 use Rattle.booth_world.specs.Gives.{LeadsTo, mark_of}
+use Rattle.booth_world.proofs.Timely.{Works}
 use Rattle.booth_world.proofs.Lists.{none_is}
 use Rattle.booth_world.proofs.Invariant.{MemberGood, FactsGood}
 use Rattle.booth_world.proofs.Views.{on_cond, on_test, SameParts, agrees_same, rests, IsPlaced, adds_none, unkept}
@@ -30,7 +30,7 @@ use Rattle.booth_wire.specs.declared.codes.reasons.TheConstants.{RACQ}
 use Rattle.booth_raft.specs.declared.deed.Note.{Note}
 use Rattle.booth_raft.specs.declared.deed.Note.TheVariants as notes
 use Rattle.booth_raft.specs.AskAndRenew.{renew, renew_by_term, are_terms_spent, needs_term}
-use Rattle.booth_raft.specs.Deadlines.{is_tried, candidate_due, resends_or_renews, leader_works, leader_due, follower_due, due_now, greeted, hello}
+use Rattle.booth_raft.specs.Deadlines.{is_tried, candidate_due, resends_or_renews, leader_works, leader_due, follower_due, due_now, greeted, hello, is_sent_again, is_silent}
 use Rattle.booth_raft.specs.GainReleaseLost.{own_end, round_ends, without_round}
 use Rattle.booth_raft.specs.Members.{is_some_member}
 use Rattle.booth_raft.specs.Messages.{asks_again, kind_of, round_head, round_part, shown_end}
@@ -63,9 +63,9 @@ record StartsAs (id_of : ℕ → MemberId) (promise_time reading : ℕ) (o : Opt
   promise : cond (version_in o == 2) (promise_in id_of (promise_kept o)) None ≡ promise_in id_of p.promise
   abstain : cond (version_in o == 2) (abstain_kept o) (reading + promise_time) ≡ p.abstain
 
-starts_as : (id_of : ℕ → MemberId) (c : Cluster) (reading : ℕ) (o : Option Pledge) → StartsAs id_of (promise_of c.times) reading o (pledge_at_start c reading o)
-starts_as id_of c reading None = record { bound = refl; promise = refl; abstain = refl }
-starts_as id_of c reading (Some p) = record { bound = refl; promise = refl; abstain = refl }
+starts_as : (id_of : ℕ → MemberId) (c : Cluster) (phase reading : ℕ) (o : Option Pledge) → StartsAs id_of (promise_time c phase) reading o (pledge_at_start c phase reading o)
+starts_as id_of c phase reading None = record { bound = refl; promise = refl; abstain = refl }
+starts_as id_of c phase reading (Some p) = record { bound = refl; promise = refl; abstain = refl }
 
 module _ (c : Cluster) (id_of : ℕ → MemberId) (now m : ℕ) (ids : IsPlaced c id_of m) (setup : Setup) where
   -- a view that differs in parts that the world does not see
@@ -76,37 +76,37 @@ module _ (c : Cluster) (id_of : ℕ → MemberId) (now m : ℕ) (ids : IsPlaced 
   -- ---- renew
 
   renews_by_term : (f : Facts) (x : MemberState) (view : View) → MemberGood c now f m x → view.waiting ≡ None → Agrees c id_of f m view x → c.is_site m ≡ true
-      → LeadsToOutcome c id_of now m f x (renew_by_term (seat c id_of m x.second setup) view x.reading)
+      → LeadsToOutcome c id_of now m f x (renew_by_term (seat c id_of m x.second x.phase setup) view x.reading)
   renews_by_term f x view good none a site =
       on_cond (λ (q : Outcome). LeadsToOutcome c id_of now m f x q) (are_terms_spent view) _ _
       (stays f x view _ _ (record { term = refl; bound = refl; promise = refl; abstain = refl; kept = refl; round = inl refl; role = λ h. h; repeated = λ h. (h, refl); waiting = none }) a tt)
       (asks_term c id_of now m ids setup f x view RACQ good none a site)
 
-  pub renews : HasClocks c → m < c.members → (f : Facts) (x : MemberState) (view : View) → MemberGood c now f m x → FactsGood c now f → view.waiting ≡ None
-      → Agrees c id_of f m view x → c.is_site m ≡ true → 0 < c.times.expire
-      → LeadsToOutcome c id_of now m f x (renew (seat c id_of m x.second setup) view x.reading)
-  renews clocks below f x view good facts none a site lasts =
+  pub renews : HasClocks c → (f : Facts) (x : MemberState) → Works c now m x.phase → (view : View) → MemberGood c now f m x → FactsGood c now f → view.waiting ≡ None
+      → Agrees c id_of f m view x → c.is_site m ≡ true → 0 < expire_in c x.phase
+      → LeadsToOutcome c id_of now m f x (renew (seat c id_of m x.second x.phase setup) view x.reading)
+  renews clocks f x works view good facts none a site lasts =
       on_option (λ (q : Outcome). LeadsToOutcome c id_of now m f x q) view.round _ _
       (λ e. renews_by_term f x view good none a site)
-      (λ round open_so. on_test (λ (q : Outcome). LeadsToOutcome c id_of now m f x q) (needs_term (seat c id_of m x.second setup) view) _ _
+      (λ round open_so. on_test (λ (q : Outcome). LeadsToOutcome c id_of now m f x q) (needs_term (seat c id_of m x.second x.phase setup) view round) _ _
       (λ test. renews_by_term f x view good none a site)
       (λ test. on_cond (λ (q : Outcome). LeadsToOutcome c id_of now m f x q) (round.number == 4294967295) _ _
       (stays f x view _ _ (record { term = refl; bound = refl; promise = refl; abstain = refl; kept = refl; round = inl refl; role = λ h. h; repeated = λ h. (h, refl); waiting = none }) a tt)
-      (renews_in_term c id_of now m ids setup clocks below f x view round good facts none a site open_so
-      (bound_to_me c.members id_of ids.apart x.bound m a.within.bound_below ids.below (sym (ap (λ (b : Option MemberId). is_some_member b (id_of m)) a.bound) ∙ bound_true (is_some_member view.bound (id_of m)) (nat_lt view.term view.seen) test)) lasts)))
+      (renews_in_term c id_of now m ids setup clocks f x works view round good facts none a site open_so
+      (bound_to_me c.members id_of ids.apart x.bound m a.within.bound_below ids.below (sym (ap (λ (b : Option MemberId). is_some_member b (id_of m)) a.bound) ∙ bound_true (is_some_member view.bound (id_of m)) (nat_lt view.term view.seen || (setup.steady && not round.won)) test)) lasts)))
 
   -- ---- deadlines
 
   -- an open round is said again
   said_again : (f : Facts) (x : MemberState) (view : View) (round : ViewRound) → MemberGood c now f m x → Agrees c id_of f m view x → view.round ≡ Some round
-      → IsSaid id_of f m (asks_again (seat c id_of m x.second setup) view round x.reading)
+      → IsSaid id_of f m (asks_again (seat c id_of m x.second x.phase setup) view round x.reading)
   said_again f x view round good a open_so =
       let o = a.round round open_so in
       let r = good.round o.own o.open_at in
-      round_said id_of f m (round_head (seat c id_of m x.second setup) view round.number) (round_part (seat c id_of m x.second setup) view x.reading) (kind_of round.number) (o.own, r.fact, o.site, r.same ∙ sym a.term, o.number)
+      round_said id_of f m (round_head (seat c id_of m x.second x.phase setup) view round.number) (round_part (seat c id_of m x.second x.phase setup) view x.reading) (kind_of round.number) (o.own, r.fact, o.site, r.same ∙ sym a.term, o.number)
 
   ends_round : (f : Facts) (x : MemberState) (view : View) → view.waiting ≡ None → Agrees c id_of f m view x → c.is_site m ≡ true
-      → LeadsToOutcome c id_of now m f x (round_ends (seat c id_of m x.second setup) view x.reading)
+      → LeadsToOutcome c id_of now m f x (round_ends (seat c id_of m x.second x.phase setup) view x.reading)
   ends_round f x view none a site =
       tries_record c id_of now m setup f x (without_round view) rules.EndRound None
       (agrees_same c id_of f m view (without_round view) x
@@ -114,27 +114,27 @@ module _ (c : Cluster) (id_of : ℕ → MemberId) (now m : ℕ) (ids : IsPlaced 
       tt site
 
   candidate : (f : Facts) (x : MemberState) (view : View) → MemberGood c now f m x → view.waiting ≡ None → Agrees c id_of f m view x → c.is_site m ≡ true
-      → LeadsToOutcome c id_of now m f x (candidate_due (seat c id_of m x.second setup) view x.reading)
+      → LeadsToOutcome c id_of now m f x (candidate_due (seat c id_of m x.second x.phase setup) view x.reading)
   candidate f x view good none a site =
       on_option (λ (q : Outcome). LeadsToOutcome c id_of now m f x q) view.round _ _
       (λ e. ends_round f x view none a site)
-      (λ round open_so. on_cond (λ (q : Outcome). LeadsToOutcome c id_of now m f x q) (is_tried (seat c id_of m x.second setup) round x.reading) _ _
+      (λ round open_so. on_cond (λ (q : Outcome). LeadsToOutcome c id_of now m f x q) (is_tried (seat c id_of m x.second x.phase setup) round x.reading) _ _
       (stays f x view _ _ (record { term = refl; bound = refl; promise = refl; abstain = refl; kept = refl; round = inl refl; role = λ h. h; repeated = λ h. (h, refl); waiting = none }) a
       (said_again f x view round good a open_so))
       (ends_round f x view none a site))
 
   resends : (f : Facts) (x : MemberState) (view : View) → MemberGood c now f m x → view.waiting ≡ None → Agrees c id_of f m view x
-      → LeadsToOutcome c id_of now m f x (resends_or_renews (seat c id_of m x.second setup) view x.reading)
+      → LeadsToOutcome c id_of now m f x (resends_or_renews (seat c id_of m x.second x.phase setup) view x.reading)
   resends f x view good none a =
       on_option (λ (q : Outcome). LeadsToOutcome c id_of now m f x q) view.round _ _
       (λ e. stays f x view _ _ (unchanged view none) a tt)
-      (λ round open_so. on_cond (λ (q : Outcome). LeadsToOutcome c id_of now m f x q) (not round.won && is_tried (seat c id_of m x.second setup) round x.reading) _ _
+      (λ round open_so. on_cond (λ (q : Outcome). LeadsToOutcome c id_of now m f x q) (is_sent_again (seat c id_of m x.second x.phase setup) view round x.reading) _ _
       (stays f x view _ _ (record { term = refl; bound = refl; promise = refl; abstain = refl; kept = refl; round = inl refl; role = λ h. h; repeated = λ h. (h, refl); waiting = none }) a
       (said_again f x view round good a open_so))
       (stays f x view _ _ (unchanged view none) a tt))
 
   works : (f : Facts) (x : MemberState) (view : View) → MemberGood c now f m x → view.waiting ≡ None → Agrees c id_of f m view x → c.is_site m ≡ true
-      → LeadsToOutcome c id_of now m f x (leader_works (seat c id_of m x.second setup) view x.reading)
+      → LeadsToOutcome c id_of now m f x (leader_works (seat c id_of m x.second x.phase setup) view x.reading)
   works f x view good none a site =
       on_cond (λ (q : Outcome). LeadsToOutcome c id_of now m f x q) (is_some view.job) _ _
       (tries_record c id_of now m setup f x (record view { job = None }) (rules.Release LOCF) None
@@ -144,14 +144,14 @@ module _ (c : Cluster) (id_of : ℕ → MemberId) (now m : ℕ) (ids : IsPlaced 
       (resends f x view good none a)
 
   leader : (f : Facts) (x : MemberState) (view : View) → MemberGood c now f m x → view.waiting ≡ None → Agrees c id_of f m view x → c.is_site m ≡ true
-      → LeadsToOutcome c id_of now m f x (leader_due (seat c id_of m x.second setup) view x.reading)
+      → LeadsToOutcome c id_of now m f x (leader_due (seat c id_of m x.second x.phase setup) view x.reading)
   leader f x view good none a site =
       on_cond (λ (q : Outcome). LeadsToOutcome c id_of now m f x q) (nat_le (own_end view) x.reading) _ _
       (stays f x view _ _ (record { term = refl; bound = refl; promise = refl; abstain = refl; kept = refl; round = inr refl; role = λ h. absurd (untrue h); repeated = λ h. (h, refl); waiting = none }) a tt)
       (works f x view good none a site)
 
   follower : (f : Facts) (x : MemberState) (view : View) → view.waiting ≡ None → Agrees c id_of f m view x
-      → LeadsToOutcome c id_of now m f x (follower_due (seat c id_of m x.second setup) view x.reading)
+      → LeadsToOutcome c id_of now m f x (follower_due (seat c id_of m x.second x.phase setup) view x.reading)
   follower f x view none a =
       on_test (λ (q : Outcome). LeadsToOutcome c id_of now m f x q) (nat_lt 0 view.repeat) _ _
       (λ test.
@@ -160,16 +160,18 @@ module _ (c : Cluster) (id_of : ℕ → MemberId) (now m : ℕ) (ids : IsPlaced 
       (λ test. on_cond (λ (q : Outcome). LeadsToOutcome c id_of now m f x q) (c.is_site m && view.managed) _ _
       (on_cond (λ (q : Outcome). LeadsToOutcome c id_of now m f x q) (nat_lt x.reading (shown_end view.shown)) _ _
       (stays f x view _ _ (record { term = refl; bound = refl; promise = refl; abstain = refl; kept = refl; round = inl refl; role = λ h. h; repeated = λ h. (h, refl); waiting = none }) a tt)
+      (on_cond (λ (q : Outcome). LeadsToOutcome c id_of now m f x q) (is_silent (seat c id_of m x.second x.phase setup) view x.reading) _ _
+      (stays f x view _ _ (record { term = refl; bound = refl; promise = refl; abstain = refl; kept = refl; round = inl refl; role = λ h. h; repeated = λ h. (h, refl); waiting = none }) a tt)
       (on_cond (λ (q : Outcome). LeadsToOutcome c id_of now m f x q) (is_promised_elsewhere view.promise (id_of m) x.reading) _ _
       (stays f x view _ _ (record { term = refl; bound = refl; promise = refl; abstain = refl; kept = refl; round = inl refl; role = λ h. h; repeated = λ h. (h, refl); waiting = none }) a tt)
-      (stays f x view _ _ (record { term = refl; bound = refl; promise = refl; abstain = refl; kept = refl; round = inl refl; role = λ h. h; repeated = λ h. (h, refl); waiting = none }) a tt)))
+      (stays f x view _ _ (record { term = refl; bound = refl; promise = refl; abstain = refl; kept = refl; round = inl refl; role = λ h. h; repeated = λ h. (h, refl); waiting = none }) a tt))))
       (stays f x view _ _ (record { term = refl; bound = refl; promise = refl; abstain = refl; kept = refl; round = inl refl; role = λ h. h; repeated = λ h. (h, refl); waiting = none }) a tt))
 
   pub ticks : (f : Facts) (x : MemberState) (view : View) → MemberGood c now f m x → view.waiting ≡ None → Agrees c id_of f m view x
-      → LeadsToOutcome c id_of now m f x (due_now (seat c id_of m x.second setup) view x.reading)
+      → LeadsToOutcome c id_of now m f x (due_now (seat c id_of m x.second x.phase setup) view x.reading)
   ticks f x view good none a = by_role view.role refl
     where
-      by_role : (role : Role) → view.role ≡ role → LeadsToOutcome c id_of now m f x (due_by (seat c id_of m x.second setup) view x.reading role)
+      by_role : (role : Role) → view.role ≡ role → LeadsToOutcome c id_of now m f x (due_by (seat c id_of m x.second x.phase setup) view x.reading role)
       by_role Follower e = follower f x view none a
       by_role Working e = stays f x view _ _ (unchanged view none) a tt
       by_role Candidate e = candidate f x view good none a (a.active (ap (λ (r : Role). is_candidate r || is_leader r) e))
@@ -178,7 +180,7 @@ module _ (c : Cluster) (id_of : ℕ → MemberId) (now m : ℕ) (ids : IsPlaced 
   -- ---- notes
 
   pub notes_it : (f : Facts) (x : MemberState) (view : View) (note : Note) → view.waiting ≡ None → Agrees c id_of f m view x
-      → LeadsTo c id_of (mark_of now m x) f x (unkept id_of (noted (seat c id_of m x.second setup) view x.reading note) says.Nothing f x)
+      → LeadsTo c id_of (mark_of now m x) f x (unkept id_of (noted (seat c id_of m x.second x.phase setup) view x.reading note) says.Nothing f x)
   notes_it f x view notes.Asked none a = stays f x view _ _ (record { term = refl; bound = refl; promise = refl; abstain = refl; kept = refl; round = inl refl; role = λ h. h; repeated = λ h. absurd (omega (arith, h)); waiting = none }) a tt
   notes_it f x view (notes.JobStarted job reason) none a =
       on_cond (λ (w : View). LeadsTo c id_of (mark_of now m x) f x (unkept id_of w says.Nothing f x)) (is_leader view.role) _ _
@@ -192,20 +194,20 @@ module _ (c : Cluster) (id_of : ℕ → MemberId) (now m : ℕ) (ids : IsPlaced 
   -- ---- hello
 
   pub greets : (f : Facts) (x : MemberState) (view : View) → view.waiting ≡ None → Agrees c id_of f m view x
-      → LeadsTo c id_of (mark_of now m x) f x (unkept id_of (greeted view) (hello (seat c id_of m x.second setup) view x.reading) f x)
+      → LeadsTo c id_of (mark_of now m x) f x (unkept id_of (greeted (seat c id_of m x.second x.phase setup) view) (hello (seat c id_of m x.second x.phase setup) view x.reading) f x)
   greets f x view none a =
       stays f x view _ _ (record { term = refl; bound = refl; promise = refl; abstain = refl; kept = refl; round = inl refl; role = λ h. h; repeated = λ h. (h, refl); waiting = none }) a
       (on_cond (λ (s : Say). IsSaid id_of f m s) view.hello _ _ tt tt)
 
   -- ---- start
 
-  pub starts_with : (f : Facts) (x : MemberState) (kept : KeptRecord) (second : Bool) → MemberGood c now f m x → x.up ≡ false → MayRead (c.is_site m) x.may kept
+  pub starts_with : (f : Facts) (x : MemberState) (kept : KeptRecord) (second : Bool) (phase : ℕ) → MemberGood c now f m x → x.up ≡ false → MayRead (c.is_site m) x.may kept
       → (c.goes_on ≡ true → GoesOn x.may kept) → (x.second ≡ true → second ≡ true)
-      → LeadsTo c id_of (record (mark_of now m x) { second = second }) f x
-      (record { view = started (seat c id_of m second setup) (record_in id_of kept) x.reading; say = says.Nothing; may = record_in id_of kept ∷ []; releases = f.releases })
-  starts_with f x kept second good down read on stays = record {
-    steps = Starts kept second ∷ [];
-    starts_so = (refl, tt);
+      → LeadsTo c id_of (record (mark_of now m x) { second = second; phase = phase }) f x
+      (record { view = started (seat c id_of m second phase setup) (record_in id_of kept) x.reading; say = says.Nothing; may = record_in id_of kept ∷ []; releases = f.releases })
+  starts_with f x kept second phase good down read on stays = record {
+    steps = Starts kept second phase ∷ [];
+    starts_so = ((refl, refl), tt);
     run = (record { down = down; read = read; on = on; stays = stays }, tt);
     reached = record {
       agrees = record {
@@ -214,25 +216,26 @@ module _ (c : Cluster) (id_of : ℕ → MemberId) (now m : ℕ) (ids : IsPlaced 
         bound = pledged.bound;
         promise = pledged.promise;
         abstain = pledged.abstain;
-        within = within_at_start c x.reading kept.pledge (named_read c m x kept read good.pledges);
+        within = within_at_start c phase x.reading kept.pledge (named_read c m x kept read good.pledges);
         kept = inl refl;
         round = λ r e. absurd (none_is r e);
         tried = λ w e. absurd (none_is w e);
         asked = λ w e. absurd (none_is w e);
-        active = by_test (holds_at_start (seat c id_of m second setup) (record_in id_of kept) x.reading) (first_of (c.is_site m) _);
+        active = by_test (holds_at_start (seat c id_of m second phase setup) (record_in id_of kept) x.reading) (first_of (c.is_site m) _);
         repeated = λ h. absurd (omega (arith, h));
       };
       said = tt;
       may_now = refl;
       same_second = refl;
+      same_phase = refl;
       same_reading = refl;
       same_at = refl;
     };
-    adds = adds_none (record (mark_of now m x) { second = second }) f;
+    adds = adds_none (record (mark_of now m x) { second = second; phase = phase }) f;
   }
     where
-      pledged : StartsAs id_of (promise_of c.times) x.reading kept.pledge (pledge_at_start c x.reading kept.pledge)
-      pledged = starts_as id_of c x.reading kept.pledge
+      pledged : StartsAs id_of (promise_time c phase) x.reading kept.pledge (pledge_at_start c phase x.reading kept.pledge)
+      pledged = starts_as id_of c phase x.reading kept.pledge
 
       by_test : (b : Bool) → (b ≡ true → c.is_site m ≡ true) → IsTrue (is_candidate (cond b Leader Follower) || is_leader (cond b Leader Follower)) → c.is_site m ≡ true
       by_test true site h = site refl

@@ -9,7 +9,7 @@ use Rattle.booth_raft.specs.declared.deed.Want.TheVariants as wants
 use Rattle.booth_raft.specs.declared.view.Role.{Role}
 use Rattle.booth_raft.specs.declared.view.Role.TheVariants.{Follower, Working, Candidate, Leader}
 use Rattle.booth_raft.specs.declared.view.View.{View}
-use Rattle.booth_raft.specs.Deadlines.{due_now, is_tried, waits_or_acquires, follower_due, leader_due, resends_or_renews, candidate_due}
+use Rattle.booth_raft.specs.Deadlines.{due_now, is_tried, waits_or_acquires, follower_due, leader_due, resends_or_renews, candidate_due, is_sent_again, is_silent, due_to_ask}
 use Rattle.booth_raft.specs.GainReleaseLost.{own_end}
 use Rattle.booth_raft.specs.Members.{is_promised_elsewhere, is_follower, is_leader}
 use Rattle.booth_raft.specs.Messages.{shown_end}
@@ -37,12 +37,13 @@ both_true false b e = absurd (cc)
 acquires : (s : Setup) (view : View) (now : ℕ) → IsTrue (is_follower view.role) → IsTrue s.site → Wants s (waits_or_acquires s view now)
 acquires s view now follows site =
     on_cond (Wants s) (nat_lt now (shown_end view.shown)) _ _ tt
-    (on_cond (Wants s) (is_promised_elsewhere view.promise s.me now) _ _ tt (refl, refl, site, follows))
+    (on_cond (Wants s) (is_silent s view now) _ _ tt
+    (on_cond (Wants s) (is_promised_elsewhere view.promise s.me now) _ _ tt (refl, refl, site, follows)))
 
 follower_wants : (s : Setup) (view : View) (now : ℕ) → IsTrue (is_follower view.role) → Wants s (follower_due s view now)
 follower_wants s view now follows =
     on_cond (Wants s) (nat_lt 0 view.repeat) _ _ tt
-    (on_test (Wants s) (s.site && view.managed) (waits_or_acquires s view now) (quiet (record view { due = None }))
+    (on_test (Wants s) (s.site && view.managed) (waits_or_acquires s view now) (quiet (record view { due = due_to_ask s view now }))
     (λ e. acquires s view now follows (both_true s.site view.managed e)) (λ e. tt))
 
 candidate_wants : (s : Setup) (view : View) (now : ℕ) → Wants s (candidate_due s view now)
@@ -52,7 +53,7 @@ candidate_wants s view now =
 renews : (s : Setup) (view : View) (now : ℕ) → IsTrue (is_leader view.role) → Wants s (resends_or_renews s view now)
 renews s view now leads =
     on_option (Wants s) view.round _ _ (λ none. (refl, refl, leads))
-    (λ round is. on_cond (Wants s) (not round.won && is_tried s round now) _ _ tt (refl, refl, leads))
+    (λ round is. on_cond (Wants s) (is_sent_again s view round now) _ _ tt (refl, refl, leads))
 
 leader_wants : (s : Setup) (view : View) (now : ℕ) → IsTrue (is_leader view.role) → Wants s (leader_due s view now)
 leader_wants s view now leads =

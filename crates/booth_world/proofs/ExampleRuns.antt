@@ -8,11 +8,13 @@ use Rattle.booth_base.specs.declared.name.Name.{Name}
 use Rattle.booth_world.specs.Calls.{IsMember}
 use Rattle.booth_node.specs.Clock.{IsClock}
 use Rattle.booth_world.specs.Facts.{Has, Round, Answer, Release}
-use Rattle.booth_world.specs.States.{KeptRecord, Promise, WorldState, opening, Cluster, HasClocks, IsTimed}
+use Rattle.booth_world.specs.OnePhase.{all_seats}
+use Rattle.booth_world.specs.States.{KeptRecord, Promise, WorldState, opening, Cluster, HasClocks, IsTimed, HasPhases}
 use Rattle.booth_world.specs.Steps.{WorldStep, IsRun, happens, after_steps, world_of}
 use Rattle.booth_world.specs.Held.{Held}
-use Rattle.booth_world.specs.Examples.{ahead, behind, exact, clock_of, three, unleased, won_by, first_round, second_round, third_round, first_release, granted, renewed, released, granted_elsewhere, crashed_and_started, start, id_of_place, first_caller}
+use Rattle.booth_world.specs.Examples.{ahead, behind, exact, clock_of, example_times, three, unleased, won_by, first_round, second_round, third_round, first_release, granted, renewed, released, granted_elsewhere, crashed_and_started, start, id_of_place, first_caller}
 use Rattle.booth_world.proofs.Lists.{new_or_old, none_is, some_same}
+use Rattle.booth_world.proofs.OnePhaseLemmas.{one_phase_is_enough}
 use Rattle.booth_world.proofs.WorldGood.{bare_well}
 
 -- ---- clocks
@@ -87,6 +89,9 @@ each_clock (suc (suc m)) = near_clock exact refl exact_near
 pub three_timed : IsTimed three
 three_timed = record { ticking = omega arith; clocks = λ m h. each_clock m }
 
+pub three_phases : HasPhases three
+three_phases = (one_phase_is_enough three (all_seats 3) example_times refl (λ place below. (below, refl))).phases
+
 pub three_clocks : HasClocks three
 three_clocks = record { some = omega arith; long = λ m h. each_long m; rising = λ m h. (each_clock m).rising; begins = λ m. bare_well 3 _ }
 
@@ -104,7 +109,7 @@ only Q x h y i = ⊎_elim (λ (e : x ≡ y). subst Q e h) (λ (n : ⊥). absurd 
 pub just : (s : ℕ) → ForSome (Some s) (λ b. b ≡ s)
 just s b e = sym (some_same s b e)
 
-nobody : (s : ℕ) → ForSome None (λ b. b ≡ s)
+pub nobody : (s : ℕ) → ForSome None (λ b. b ≡ s)
 nobody s b e = absurd (none_is b e)
 
 pub no_promise : (s reading : ℕ) → ForSome None (λ (p : Promise). p.to ≢ s → p.until ≤ reading)
@@ -139,41 +144,41 @@ inactive e = cc
 
 granted_runs : IsRun three (opening three) granted
 granted_runs = (
-  (omega arith, record { down = refl; read = inl (inl refl); on = λ e. inl (inl refl); stays = λ e. e }),
+  (omega arith, record { down = refl; read = inl (inl refl); on = λ e. inl (inl refl); stays = λ e. e }, (omega arith, omega arith, (omega arith, refl))),
   (
-    (omega arith, record { down = refl; read = inl (inl refl); on = λ e. inl (inl refl); stays = λ e. e }),
+    (omega arith, record { down = refl; read = inl (inl refl); on = λ e. inl (inl refl); stays = λ e. e }, (omega arith, omega arith, (omega arith, refl))),
     (
-      (omega arith, record { down = refl; read = inl (inl refl); on = λ e. inl (inl refl); stays = λ e. e }),
+      (omega arith, record { down = refl; read = inl (inl refl); on = λ e. inl (inl refl); stays = λ e. e }, (omega arith, omega arith, (omega arith, refl))),
       (
         record { later = omega arith; within = omega arith },
         (
-          (omega arith, tt),
+          (omega arith, tt, tt),
           (
-            (omega arith, tt),
+            (omega arith, tt, tt),
             (
-              (omega arith, tt),
+              (omega arith, tt, tt),
               (
-                (omega arith, record { up = refl; above = omega arith }),
+                (omega arith, record { up = refl; above = omega arith }, λ up. omega arith),
                 (
-                  (omega arith, record { up = refl; keeper = inl refl; own_term = refl; pledge = refl; lease = tt }),
+                  (omega arith, record { up = refl; keeper = inl refl; own_term = refl; pledge = refl; lease = tt }, λ up. omega arith),
                   (
-                    (omega arith, record { up = refl; keeper = inl refl; own_term = refl; pledge = refl; lease = tt }),
+                    (omega arith, record { up = refl; keeper = inl refl; own_term = refl; pledge = refl; lease = tt }, λ up. omega arith),
                     (
-                      (omega arith, record { up = refl; site = refl; kept = only (λ (k : KeptRecord). k.term ≡ 1) (unleased 1) refl; unbound = nobody 0; no_round = λ r n. absurd n; no_release = λ r n. absurd n }),
+                      (omega arith, record { up = refl; site = refl; kept = only (λ (k : KeptRecord). k.term ≡ 1) (unleased 1) refl; unbound = nobody 0; no_round = λ r n. absurd n; no_release = λ r n. absurd n }, λ up. omega arith),
                       (
-                        (omega arith, record { up = refl; to_site = refl; below = omega arith; rested = omega arith; unpromised = no_promise 0 7; unbound = inr (refl, just 0) }),
+                        (omega arith, record { up = refl; to_site = refl; below = omega arith; rested = omega arith; unpromised = no_promise 0 7; unbound = inr (refl, just 0) }, λ up. omega arith),
                         (
-                          (omega arith, record { up = refl; fact = inl refl; own_term = refl; bound = refl; stands = refl; to = refl; for_term = refl; long = omega arith; later = omega arith; kept = λ second. absurd (inactive second) }),
+                          (omega arith, record { up = refl; fact = inl refl; own_term = refl; bound = refl; stands = refl; to = refl; for_term = refl; long = omega arith; later = omega arith; kept = λ second. absurd (inactive second) }, λ up. omega arith),
                           (
-                            (omega arith, record { up = refl; to_site = refl; below = omega arith; rested = omega arith; unpromised = no_promise 0 6; unbound = inl (omega arith) }),
+                            (omega arith, record { up = refl; to_site = refl; below = omega arith; rested = omega arith; unpromised = no_promise 0 6; unbound = inl (omega arith) }, λ up. omega arith),
                             (
-                              (omega arith, record { up = refl; fact = inl refl; own_term = refl; bound = refl; stands = refl; to = refl; for_term = refl; long = omega arith; later = omega arith; kept = λ second. absurd (inactive second) }),
+                              (omega arith, record { up = refl; fact = inl refl; own_term = refl; bound = refl; stands = refl; to = refl; for_term = refl; long = omega arith; later = omega arith; kept = λ second. absurd (inactive second) }, λ up. omega arith),
                               (
-                                (omega arith, record { up = refl; open_round = refl; majority = omega arith; answered = both [] first_round 0 (answer_of 0 first_round 7 6) (answer_of 2 first_round 6 6) refl refl refl refl; soon = omega arith }),
+                                (omega arith, record { up = refl; open_round = refl; majority = omega arith; answered = both [] first_round 0 (answer_of 0 first_round 7 6) (answer_of 2 first_round 6 6) refl refl refl refl; soon = omega arith }, λ up. omega arith),
                                 (
-                                  (omega arith, record { up = refl; keeper = inl refl; own_term = refl; pledge = refl; lease = inr (record { gained = record { round = first_round; at = 6; answers = 0 ∷ 2 ∷ [] }; fact = inl refl; open_round = refl; same = refl }) }),
+                                  (omega arith, record { up = refl; keeper = inl refl; own_term = refl; pledge = refl; lease = inr (record { gained = record { round = first_round; at = 6; answers = 0 ∷ 2 ∷ [] }; fact = inl refl; open_round = refl; same = refl }) }, λ up. omega arith),
                                   (
-                                    (omega arith, record { up = refl; keeper = inl refl; own_term = refl; pledge = refl; lease = inl (won_by first_round, inl refl, refl) }),
+                                    (omega arith, record { up = refl; keeper = inl refl; own_term = refl; pledge = refl; lease = inl (won_by first_round, inl refl, refl) }, λ up. omega arith),
                                     tt,
                                   ),
                                 ),
@@ -198,27 +203,27 @@ renewed_runs : IsRun three (world_of three granted) renewed
 renewed_runs = (
   record { later = omega arith; within = omega arith },
   (
-    (omega arith, tt),
+    (omega arith, tt, tt),
     (
-      (omega arith, tt),
+      (omega arith, tt, tt),
       (
-        (omega arith, tt),
+        (omega arith, tt, tt),
         (
-          (omega arith, record { up = refl; open_round = refl; own_term = refl; bound = refl }),
+          (omega arith, record { up = refl; open_round = refl; own_term = refl; bound = refl }, λ up. omega arith),
           (
-            (omega arith, record { up = refl; to_site = refl; below = omega arith; rested = omega arith; unpromised = same_promise (record { to = 0; term = 1; until = 12 }) 0 8 refl; unbound = inr (refl, just 0) }),
+            (omega arith, record { up = refl; to_site = refl; below = omega arith; rested = omega arith; unpromised = same_promise (record { to = 0; term = 1; until = 12 }) 0 8 refl; unbound = inr (refl, just 0) }, λ up. omega arith),
             (
-              (omega arith, record { up = refl; fact = inl refl; own_term = refl; bound = refl; stands = refl; to = refl; for_term = refl; long = omega arith; later = omega arith; kept = λ second. absurd (inactive second) }),
+              (omega arith, record { up = refl; fact = inl refl; own_term = refl; bound = refl; stands = refl; to = refl; for_term = refl; long = omega arith; later = omega arith; kept = λ second. absurd (inactive second) }, λ up. omega arith),
               (
-                (omega arith, record { up = refl; to_site = refl; below = omega arith; rested = omega arith; unpromised = same_promise (record { to = 0; term = 1; until = 11 }) 0 7 refl; unbound = inr (refl, just 0) }),
+                (omega arith, record { up = refl; to_site = refl; below = omega arith; rested = omega arith; unpromised = same_promise (record { to = 0; term = 1; until = 11 }) 0 7 refl; unbound = inr (refl, just 0) }, λ up. omega arith),
                 (
-                  (omega arith, record { up = refl; fact = inl refl; own_term = refl; bound = refl; stands = refl; to = refl; for_term = refl; long = omega arith; later = omega arith; kept = λ second. absurd (inactive second) }),
+                  (omega arith, record { up = refl; fact = inl refl; own_term = refl; bound = refl; stands = refl; to = refl; for_term = refl; long = omega arith; later = omega arith; kept = λ second. absurd (inactive second) }, λ up. omega arith),
                   (
-                    (omega arith, record { up = refl; open_round = refl; majority = omega arith; answered = both first_answers second_round 0 (answer_of 0 second_round 8 7) (answer_of 2 second_round 7 7) refl refl refl refl; soon = omega arith }),
+                    (omega arith, record { up = refl; open_round = refl; majority = omega arith; answered = both first_answers second_round 0 (answer_of 0 second_round 8 7) (answer_of 2 second_round 7 7) refl refl refl refl; soon = omega arith }, λ up. omega arith),
                     (
-                      (omega arith, record { up = refl; keeper = inl refl; own_term = refl; pledge = refl; lease = inr (record { gained = record { round = second_round; at = 7; answers = 0 ∷ 2 ∷ [] }; fact = inl refl; open_round = refl; same = refl }) }),
+                      (omega arith, record { up = refl; keeper = inl refl; own_term = refl; pledge = refl; lease = inr (record { gained = record { round = second_round; at = 7; answers = 0 ∷ 2 ∷ [] }; fact = inl refl; open_round = refl; same = refl }) }, λ up. omega arith),
                       (
-                        (omega arith, record { up = refl; keeper = inl refl; own_term = refl; pledge = refl; lease = inl (won_by second_round, inl refl, refl) }),
+                        (omega arith, record { up = refl; keeper = inl refl; own_term = refl; pledge = refl; lease = inl (won_by second_round, inl refl, refl) }, λ up. omega arith),
                         tt,
                       ),
                     ),
@@ -235,13 +240,13 @@ renewed_runs = (
 
 released_runs : IsRun three (world_of three (granted ++ renewed)) released
 released_runs = (
-  (omega arith, record { up = refl; keeper = inl refl; own_term = refl; pledge = refl; lease = tt }),
+  (omega arith, record { up = refl; keeper = inl refl; own_term = refl; pledge = refl; lease = tt }, λ up. omega arith),
   (
-    (omega arith, record { up = refl; keeper = inl refl; own_term = refl; pledge = refl; lease = tt }),
+    (omega arith, record { up = refl; keeper = inl refl; own_term = refl; pledge = refl; lease = tt }, λ up. omega arith),
     (
-      (omega arith, record { up = refl; site = refl; own_term = only (λ (k : KeptRecord). k.term ≡ 1) (unleased 1) refl; no_lease = only (λ (k : KeptRecord). k.lease ≡ None) (unleased 1) refl }),
+      (omega arith, record { up = refl; site = refl; own_term = only (λ (k : KeptRecord). k.term ≡ 1) (unleased 1) refl; no_lease = only (λ (k : KeptRecord). k.lease ≡ None) (unleased 1) refl }, λ up. omega arith),
       (
-        (omega arith, record { up = refl; fact = inl refl }),
+        (omega arith, record { up = refl; fact = inl refl }, λ up. omega arith),
         tt,
       ),
     ),
@@ -250,27 +255,27 @@ released_runs = (
 
 elsewhere_runs : IsRun three (world_of three (granted ++ renewed ++ released)) granted_elsewhere
 elsewhere_runs = (
-  (omega arith, record { up = refl; above = omega arith }),
+  (omega arith, record { up = refl; above = omega arith }, λ up. omega arith),
   (
-    (omega arith, record { up = refl; keeper = inl refl; own_term = refl; pledge = refl; lease = tt }),
+    (omega arith, record { up = refl; keeper = inl refl; own_term = refl; pledge = refl; lease = tt }, λ up. omega arith),
     (
-      (omega arith, record { up = refl; keeper = inl refl; own_term = refl; pledge = refl; lease = tt }),
+      (omega arith, record { up = refl; keeper = inl refl; own_term = refl; pledge = refl; lease = tt }, λ up. omega arith),
       (
-        (omega arith, record { up = refl; site = refl; kept = only (λ (k : KeptRecord). k.term ≡ 2) (unleased 2) refl; unbound = nobody 1; no_round = new_or_old (λ (r : Round). r.site ≡ 1 → r.term ≢ 2) second_round (first_round ∷ []) (λ e. absurd (not_one e)) (only (λ (r : Round). r.site ≡ 1 → r.term ≢ 2) first_round (λ e. absurd (not_one e))); no_release = only (λ (r : Release). r.site ≡ 1 → r.term ≢ 2) first_release (λ e. absurd (not_one e)) }),
+        (omega arith, record { up = refl; site = refl; kept = only (λ (k : KeptRecord). k.term ≡ 2) (unleased 2) refl; unbound = nobody 1; no_round = new_or_old (λ (r : Round). r.site ≡ 1 → r.term ≢ 2) second_round (first_round ∷ []) (λ e. absurd (not_one e)) (only (λ (r : Round). r.site ≡ 1 → r.term ≢ 2) first_round (λ e. absurd (not_one e))); no_release = only (λ (r : Release). r.site ≡ 1 → r.term ≢ 2) first_release (λ e. absurd (not_one e)) }, λ up. omega arith),
         (
-          (omega arith, record { up = refl; to_site = refl; below = omega arith; rested = omega arith; unpromised = no_promise 1 7; unbound = inr (refl, just 1) }),
+          (omega arith, record { up = refl; to_site = refl; below = omega arith; rested = omega arith; unpromised = no_promise 1 7; unbound = inr (refl, just 1) }, λ up. omega arith),
           (
-            (omega arith, record { up = refl; fact = inl refl; own_term = refl; bound = refl; stands = refl; to = refl; for_term = refl; long = omega arith; later = omega arith; kept = λ second. absurd (inactive second) }),
+            (omega arith, record { up = refl; fact = inl refl; own_term = refl; bound = refl; stands = refl; to = refl; for_term = refl; long = omega arith; later = omega arith; kept = λ second. absurd (inactive second) }, λ up. omega arith),
             (
-              (omega arith, record { up = refl; to_site = refl; below = omega arith; rested = omega arith; unpromised = no_promise 1 7; unbound = inl (omega arith) }),
+              (omega arith, record { up = refl; to_site = refl; below = omega arith; rested = omega arith; unpromised = no_promise 1 7; unbound = inl (omega arith) }, λ up. omega arith),
               (
-                (omega arith, record { up = refl; fact = inl refl; own_term = refl; bound = refl; stands = refl; to = refl; for_term = refl; long = omega arith; later = omega arith; kept = λ second. absurd (inactive second) }),
+                (omega arith, record { up = refl; fact = inl refl; own_term = refl; bound = refl; stands = refl; to = refl; for_term = refl; long = omega arith; later = omega arith; kept = λ second. absurd (inactive second) }, λ up. omega arith),
                 (
-                  (omega arith, record { up = refl; open_round = refl; majority = omega arith; answered = both second_answers third_round 1 (answer_of 1 third_round 7 7) (answer_of 2 third_round 7 7) refl refl refl refl; soon = omega arith }),
+                  (omega arith, record { up = refl; open_round = refl; majority = omega arith; answered = both second_answers third_round 1 (answer_of 1 third_round 7 7) (answer_of 2 third_round 7 7) refl refl refl refl; soon = omega arith }, λ up. omega arith),
                   (
-                    (omega arith, record { up = refl; keeper = inl refl; own_term = refl; pledge = refl; lease = inr (record { gained = record { round = third_round; at = 7; answers = 1 ∷ 2 ∷ [] }; fact = inl refl; open_round = refl; same = refl }) }),
+                    (omega arith, record { up = refl; keeper = inl refl; own_term = refl; pledge = refl; lease = inr (record { gained = record { round = third_round; at = 7; answers = 1 ∷ 2 ∷ [] }; fact = inl refl; open_round = refl; same = refl }) }, λ up. omega arith),
                     (
-                      (omega arith, record { up = refl; keeper = inl refl; own_term = refl; pledge = refl; lease = inl (won_by third_round, inl refl, refl) }),
+                      (omega arith, record { up = refl; keeper = inl refl; own_term = refl; pledge = refl; lease = inl (won_by third_round, inl refl, refl) }, λ up. omega arith),
                       tt,
                     ),
                   ),
@@ -303,13 +308,13 @@ elsewhere_held = (won_by third_round, record { below = omega arith; may = inl re
 
 restart_runs : IsRun three (world_of three granted) crashed_and_started
 restart_runs = (
-  (omega arith, refl),
+  (omega arith, refl, tt),
   (
-    (omega arith, refl),
+    (omega arith, refl, tt),
     (
-      (omega arith, record { down = refl; read = inl (inl refl); on = λ e. inl (inl refl); stays = λ e. e }),
+      (omega arith, record { down = refl; read = inl (inl refl); on = λ e. inl (inl refl); stays = λ e. e }, (omega arith, omega arith, (omega arith, refl))),
       (
-        (omega arith, record { down = refl; read = inl (inl refl); on = λ e. inl (inl refl); stays = λ e. e }),
+        (omega arith, record { down = refl; read = inl (inl refl); on = λ e. inl (inl refl); stays = λ e. e }, (omega arith, omega arith, (omega arith, refl))),
         tt,
       ),
     ),
@@ -332,6 +337,7 @@ started_agrees ticket = record {
   ids = same_place 3;
   below = omega arith;
   seated = refl;
+  timely = omega arith;
   sound = record {
     place = omega arith;
     members = omega arith;

@@ -29,7 +29,9 @@ use Rattle.booth_world.proofs.WorldGood.{opening_good, run_good}
 use Rattle.booth_world.proofs.WorldEntries.{has_clocks}
 use Rattle.booth_world.proofs.WorldRuns.{begins_free}
 use Rattle.booth_world.proofs.WorldGrowth.{shadows_grow}
-use Rattle.booth_world.proofs.FencedLaws.{terms_of_one}
+use Rattle.booth_world.proofs.WorldPhases.{one_phase, has_phases}
+use Rattle.booth_world.proofs.FencedPhases.{terms_of_first}
+use Rattle.booth_world.proofs.FencedWorlds.{going_clocks}
 
 -- what is told is the record's lease, and not over
 pub told_is : (setup : Setup) (view : View) (now : ℕ) (lease : Lease) → told_lease setup view now ≡ Some lease
@@ -69,7 +71,7 @@ gained_told w is_world on ticket automatic m moment lease shadow tells =
     let same : k.view ≡ tells.view = the_view (slice_get tells.resting.tickets tells.place) (setup_of tells.node tells.place tells.own) k.view tells.view k.known tells.known in
     let z = kept_of (id_at w) (state.member m).may k.view.kept k.agrees.kept in
     let told = told_is (setup_of tells.node tells.place tells.own) tells.view tells.reading lease tells.tells in
-    let good = (run_good c clocks (opening c) shadow.steps (opening_good c clocks) shadow.run) in
+    let good = (run_good c clocks (has_phases w true ticket) (opening c) shadow.steps (opening_good c clocks) shadow.run) in
     let clock = (good.each m).clock in
     let read = clock.clock in
     let past = clock.past in
@@ -89,7 +91,7 @@ pub told_terms : (w : World) → IsUntimedWorld w → IsSecondWorld w → Record
 told_terms w is_world all on ticket automatic early late between later s t first second by_s by_t same =
     let c = cluster_going true w ticket in
     let g = shadows_grow w is_world true (λ going. on) ticket automatic early late between later in
-    terms_of_one c refl g.first.steps g.more (subst (λ (steps : List WorldStep). IsRun c (opening c) steps) g.goes_on g.second.run)
+    terms_of_first c ticket.times (one_phase w true ticket) (going_clocks w is_world on ticket automatic) refl g.first.steps g.more (subst (λ (steps : List WorldStep). IsRun c (opening c) steps) g.goes_on g.second.run)
     (subst AreSecond g.goes_on (g.all_second all)) s t first second
     (gained_told w is_world on ticket automatic s early first g.first by_s)
     (subst (λ (steps : List WorldStep). HasGained c (world_of c steps) t second) g.goes_on (gained_told w is_world on ticket automatic t late second g.second by_t))

@@ -8,7 +8,7 @@ use Rattle.booth_node.specs.World.{WorldEntry, World, members_of, id_at, clock_a
 use Rattle.booth_node.specs.Held.{Moment, IsAutomatic, HoldsBy}
 use Rattle.booth_world.specs.Agreement.{record_in}
 use Rattle.booth_world.specs.Clusters.{cluster_going}
-use Rattle.booth_world.specs.States.{opening}
+use Rattle.booth_world.specs.States.{opening, HasClocks}
 use Rattle.booth_world.specs.Steps.{WorldStep, IsRun, AreSecond, world_of}
 use Rattle.booth_world.specs.Shadows.{HasShadow}
 use Rattle.booth_world.specs.Worlds.{IsLater}
@@ -16,10 +16,12 @@ use Rattle.booth_world.specs.Fencing.{HasGained, IsBelow, HasGainedAt, IsBelowAt
 use Rattle.booth_world.proofs.Lists.{some_same}
 use Rattle.booth_world.proofs.Views.{kept_of, record_has}
 use Rattle.booth_world.proofs.Holders.{lease_in_force}
-use Rattle.booth_world.proofs.Configured.{setting_of}
+use Rattle.booth_world.proofs.Configured.{going_on, setting_of}
+use Rattle.booth_world.proofs.WorldEntries.{has_clocks}
+use Rattle.booth_world.proofs.WorldPhases.{one_phase}
 use Rattle.booth_world.proofs.WorldRuns.{begins_free}
 use Rattle.booth_world.proofs.WorldGrowth.{shadows_grow}
-use Rattle.booth_world.proofs.FencedLaws.{terms_of_one, later_askers}
+use Rattle.booth_world.proofs.FencedPhases.{terms_of_first, askers_of_first}
 
 -- what a member has gained at a moment, its shadow's member has
 gained_in : (w : World) (ticket : TicketConf) (m : ℕ) (moment : Moment w) (lease : Lease) (shadow : HasShadow w true ticket moment)
@@ -58,15 +60,21 @@ in_steps w is_world all on ticket automatic early late between later =
       early_below = λ m term inside below. below_in w ticket m term early g.first inside below;
     }
 
+-- the clocks of the ticket's cluster
+pub going_clocks : (w : World) → IsUntimedWorld w → RecordsGoOn w → (ticket : TicketConf) → IsAutomatic w ticket → HasClocks (cluster_going true w ticket)
+going_clocks w is_world on ticket automatic =
+    let setting = going_on w ticket true (λ going. on) (setting_of w is_world.form ticket automatic.0 automatic.1) in
+    has_clocks w is_world.rising_clocks ticket setting (begins_free w is_world ticket setting)
+
 pub world_terms_of_one : (w : World) → IsUntimedWorld w → IsSecondWorld w → RecordsGoOn w → TermsAreOfOneIn w
 world_terms_of_one w is_world all on ticket automatic early late between later s t first second by_s by_t same =
     let x = in_steps w is_world all on ticket automatic early late between later in
-    terms_of_one (cluster_going true w ticket) refl x.first x.more x.run x.second s t first second (x.early_gained s first by_s) (x.late_gained t second by_t) same
+    terms_of_first (cluster_going true w ticket) ticket.times (one_phase w true ticket) (going_clocks w is_world on ticket automatic) refl x.first x.more x.run x.second s t first second (x.early_gained s first by_s) (x.late_gained t second by_t) same
 
 pub world_askers : (w : World) → IsUntimedWorld w → IsSecondWorld w → RecordsGoOn w → AskersHaveLaterTermsIn w
 world_askers w is_world all on ticket automatic early late between later s t first second by_s by_t below =
     let x = in_steps w is_world all on ticket automatic early late between later in
-    later_askers (cluster_going true w ticket) refl x.first x.more x.run x.second s t first second (x.early_gained s first by_s) (x.late_gained t second by_t)
+    askers_of_first (cluster_going true w ticket) ticket.times (one_phase w true ticket) (going_clocks w is_world on ticket automatic) refl x.first x.more x.run x.second s t first second (x.early_gained s first by_s) (x.late_gained t second by_t)
     (x.early_below t second.term by_t.below below)
 
 -- who holds has gained the lease: one that it began with was over at what its clock first read

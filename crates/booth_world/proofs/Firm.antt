@@ -6,13 +6,13 @@ use Rattle.std.specs.Prelude.{Option, Some, None, if◌then◌else◌}
 use Rattle.std.specs.Option.{ForSome}
 use native.Mathlib.Nat.{le_of_eq}
 use Rattle.booth_world.specs.Facts.{Has, Round, Answer, Release, Facts}
-use Rattle.booth_world.specs.States.{Pledge, KeptRecord, MemberState, WorldState, opening, Cluster, HasClocks, promise_time}
+use Rattle.booth_world.specs.States.{Pledge, KeptRecord, MemberState, WorldState, opening, Cluster, HasClocks, HasPhases, lasts_in}
 use Rattle.booth_world.specs.Rounds.{new_answer}
 use Rattle.booth_world.specs.Leases.{pledge_of, MayKeep}
 use Rattle.booth_world.specs.Lives.{pledge_at_start, GoesOn}
 use Rattle.booth_world.specs.Steps.{MemberStep, WorldStep, Elects, Renews, Promises, Answers, Gains, TriesKeep, HasKept, Releases, Clears, Learns, Crashes, Starts, ReadsClock, MemberDoes, Passes, May, member_after, facts_after, MayStep, happens, IsRun, after_steps, StartsSecond, AreSecond}
 use Rattle.booth_world.proofs.Lists.{put_all, new_or_old, none_is, some_same}
-use Rattle.booth_world.proofs.Invariant.{Freed, StateGuard, Guard, Stands, MemberGood, Good}
+use Rattle.booth_world.proofs.Invariant.{InTime, Freed, StateGuard, Guard, Stands, MemberGood, Good}
 use Rattle.booth_world.proofs.Stays.{only_one, not_up, stands_by}
 use Rattle.booth_world.proofs.PromiseLaws.{answer_apart}
 use Rattle.booth_world.proofs.ReleaseLaws.{freed_more}
@@ -40,7 +40,7 @@ pub record MemberFirm (answers : List Answer) (m : ℕ) (x : MemberState) : Type
 -- the first of two answers has the smaller term, and its promise is over by the second, or its round is freed
 pub record IsEarlier (c : Cluster) (releases : List Release) (a b : Answer) : Type 0 where
   pub below : a.round.term < b.round.term
-  pub over : (a.reading + promise_time c ≤ b.reading) ⊎ Freed releases a.round
+  pub over : InTime c a → (a.reading + lasts_in c a.round.phase ≤ b.reading) ⊎ Freed releases a.round
 
 -- two answers of one member to two sites came one after the other
 abbrev pub Ordered : Cluster → Facts → Type 0
@@ -77,9 +77,9 @@ firm_record c f m x k r may second firm =
     record { least = omega arith; same = λ e. ap bound_kept may.pledge ∙ (bound_of_pledge x second ∙ firm.same (e ∙ t)) }
 
 -- at a start the member is bound as the record is
-bound_at_start : (c : Cluster) (reading : ℕ) (o : Option Pledge) → (pledge_at_start c reading o).bound ≡ bound_kept o
-bound_at_start c reading None = refl
-bound_at_start c reading (Some pledge) = refl
+bound_at_start : (c : Cluster) (phase reading : ℕ) (o : Option Pledge) → (pledge_at_start c phase reading o).bound ≡ bound_kept o
+bound_at_start c phase reading None = refl
+bound_at_start c phase reading (Some pledge) = refl
 
 -- what goes on is firm
 firm_read : (r : Round) (may : List KeptRecord) (k : KeptRecord) → GoesOn may k
@@ -125,9 +125,9 @@ member_firm c now f m x (Clears r) i may second on = record { second = i.second;
 member_firm c now f m x (Learns t) i may second on =
     record { second = i.second; records = i.records; state = λ a h e. firm_above a.round x.term t x.bound None (i.state a h e) may.above }
 member_firm c now f m x Crashes i may second on = record { second = λ up. absurd (not_up up); state = i.state; records = i.records }
-member_firm c now f m x (Starts k is_second) i may second on = record {
+member_firm c now f m x (Starts k is_second phase) i may second on = record {
   second = λ up. second;
-  state = λ a h e. subst (λ (y : Option ℕ). IsFirm a.round k.term y) (sym (bound_at_start c x.reading k.pledge)) (firm_read a.round x.may k (may.on on) (i.records a h e));
+  state = λ a h e. subst (λ (y : Option ℕ). IsFirm a.round k.term y) (sym (bound_at_start c phase x.reading k.pledge)) (firm_read a.round x.may k (may.on on) (i.records a h e));
   records = λ a h e z hz. subst (λ (y : KeptRecord). IsFirm a.round y.term (bound_kept y.pledge)) (only_one k z hz) (firm_read a.round x.may k (may.on on) (i.records a h e));
 }
 member_firm c now f m x ReadsClock i may second on = record { second = i.second; state = i.state; records = i.records }
@@ -156,7 +156,7 @@ answers_firm c now f m x Releases i may second on = member_firm c now f m x Rele
 answers_firm c now f m x (Clears r) i may second on = member_firm c now f m x (Clears r) i may second on
 answers_firm c now f m x (Learns t) i may second on = member_firm c now f m x (Learns t) i may second on
 answers_firm c now f m x Crashes i may second on = member_firm c now f m x Crashes i may second on
-answers_firm c now f m x (Starts k is_second) i may second on = member_firm c now f m x (Starts k is_second) i may second on
+answers_firm c now f m x (Starts k is_second phase) i may second on = member_firm c now f m x (Starts k is_second phase) i may second on
 answers_firm c now f m x ReadsClock i may second on = member_firm c now f m x ReadsClock i may second on
 
 -- another member's answers are as they were
@@ -177,11 +177,11 @@ others_firm now f m x Releases k y other j = j
 others_firm now f m x (Clears r) k y other j = j
 others_firm now f m x (Learns t) k y other j = j
 others_firm now f m x Crashes k y other j = j
-others_firm now f m x (Starts z second) k y other j = j
+others_firm now f m x (Starts z second phase) k y other j = j
 others_firm now f m x ReadsClock k y other j = j
 
 earlier_more : (c : Cluster) (z : List Release) (n : Release) (a b : Answer) → IsEarlier c z a b → IsEarlier c (n ∷ z) a b
-earlier_more c z n a b e = record { below = e.below; over = ⊎_elim (λ (l : a.reading + promise_time c ≤ b.reading). inl l) (λ (f : Freed z a.round). inr (freed_more z n a.round f)) e.over }
+earlier_more c z n a b e = record { below = e.below; over = λ timed. ⊎_elim (λ (l : a.reading + lasts_in c a.round.phase ≤ b.reading). inl l) (λ (f : Freed z a.round). inr (freed_more z n a.round f)) (e.over timed) }
 
 step_ordered :
     (c : Cluster) (now : ℕ) (f : Facts) (m : ℕ) (x : MemberState) (step : MemberStep)
@@ -196,8 +196,8 @@ step_ordered c now f m x (Answers r given) good i may o =
     let differ : b.round.term ≢ x.term = λ same. other (some_same b.round.site r.site (sym (firm.same same) ∙ may.bound)) in
     record {
       below = grind (arith, l, own, differ);
-      over = answer_apart c f.releases b x r.site given may.up may.stands may.to other (good.promise given may.stands)
-          (stands_by c f.releases b x.reading (Guard c b x) (StateGuard c b x) (λ q. Stands.Guarded q.0) (good.answers b h e).stands);
+      over = λ timed. answer_apart c f.releases b x r.site given may.up may.stands may.to other (good.promise given may.stands)
+          (stands_by c f.releases b x.reading (Guard c b x) (StateGuard c b x) (λ q. Stands.Guarded q.0) ((good.answers b h e).stands timed));
     } in
     λ a b ha hb. ⊎_elim
     (λ (ea : new ≡ a). subst (λ (y : Answer). y.member ≡ b.member → y.round.site ≢ b.round.site → IsEarlier c f.releases y b ⊎ IsEarlier c f.releases b y) ea
@@ -226,7 +226,7 @@ step_ordered c now f m x (HasKept k) good i may o = o
 step_ordered c now f m x (Clears r) good i may o = o
 step_ordered c now f m x (Learns t) good i may o = o
 step_ordered c now f m x Crashes good i may o = o
-step_ordered c now f m x (Starts k second) good i may o = o
+step_ordered c now f m x (Starts k second phase) good i may o = o
 step_ordered c now f m x ReadsClock good i may o = o
 
 -- ---- runs
@@ -248,7 +248,7 @@ opening_firm c = record {
   ordered = λ a b n. absurd n;
 }
 
-pub run_firm : (c : Cluster) → HasClocks c → (w : WorldState) (steps : List WorldStep) → Good c w → Firm c w → IsRun c w steps → AreSecond steps → c.goes_on ≡ true → Firm c (after_steps c w steps)
-run_firm c clocks w [] good firm run second on = firm
-run_firm c clocks w (step ∷ steps) good firm run second on =
-    run_firm c clocks (happens c w step) steps (step_good c clocks w step good run.0) (step_firm c w step good firm run.0 second.0 on) run.1 second.1 on
+pub run_firm : (c : Cluster) → HasClocks c → HasPhases c → (w : WorldState) (steps : List WorldStep) → Good c w → Firm c w → IsRun c w steps → AreSecond steps → c.goes_on ≡ true → Firm c (after_steps c w steps)
+run_firm c clocks phases w [] good firm run second on = firm
+run_firm c clocks phases w (step ∷ steps) good firm run second on =
+    run_firm c clocks phases (happens c w step) steps (step_good c clocks phases w step good run.0) (step_firm c w step good firm run.0 second.0 on) run.1 second.1 on

@@ -5,7 +5,6 @@ use Rattle.std.specs.Option.{ForSome}
 use Rattle.std.proofs.lemmas.Bool.Decides.{nat_tests}
 use native.Mathlib.Nat.{le_refl}
 use Rattle.booth_base.specs.declared.address.MemberId.{MemberId}
-use Rattle.booth_base.specs.Times.{promise_of}
 use Rattle.booth_wire.specs.declared.message.Head.{Head}
 use Rattle.booth_wire.specs.declared.message.TicketPart.{TicketPart}
 use Rattle.booth_wire.specs.declared.message.Setup.{Setup}
@@ -26,7 +25,7 @@ use Rattle.booth_raft.specs.declared.view.Waiting.{Waiting}
 use Rattle.booth_raft.specs.Members.{is_candidate, is_leader, is_follower, is_same}
 use Rattle.booth_raft.specs.Outcome.{Outcome, keeping, quiet, saying}
 use Rattle.booth_world.specs.Facts.{Has, Round, Release, Facts}
-use Rattle.booth_world.specs.States.{KeptRecord, Promise, MemberState, Cluster}
+use Rattle.booth_world.specs.States.{KeptRecord, Promise, MemberState, Cluster, promise_time}
 use Rattle.booth_world.specs.Rounds.{new_promise, new_answer, promising}
 use Rattle.booth_world.specs.Leases.{pledge_of, MayLease, trying, cleared}
 use Rattle.booth_world.specs.Steps.{Promises, Answers, TriesKeep, Clears}
@@ -36,7 +35,7 @@ use Rattle.booth_world.specs.Gives.{LeadsTo, mark_of, given_by}
 use Rattle.booth_world.proofs.Lists.{none_is, some_same}
 use Rattle.booth_world.proofs.Invariant.{FactsGood}
 use Rattle.booth_world.proofs.Views.{on_cond, on_test, may_promise, SameParts, nothing_waits, agrees_same, rests, leads_on, IsPlaced, adds_none, adds_answer, keeper_of, lease_of, record_made}
-use Rattle.booth_raft.specs.OtherMessages.{is_freed_by, is_owner, freed, given_back, revoked}
+use Rattle.booth_raft.specs.OtherMessages.{freed, given_back, is_bound_elsewhere, is_freed_by, is_owner, refused, revoked, unasking}
 use Rattle.booth_raft.specs.RoundsAndAnswers.{may_answer, promised, told_by_answer, stood_down, shows_site, with_site, with_due, answered_round, hear_round}
 use Rattle.booth_raft.specs.StartAndLearn.{with_seen, awaits_failover, with_shown, shows_leader, with_failover, learned}
 use Rattle.booth_raft.specs.Messages.{answer_cmd, answers_round, head_of, part_of}
@@ -76,6 +75,18 @@ same_learned setup view part now none =
     (record { term = refl; bound = refl; promise = refl; abstain = refl; kept = refl; round = inl refl; role = λ h. h; repeated = λ h. (h, refl); waiting = none })
     (record { term = refl; bound = refl; promise = refl; abstain = refl; kept = refl; round = inl refl; role = λ h. h; repeated = λ h. (h, refl); waiting = none }))
     (record { term = refl; bound = refl; promise = refl; abstain = refl; kept = refl; round = inl refl; role = λ h. h; repeated = λ h. (h, refl); waiting = none })
+
+-- ---- a refusal is heard, and a release
+
+pub same_refused : (setup : Setup) (view : View) (head : Head) (part : TicketPart) → view.waiting ≡ None → SameParts view (refused setup view head part)
+same_refused setup view head part none =
+    on_cond (λ (w : View). SameParts view w) (setup.steady && is_bound_elsewhere view.round head part) _ view
+    (record { term = refl; bound = refl; promise = refl; abstain = refl; kept = refl; round = inl refl; role = λ h. h; repeated = λ h. (h, refl); waiting = none }) (unchanged view none)
+
+pub same_unasking : (setup : Setup) (view : View) (reason : ℕ) → view.waiting ≡ None → SameParts view (unasking setup view reason)
+same_unasking setup view reason none =
+    on_cond (λ (w : View). SameParts view w) (setup.steady && not (reason == SPLT)) _ view
+    (record { term = refl; bound = refl; promise = refl; abstain = refl; kept = refl; round = inl refl; role = λ h. h; repeated = λ h. (h, refl); waiting = none }) (unchanged view none)
 
 -- ---- a round is heard
 
@@ -163,7 +174,7 @@ cleared_within members (Some p) s t below =
 module _ (c : Cluster) (id_of : ℕ → MemberId) (now m : ℕ) (setup : Setup) where
   pub tries_record : (f : Facts) (x : MemberState) (view : View) (rule : Rule) (lease : Option Lease)
       → Agrees c id_of f m view x → MayLease c f x lease → IsAsked c id_of f m x view rule
-      → LeadsToOutcome c id_of now m f x (keeping view rule (record_of (seat c id_of m x.second setup) view lease) x.reading)
+      → LeadsToOutcome c id_of now m f x (keeping view rule (record_of (seat c id_of m x.second x.phase setup) view lease) x.reading)
   tries_record f x view rule lease a may asked = record {
     steps = TriesKeep tried ∷ [];
     starts_so = (tt, tt);
@@ -186,6 +197,7 @@ module _ (c : Cluster) (id_of : ℕ → MemberId) (now m : ℕ) (setup : Setup) 
       said = tt;
       may_now = ap (λ (k : Record). k ∷ records_in id_of x.may) made;
       same_second = refl;
+      same_phase = refl;
       same_reading = refl;
       same_at = refl;
     };
@@ -195,11 +207,11 @@ module _ (c : Cluster) (id_of : ℕ → MemberId) (now m : ℕ) (setup : Setup) 
       tried : KeptRecord
       tried = record { term = view.term; lease = lease; pledge = pledge_of x }
 
-      made : record_in id_of tried ≡ record_of (seat c id_of m x.second setup) view lease
+      made : record_in id_of tried ≡ record_of (seat c id_of m x.second x.phase setup) view lease
       made = record_made c id_of f m view x setup lease a
 
       after : View
-      after = (keeping view rule (record_of (seat c id_of m x.second setup) view lease) x.reading).view
+      after = (keeping view rule (record_of (seat c id_of m x.second x.phase setup) view lease) x.reading).view
 
       asked_again : (rule : Rule) → IsAsked c id_of f m x view rule → IsAsked c id_of f m (trying x tried) after rule
       asked_again rules.Gain q = q
@@ -224,7 +236,7 @@ module _ (c : Cluster) (id_of : ℕ → MemberId) (now m : ℕ) (ids : IsPlaced 
   -- the promise, in the view and in the world
   promised_agrees : (view : View) (kind : RoundKind) (head : Head) (part : TicketPart) (r : Round) (g : Facts)
       → FactsGood c now f → IsHeardOf view head part r → (0 < view.repeat → ReleaseSaid g m view.repeat_term)
-      → Agrees c id_of g m (answered_round (seat c id_of m x.second setup) view head.from kind part x.reading) (promising c m x r.site part.term)
+      → Agrees c id_of g m (answered_round (seat c id_of m x.second x.phase setup) view head.from kind part x.reading) (promising c m x r.site part.term)
   promised_agrees view kind head part r g good h repeated =
       agrees_same c id_of g m gone final _
       (record { term = s.term; bound = s.bound; promise = s.promise; abstain = s.abstain; kept = s.kept; round = inr none_final; role = s.role; repeated = s.repeated; waiting = s.waiting })
@@ -232,7 +244,7 @@ module _ (c : Cluster) (id_of : ℕ → MemberId) (now m : ℕ) (ids : IsPlaced 
         up = a.up;
         term = refl;
         bound = ap (λ (i : MemberId). let o : Option MemberId = Some i in o) h.from;
-        promise = ap (λ (i : MemberId). let o : Option ViewPromise = Some (record { to = i; term = part.term; until = x.reading + promise_of c.times }) in o) h.from;
+        promise = ap (λ (i : MemberId). let o : Option ViewPromise = Some (record { to = i; term = part.term; until = x.reading + promise_time c x.phase }) in o) h.from;
         abstain = a.abstain;
         within = record {
           bound_below = λ s e. subst (λ (s : ℕ). s < c.members) (some_same r.site s e) (good.rounds r h.fact).below;
@@ -250,16 +262,16 @@ module _ (c : Cluster) (id_of : ℕ → MemberId) (now m : ℕ) (ids : IsPlaced 
       a = h.agrees
 
       bound : View
-      bound = promised (seat c id_of m x.second setup) view head.from part.term x.reading
+      bound = promised (seat c id_of m x.second x.phase setup) view head.from part.term x.reading
 
       gone : View
       gone = record bound { round = None }
 
       final : View
-      final = answered_round (seat c id_of m x.second setup) view head.from kind part x.reading
+      final = answered_round (seat c id_of m x.second x.phase setup) view head.from kind part x.reading
 
       last : SameParts (stood_down bound) final
-      last = answering_same (seat c id_of m x.second setup) view head.from kind part x.reading h.none
+      last = answering_same (seat c id_of m x.second x.phase setup) view head.from kind part x.reading h.none
 
       s : SameParts bound final
       s = then_same bound (stood_down bound) final (stood_down_same bound h.none) last
@@ -280,7 +292,7 @@ module _ (c : Cluster) (id_of : ℕ → MemberId) (now m : ℕ) (ids : IsPlaced 
   -- Round heard in version 1: where it is answered, a promise and an answer
   answers_it : (view : View) (kind : RoundKind) (head : Head) (part : TicketPart) (r : Round) (told : Told)
       → FactsGood c now f → IsHeardOf view head part r → x.second ≡ false → may_answer view head.from part.term x.reading ≡ true
-      → LeadsToOutcome c id_of now m f x (saying (answered_round (seat c id_of m x.second setup) view head.from kind part x.reading) (answers_round (seat c id_of m x.second setup) kind head.from head.options head.request part.term) told)
+      → LeadsToOutcome c id_of now m f x (saying (answered_round (seat c id_of m x.second x.phase setup) view head.from kind part x.reading) (answers_round (seat c id_of m x.second x.phase setup) kind head.from head.options head.request part.term) told)
   answers_it view kind head part r told good h first test = record {
     steps = Promises r.site part.term ∷ Answers r (new_promise c x r.site part.term) ∷ [];
     starts_so = (tt, (tt, tt));
@@ -304,9 +316,10 @@ module _ (c : Cluster) (id_of : ℕ → MemberId) (now m : ℕ) (ids : IsPlaced 
     );
     reached = record {
       agrees = promised_agrees view kind head part r (with_answer f (new_answer m x r)) good h (h.agrees).repeated;
-      said = answer_said id_of (with_answer f (new_answer m x r)) m (head_of (seat c id_of m x.second setup) (answer_cmd kind) head.request head.options 0 0) (part_of (seat c id_of m x.second setup) head.from part.term 0) kind (new_answer m x r, inl refl, refl, sym h.from, h.term, h.number);
+      said = answer_said id_of (with_answer f (new_answer m x r)) m (head_of (seat c id_of m x.second x.phase setup) (answer_cmd kind) head.request head.options 0 0) (part_of (seat c id_of m x.second x.phase setup) head.from part.term 0) kind (new_answer m x r, inl refl, refl, sym h.from, h.term, h.number);
       may_now = refl;
       same_second = refl;
+      same_phase = refl;
       same_reading = refl;
       same_at = refl;
     };
@@ -316,9 +329,9 @@ module _ (c : Cluster) (id_of : ℕ → MemberId) (now m : ℕ) (ids : IsPlaced 
   -- Round heard in version 2: where it is promised to, a promise, and the keep of it is tried
   promises_it : (view : View) (kind : RoundKind) (head : Head) (part : TicketPart) (r : Round) (told : Told)
       → FactsGood c now f → IsHeardOf view head part r → x.second ≡ true → may_answer view head.from part.term x.reading ≡ true
-      → LeadsToOutcome c id_of now m f x (keeping (answered_round (seat c id_of m x.second setup) view head.from kind part x.reading)
+      → LeadsToOutcome c id_of now m f x (keeping (answered_round (seat c id_of m x.second x.phase setup) view head.from kind part x.reading)
       (rules.Answer kind head.from head.options head.request told)
-      (record_of (seat c id_of m x.second setup) (answered_round (seat c id_of m x.second setup) view head.from kind part x.reading) (answered_round (seat c id_of m x.second setup) view head.from kind part x.reading).kept.lease) x.reading)
+      (record_of (seat c id_of m x.second x.phase setup) (answered_round (seat c id_of m x.second x.phase setup) view head.from kind part x.reading) (answered_round (seat c id_of m x.second x.phase setup) view head.from kind part x.reading).kept.lease) x.reading)
   promises_it view kind head part r told good h second test =
       leads_on c id_of (mark_of now m x) f x _ (Promises r.site part.term ∷ [])
       (may_promise c id_of f m view x ids.apart h.agrees r.site part.term (good.rounds r h.fact).below (good.rounds r h.fact).site (may view head part r h test), tt) (tt, tt)
@@ -328,7 +341,7 @@ module _ (c : Cluster) (id_of : ℕ → MemberId) (now m : ℕ) (ids : IsPlaced 
       (record { in_second = second; round = r; fact = h.fact; site = h.from; own_term = h.term; own_number = h.number; later = past r good h.fact h.timely; is_bound = refl; given = refl }))
     where
       final : View
-      final = answered_round (seat c id_of m x.second setup) view head.from kind part x.reading
+      final = answered_round (seat c id_of m x.second x.phase setup) view head.from kind part x.reading
 
       agrees : Agrees c id_of f m final (promising c m x r.site part.term)
       agrees = promised_agrees view kind head part r f good h (h.agrees).repeated
@@ -336,7 +349,7 @@ module _ (c : Cluster) (id_of : ℕ → MemberId) (now m : ℕ) (ids : IsPlaced 
   pub hears_round : (view : View) (kind : RoundKind) (head : Head) (part : TicketPart) (r : Round)
       → FactsGood c now f → x.at ≡ now → view.waiting ≡ None → RoundFits view.term view.role view.round → Agrees c id_of f m view x
       → Has f.rounds r → head.from ≡ id_of r.site → r.term ≡ part.term → r.number ≡ head.options
-      → LeadsToOutcome c id_of now m f x (hear_round (seat c id_of m x.second setup) view kind head part x.reading)
+      → LeadsToOutcome c id_of now m f x (hear_round (seat c id_of m x.second x.phase setup) view kind head part x.reading)
   hears_round view kind head part r good timely none fits a fact from term number =
       let h : IsHeardOf view head part r = record { timely = timely; none = none; fits = fits; agrees = a; fact = fact; from = from; term = term; number = number } in
       on_test (λ (o : Outcome). LeadsToOutcome c id_of now m f x o) (may_answer view head.from part.term x.reading) _ _
@@ -385,7 +398,7 @@ module _ (c : Cluster) (id_of : ℕ → MemberId) (now m : ℕ) (ids : IsPlaced 
           freed_promise c.members id_of ids.apart x.promise z.site z.term below a.within.promise_below
           ∙ ap (λ (d : Bool). cond d None (promise_in id_of x.promise)) (sym (ap (λ (o : Option ViewPromise). is_freed_by o (id_of z.site) z.term) a.promise) ∙ test)
 
-  unmanaged_same : (view : View) (reason reading : ℕ) → view.waiting ≡ None → SameParts view (given_back (seat c id_of m x.second setup) view reason reading)
+  unmanaged_same : (view : View) (reason reading : ℕ) → view.waiting ≡ None → SameParts view (given_back (seat c id_of m x.second x.phase setup) view reason reading)
   unmanaged_same view reason reading none =
       on_cond (λ (w : View). SameParts view w) (reason == LOCF) _ _
       (on_cond (λ (w : View). SameParts view w) (is_follower view.role && c.is_site m) _ view
@@ -395,20 +408,20 @@ module _ (c : Cluster) (id_of : ℕ → MemberId) (now m : ℕ) (ids : IsPlaced 
       (record { term = refl; bound = refl; promise = refl; abstain = refl; kept = refl; round = inl refl; role = λ h. h; repeated = λ h. (h, refl); waiting = none }))
 
   revoked_same : (view : View) (site : MemberId) (term reason reading : ℕ) → view.waiting ≡ None
-      → SameParts (freed view site term) (revoked (seat c id_of m x.second setup) view site term reason reading)
+      → SameParts (freed view site term) (revoked (seat c id_of m x.second x.phase setup) view site term reason reading)
   revoked_same view site term reason reading none =
       let free : View = freed view site term in
       let hidden : View = record free { shown = None } in
       let still : free.waiting ≡ None = on_cond (λ (w : View). w.waiting ≡ None) (is_freed_by view.promise site term) _ view none none in
       on_cond (λ (w : View). SameParts free w) (nat_le view.term term && is_owner view.shown site && not (reason == SPLT)) _ _
-      (then_same free hidden (given_back (seat c id_of m x.second setup) hidden reason reading)
+      (then_same free hidden (given_back (seat c id_of m x.second x.phase setup) hidden reason reading)
       (record { term = refl; bound = refl; promise = refl; abstain = refl; kept = refl; round = inl refl; role = λ h. h; repeated = λ h. (h, refl); waiting = still })
       (unmanaged_same hidden reason reading still))
       (unchanged free still)
 
   -- a revocation that is heard: a clearing
   pub hears_release : (view : View) (reason : ℕ) (z : Release) → z.site < c.members → view.waiting ≡ None → Agrees c id_of f m view x → Has f.releases z
-      → LeadsToOutcome c id_of now m f x (quiet (revoked (seat c id_of m x.second setup) view (id_of z.site) z.term reason x.reading))
+      → LeadsToOutcome c id_of now m f x (quiet (revoked (seat c id_of m x.second x.phase setup) view (id_of z.site) z.term reason x.reading))
   hears_release view reason z below none a fact = record {
     steps = Clears z ∷ [];
     starts_so = (tt, tt);
@@ -418,6 +431,7 @@ module _ (c : Cluster) (id_of : ℕ → MemberId) (now m : ℕ) (ids : IsPlaced 
       said = tt;
       may_now = refl;
       same_second = refl;
+      same_phase = refl;
       same_reading = refl;
       same_at = refl;
     };

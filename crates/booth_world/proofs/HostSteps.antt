@@ -1,6 +1,6 @@
 -- Entries of the hosts of one ticket are entries of its lease cores, and so the ticket has one
 -- holder.
-use Rattle.std.proofs.Common.{◌≡◌, ◌≢◌, ℕ, ◌^◌, ◌<◌, List, [], ◌∷◌, ◌++◌, Bool, true, false, refl, sym, ap, ◌∙◌, subst, inl, inr, ⊎_elim, arith, ◌⊎◌}
+use Rattle.std.proofs.Common.{◌≤◌, ◌≡◌, ◌≢◌, ℕ, ◌^◌, ◌<◌, List, [], ◌∷◌, ◌++◌, Bool, true, false, refl, sym, ap, ◌∙◌, subst, inl, inr, ⊎_elim, arith, ◌⊎◌}
 use Rattle.std.specs.Prelude.{Option, Some, None, IsSomeAnd}
 use Rattle.std.specs.Option.{ForSome}
 use Rattle.booth_base.specs.Tree.{Ends, Does}
@@ -13,10 +13,10 @@ use Rattle.booth_raft.specs.StartAndLearn.{started}
 use Rattle.booth_raft.proofs.HeardLemmas.{start_facts}
 use Rattle.booth_world.specs.Reading.{IsSilentRecord, MayBeRead, IsLaterOrKept}
 use Rattle.booth_world.specs.Facts.{Has, Release}
-use Rattle.booth_world.specs.States.{put, Cluster, HasClocks, reads}
+use Rattle.booth_world.specs.States.{put, Cluster, HasClocks, HasPhases, IsIn, reads}
 use Rattle.booth_world.specs.Gives.{Given, may_answered}
 use Rattle.booth_world.specs.Rules.{MemberMessage}
-use Rattle.booth_world.specs.Cores.{Session, opening_session, CoreEntry, TimePasses, ReadsTime, HasAnswer, Stops, StartsWith, CorePlace, Cores, opening_cores, Cast, IsCast, MayEnter, has_given, answer_given, after_answer, entered, AreEntered, cores_after}
+use Rattle.booth_world.specs.Cores.{number_in, Session, opening_session, CoreEntry, TimePasses, ReadsTime, HasAnswer, Stops, StartsWith, CorePlace, Cores, opening_cores, Cast, IsCast, MayEnter, has_given, answer_given, after_answer, entered, AreEntered, cores_after}
 use Rattle.booth_world.specs.CoreLaws.{CoreHoldsBy, IsReleaseAt, IsReleaseIn}
 use Rattle.booth_world.specs.Turns.{TicketAsk, Keeps, Sends, AsksElse, TurnTree, Plan, turn_tree, MayTurn}
 use Rattle.booth_world.specs.Hosts.{MayBegin, HostEntry, LetsPass, BeginsTurn, DoesAsk, Halts, Boots, HostPlace, Hosts, opening_hosts, pending_in, pending, IsNextAsk, MayHost, begun, went_on, may_left, hosted, AreHosted, hosts_after}
@@ -25,7 +25,7 @@ use Rattle.booth_world.proofs.Lists.{none_is, some_same, put_all}
 use Rattle.booth_world.proofs.AskSteps.{the_value}
 use Rattle.booth_world.proofs.CallSteps.{put_same}
 use Rattle.booth_world.proofs.CoreReads.{ReadsAt, ReadsIn, HasRead, AreReadBy, calls_read, read_more, read_join, StartsAt, StartsIn, AreStartedBy, calls_start, start_more, start_join}
-use Rattle.booth_world.proofs.TreePlaces.{IsOwn, own_given, put_other, MayMore, more_after, IsUp, up_given, IsLater, IsIdle, IsLed, IsToldAfter, IsSeatedAt, At, Soon, at_later, at_no_more, release_split, entries_join}
+use Rattle.booth_world.proofs.TreePlaces.{IsOwn, own_given, put_other, MayMore, more_after, IsUp, up_given, IsLater, IsIdle, IsLed, IsToldAfter, IsSeatedAt, InTime, At, Soon, at_later, at_no_more, release_split, entries_join}
 use Rattle.booth_world.proofs.TurnPlaces.{plan_at, heard_at}
 
 -- ---- the relation
@@ -36,6 +36,7 @@ pub record PlaceHolds (c : Cluster) (cast : Cast) (m : ℕ) (cores : Cores) (p :
   pub in_version : (cores.place m).session ≡ p.session
   pub stands_at : (t : TurnTree) → p.tree ≡ Some t → At c cast m p.reading p.session p.may t cores
   pub is_up : (t : TurnTree) → p.tree ≡ Some t → IsUp (cores.place m)
+  pub placed : (t : TurnTree) → p.tree ≡ Some t → IsIn c p.session.phase m
   pub more : MayMore (pending p.tree p.may) (cores.place m).may
   pub only : MayMore (cores.place m).may (pending p.tree p.may)
 
@@ -63,13 +64,14 @@ still_later may more kept on goes = ⊎_elim
     (λ (y : (k : Record) × Has may k × (k.term < kept.term)). inr (y.0, on y.0 y.1, y.2))
     goes
 
-module _ (c : Cluster) (cast : Cast) (clocks : HasClocks c) (is_cast : IsCast c cast) where
+module _ (c : Cluster) (cast : Cast) (clocks : HasClocks c) (phases : HasPhases c) (is_cast : IsCast c cast) where
   place_later : (k : ℕ) (cores cores' : Cores) (p : HostPlace) → IsLater k cores cores' → PlaceHolds c cast k cores p → PlaceHolds c cast k cores' p
   place_later k cores cores' p later i = record {
     down = λ e. ap (λ (s : CorePlace). s.view) later.same ∙ i.down e;
     in_version = ap (λ (s : CorePlace). s.session) later.same ∙ i.in_version;
     stands_at = λ t e. at_later c cast k p.reading p.session p.may t cores cores' later (i.stands_at t e);
     is_up = λ t e. subst (λ (s : CorePlace). IsUp s) (sym later.same) (i.is_up t e);
+    placed = i.placed;
     more = λ r h. subst (λ (s : CorePlace). Has s.may r) (sym later.same) (i.more r h);
     only = subst (λ (s : CorePlace). MayMore s.may (pending p.tree p.may)) (sym later.same) i.only;
   }
@@ -94,13 +96,14 @@ module _ (c : Cluster) (cast : Cast) (clocks : HasClocks c) (is_cast : IsCast c 
   pending_more m now session (Does (Sends message) g) may cores h more = more
   pending_more m now session (Does AsksElse g) may cores h more = more
 
-  stands : (m : ℕ) (p : HostPlace) (t : TurnTree) (cores : Cores) → p.tree ≡ Some t → (cores.place m).session ≡ p.session → At c cast m p.reading p.session p.may t cores → IsUp (cores.place m) → MayMore p.may (cores.place m).may
+  stands : (m : ℕ) (p : HostPlace) (t : TurnTree) (cores : Cores) → p.tree ≡ Some t → (cores.place m).session ≡ p.session → At c cast m p.reading p.session p.may t cores → IsUp (cores.place m) → IsIn c p.session.phase m → MayMore p.may (cores.place m).may
       → PlaceHolds c cast m cores p
-  stands m p t cores e version h up more = record {
+  stands m p t cores e version h up placed more = record {
     in_version = version;
     down = λ none. absurd (none_is t (sym none ∙ e));
     stands_at = λ u d. subst (λ (t : TurnTree). At c cast m p.reading p.session p.may t cores) (some_same t u (sym e ∙ d)) h;
     is_up = λ u d. up;
+    placed = λ u d. placed;
     more = subst (λ (o : Option TurnTree). MayMore (pending o p.may) (cores.place m).may) (sym e) (pending_more m p.reading p.session t p.may cores h more);
     only = subst (λ (o : Option TurnTree). MayMore (cores.place m).may (pending o p.may)) (sym e) (at_no_more c cast m p.reading p.session p.may t cores h);
   }
@@ -118,8 +121,8 @@ module _ (c : Cluster) (cast : Cast) (clocks : HasClocks c) (is_cast : IsCast c 
       by_tree None more = more
       by_tree (Some t) more = by_pending t more
 
-  own_place : (m : ℕ) (session : Session) → m < c.members → IsSeatedAt c cast m session
-  own_place m session below = (ap (λ (s : Setup). s.place) (is_cast.seated m below session), ap (λ (s : Setup). s.members) (is_cast.seated m below session))
+  own_place : (m : ℕ) (session : Session) → m < c.members → IsIn c session.phase m → IsSeatedAt c cast m session
+  own_place m session below placed = ap (λ (s : Setup). s.members) (is_cast.seated m below session placed)
 
   small : (m time : ℕ) → m < c.members → time < c.span → reads c m time < 2 ^ 62
   small m time below within = let e = clocks.long m below in (clocks.rising m below).small time (omega arith)
@@ -138,14 +141,16 @@ module _ (c : Cluster) (cast : Cast) (clocks : HasClocks c) (is_cast : IsCast c 
 
   turn_soon : (m time : ℕ) (session : Session) (base : List Record) (view : View) (came : Option MemberMessage) (plan : View → Plan) (cores : Cores) → m < c.members → time < c.span
       → IsIdle (cast.setup m session) session (reads c m time) view (cores.place m) → (cores.place m).at ≡ cores.now
-      → MayMore (cores.place m).may base → ForSome came (λ l. (Has cores.said l) × (l.head.from ≡ cast.id_of l.sender))
+      → IsIn c session.phase m → InTime c cast m (reads c m time) session cores
+      → MayMore (cores.place m).may base → ForSome came (λ l. (Has cores.said (record l { sender = number_in c session l.sender })) × (l.head.from ≡ cast.id_of (number_in c session l.sender)) × (l.sender < (c.phase session.phase).seats.size))
       → MayTurn (cast.setup m session) (reads c m time) view came plan
       → Soon c cast m (reads c m time) session (At c cast m (reads c m time) session base (turn_tree (cast.setup m session) (reads c m time) view came plan)) cores
-  turn_soon m time session base view None plan cores below within idle timely only so may =
-      plan_at c cast m (reads c m time) session below (small m time below within) (own_place m session below) (plan view) base view cores idle only may
-  turn_soon m time session base view (Some message) plan cores below within idle timely only so may =
+  turn_soon m time session base view None plan cores below within idle timely placed in_time only so may =
+      plan_at c cast m (reads c m time) session below (small m time below within) (own_place m session below placed) (plan view) base view cores in_time idle only may
+  turn_soon m time session base view (Some message) plan cores below within idle timely placed in_time only so may =
       let l = so message refl in
-      heard_at c cast m (reads c m time) session below (small m time below within) (own_place m session below) message plan base view cores idle only (l.0, l.1, timely) may
+      heard_at c cast m (reads c m time) session below (small m time below within) (own_place m session below placed) message plan base view cores in_time idle only
+      (subst (λ (x : Session). (Has cores.said (record message { sender = number_in c x message.sender })) × (message.head.from ≡ cast.id_of (number_in c x message.sender)) × ((cores.place m).at ≡ cores.now) × (message.sender < (c.phase x.phase).seats.size)) (sym idle.in_version) (l.0, l.1, timely, l.2)) may
 
   begins : (hosts : Hosts) (cores : Cores) (m time : ℕ) (came : Option MemberMessage) (plan : View → Plan) → HostsHold c cast hosts cores → MayHost c cast hosts (BeginsTurn m time came plan)
       → Follows c cast (hosted c cast hosts (BeginsTurn m time came plan)) cores (IsHostReleaseAt c hosts (BeginsTurn m time came plan)) (ReadsAt (BeginsTurn m time came plan)) (StartsAt (BeginsTurn m time came plan))
@@ -164,8 +169,9 @@ module _ (c : Cluster) (cast : Cast) (clocks : HasClocks c) (is_cast : IsCast c 
           let soon = turn_soon m time session (hosts.place m).may view came plan one may.0 may.2
           (after_reading m time session view cores (hosts.place m).reading (here.stands_at (Ends view) e).0)
           (ap (λ (s : CorePlace). s.at) read)
+          (here.placed (Ends view) e) may.5
           (subst (λ (s : CorePlace). MayMore s.may (hosts.place m).may) (sym read) (here.stands_at (Ends view) e).1)
-          (λ l e. let q = may.4 l e in (i.said l q.0, q.1)) turns in
+          (λ l e. let q = may.4 l e in (i.said _ q.0, q.1, q.2)) turns in
           let end = cores_after c cast one soon.0 in
           let led : IsLed c cast m now session one soon.0 = soon.2 in (
             ReadsTime m time ∷ soon.0,
@@ -177,6 +183,7 @@ module _ (c : Cluster) (cast : Cast) (clocks : HasClocks c) (is_cast : IsCast c 
                 (turn_tree (cast.setup m session) now view came plan) end
                 (ap (λ (o : Option TurnTree). begun (cast.setup m session) now came plan o) e) (led.same_version ∙ ap (λ (s : CorePlace). s.session) read ∙ here.in_version) soon.3
                 (led.up_still (subst (λ (s : CorePlace). IsUp s) (sym read) (here.is_up (Ends view) e)))
+                (here.placed (Ends view) e)
                 (λ k h. led.more k (subst (λ (s : CorePlace). Has s.may k) (sym read) (still m (hosts.place m) cores here k h))))
                 (λ l h. led.own.said_on l (i.said l h)),
             λ z h. ⊎_elim (λ (n : ⊥). n) (λ (n : IsReleaseIn c cast one soon.0 z). led.unreleased z n) h,
@@ -223,13 +230,13 @@ module _ (c : Cluster) (cast : Cast) (clocks : HasClocks c) (is_cast : IsCast c 
       here = i.each m may.0
 
       answer_frees : (kept : Record) (g : Bool → TurnTree) (ok : Bool) (z : Release) → (hosts.place m).tree ≡ Some (Does (Keeps kept) g)
-          → IsToldAfter c.members (cores.place m) kept (g true) → IsReleaseAt cores (HasAnswer m kept ok) z → IsHostReleaseAt c hosts (DoesAsk m (Keeps kept) ok) z
+          → IsToldAfter (c.phase (hosts.place m).session.phase).seats.size (cores.place m) kept (g true) → IsReleaseAt cores (HasAnswer m kept ok) z → IsHostReleaseAt c hosts (DoesAsk m (Keeps kept) ok) z
       answer_frees kept g true z e tells h =
           let v = the_value _ (cores.place m).view h.2 in
           let waits = the_value _ (v.0).waiting v.2 in (
             h.0 ∙ ap (λ (t : ℕ). let r : Release = record { site = m; term = kept.term; at = t } in r) i.same_now,
             h.1,
-            subst (λ (o : Option TurnTree). IsSomeAnd o (RevokesAfter c.members kept.term)) (sym e) (tells v.0 v.1 waits.0 waits.1 waits.2),
+            subst (λ (o : Option TurnTree). IsSomeAnd o (RevokesAfter (c.phase (hosts.place m).session.phase).seats.size kept.term)) (sym e) (tells v.0 v.1 waits.0 waits.1 waits.2),
           )
       answer_frees kept g false z e tells h = h
 
@@ -239,47 +246,49 @@ module _ (c : Cluster) (cast : Cast) (clocks : HasClocks c) (is_cast : IsCast c 
           let h_at = here.stands_at (Does (Keeps kept) g) e in
           let q = h_at.2 ok cores (record { same = refl; said_still = λ l h. h }) in
           let one = entered c cast cores (HasAnswer m kept ok) in
-          let end = cores_after c cast one q.1.0 in
-          let led : IsLed c cast m (hosts.place m).reading (hosts.place m).session one q.1.0 = q.1.2 in
-          let own = answer_own cores m kept ok q.0 in
+          let may_enter : MayEnter c cast cores (HasAnswer m kept ok) = (q.0.0, q.0.1, subst (λ (x : Session). cores.now ≤ (c.phase x.phase).closes) (sym here.in_version) (let n = i.same_now in let l = may.2 in omega (arith, n, l))) in
+          let own = answer_own cores m kept ok may_enter in
+          let on = q.1 (let n = i.same_now in let l = may.2 in let k = own.0.same_time in omega (arith, n, l, k)) in
+          let end = cores_after c cast one on.0 in
+          let led : IsLed c cast m (hosts.place m).reading (hosts.place m).session one on.0 = on.2 in
           subst (λ (a : TicketAsk). Follows c cast (hosted c cast hosts (DoesAsk m a ok)) cores (IsHostReleaseAt c hosts (DoesAsk m a ok)) (ReadsAt (DoesAsk m a ok)) (StartsAt (DoesAsk m a ok))) same (
-            HasAnswer m kept ok ∷ q.1.0,
-            (q.0, q.1.1),
+            HasAnswer m kept ok ∷ on.0,
+            (may_enter, on.1),
             moved hosts cores end m hosts.now _ hosts.sent i (led.own.same_time ∙ own.0.same_time ∙ i.same_now)
                 (λ k other. led.own.others k other ∙ own.0.others k other)
                 (λ l h. led.own.said_on l (own.0.said_on l h))
                 (stands m (record (hosts.place m) { tree = went_on ok (hosts.place m).tree; may = may_left (Keeps kept) ok (hosts.place m).may })
-                (g ok) end (ap (λ (o : Option TurnTree). went_on ok o) e) (led.same_version ∙ own.2 ∙ here.in_version) q.1.3 (led.up_still own.1)
-                (λ k h. led.more k (answer_may cores m kept ok (hosts.place m).may q.0 (still m (hosts.place m) cores here) (here.stands_at (Does (Keeps kept) g) e).0 k h)))
+                (g ok) end (ap (λ (o : Option TurnTree). went_on ok o) e) (led.same_version ∙ own.2 ∙ here.in_version) on.3 (led.up_still own.1) (here.placed _ e)
+                (λ k h. led.more k (answer_may cores m kept ok (hosts.place m).may may_enter (still m (hosts.place m) cores here) (here.stands_at (Does (Keeps kept) g) e).0 k h)))
                 (λ l h. led.own.said_on l (own.0.said_on l (i.said l h))),
             λ z h. ⊎_elim
                 (λ (n : IsReleaseAt cores (HasAnswer m kept ok) z). answer_frees kept g ok z e h_at.3 n)
-                (λ (n : IsReleaseIn c cast one q.1.0 z). absurd (led.unreleased z n)) h,
-            (tt, calls_read c cast (ReadsAt (DoesAsk m (Keeps kept) ok)) one q.1.0 led.are_calls),
-            (tt, calls_start (StartsAt (DoesAsk m (Keeps kept) ok)) q.1.0 led.are_calls),
+                (λ (n : IsReleaseIn c cast one on.0 z). absurd (led.unreleased z n)) h,
+            (tt, calls_read c cast (ReadsAt (DoesAsk m (Keeps kept) ok)) one on.0 led.are_calls),
+            (tt, calls_start (StartsAt (DoesAsk m (Keeps kept) ok)) on.0 led.are_calls),
           )
       by_tree (Does (Sends message) g) e same =
           let h = here.stands_at (Does (Sends message) g) e in
-          let q = h.2 ok cores (record { same = refl; said_still = λ l h. h }) in
+          let q = h.2 ok cores (record { same = refl; said_still = λ l h. h }) (let n = i.same_now in let l = may.2 in omega (arith, n, l)) in
           let end = cores_after c cast cores q.0 in
           let led : IsLed c cast m (hosts.place m).reading (hosts.place m).session cores q.0 = q.2 in
           subst (λ (a : TicketAsk). Follows c cast (hosted c cast hosts (DoesAsk m a ok)) cores (IsHostReleaseAt c hosts (DoesAsk m a ok)) (ReadsAt (DoesAsk m a ok)) (StartsAt (DoesAsk m a ok))) same (
             q.0,
             q.1,
-            moved hosts cores end m hosts.now _ (message ∷ hosts.sent) i (led.own.same_time ∙ i.same_now)
+            moved hosts cores end m hosts.now _ (record message { sender = m } ∷ hosts.sent) i (led.own.same_time ∙ i.same_now)
                 led.own.others
                 led.own.said_on
                 (stands m (record (hosts.place m) { tree = went_on ok (hosts.place m).tree; may = (hosts.place m).may })
-                (g ok) end (ap (λ (o : Option TurnTree). went_on ok o) e) (led.same_version ∙ here.in_version) q.3 (led.up_still (here.is_up _ e))
+                (g ok) end (ap (λ (o : Option TurnTree). went_on ok o) e) (led.same_version ∙ here.in_version) q.3 (led.up_still (here.is_up _ e)) (here.placed _ e)
                 (λ k h. led.more k (still m (hosts.place m) cores here k h)))
-                (λ l d. led.own.said_on l (⊎_elim (λ (e : message ≡ l). subst (λ (l : MemberMessage). Has cores.said l) e h.0) (λ (old : Has hosts.sent l). i.said l old) d)),
+                (λ l d. led.own.said_on l (⊎_elim (λ (e : record message { sender = m } ≡ l). subst (λ (l : MemberMessage). Has cores.said l) e h.0) (λ (old : Has hosts.sent l). i.said l old) d)),
             λ z h. led.unreleased z h,
             calls_read c cast (ReadsAt (DoesAsk m (Sends message) ok)) cores q.0 led.are_calls,
             calls_start (StartsAt (DoesAsk m (Sends message) ok)) q.0 led.are_calls,
           )
       by_tree (Does AsksElse g) e same =
           let h = here.stands_at (Does AsksElse g) e in
-          let q = h.1 ok cores (record { same = refl; said_still = λ l h. h }) in
+          let q = h.1 ok cores (record { same = refl; said_still = λ l h. h }) (let n = i.same_now in let l = may.2 in omega (arith, n, l)) in
           let end = cores_after c cast cores q.0 in
           let led : IsLed c cast m (hosts.place m).reading (hosts.place m).session cores q.0 = q.2 in
           subst (λ (a : TicketAsk). Follows c cast (hosted c cast hosts (DoesAsk m a ok)) cores (IsHostReleaseAt c hosts (DoesAsk m a ok)) (ReadsAt (DoesAsk m a ok)) (StartsAt (DoesAsk m a ok))) same (
@@ -289,7 +298,7 @@ module _ (c : Cluster) (cast : Cast) (clocks : HasClocks c) (is_cast : IsCast c 
                 led.own.others
                 led.own.said_on
                 (stands m (record (hosts.place m) { tree = went_on ok (hosts.place m).tree; may = (hosts.place m).may })
-                (g ok) end (ap (λ (o : Option TurnTree). went_on ok o) e) (led.same_version ∙ here.in_version) q.3 (led.up_still (here.is_up _ e))
+                (g ok) end (ap (λ (o : Option TurnTree). went_on ok o) e) (led.same_version ∙ here.in_version) q.3 (led.up_still (here.is_up _ e)) (here.placed _ e)
                 (λ k h. led.more k (still m (hosts.place m) cores here k h)))
                 (λ l d. led.own.said_on l (i.said l d)),
             λ z h. led.unreleased z h,
@@ -314,6 +323,7 @@ module _ (c : Cluster) (cast : Cast) (clocks : HasClocks c) (is_cast : IsCast c 
               in_version = ap (λ (s : CorePlace). s.session) gone ∙ here.in_version;
               stands_at = λ t e. absurd (none_is t e);
               is_up = λ t e. absurd (none_is t e);
+              placed = λ t e. absurd (none_is t e);
               more = λ k h. subst (λ (s : CorePlace). Has s.may k) (sym gone) (here.more k h);
               only = subst (λ (s : CorePlace). MayMore s.may (pending (hosts.place m).tree (hosts.place m).may)) (sym gone) here.only;
             })
@@ -343,6 +353,9 @@ module _ (c : Cluster) (cast : Cast) (clocks : HasClocks c) (is_cast : IsCast c 
               subst (λ (s : CorePlace). MayBeRead (c.is_site m) s.may kept) (sym read) (still_read (c.is_site m) (hosts.place m).may (cores.place m).may kept (still m (hosts.place m) cores here) may.4),
               (λ was. may.5 (ap (λ (s : Session). s.second) (sym here.in_version) ∙ (ap (λ (s : CorePlace). s.session.second) (sym read) ∙ was))),
               (λ going. subst (λ (s : CorePlace). IsLaterOrKept s.may kept) (sym read) (still_later (hosts.place m).may (cores.place m).may kept (still m (hosts.place m) cores here) (may.6 going))),
+              subst (λ (y : ℕ). (c.phase session.phase).opens ≤ y) (ap (λ (s : CorePlace). s.at) (sym read)) may.7,
+              may.8,
+              may.9,
             ),
             tt,
           ),
@@ -363,6 +376,7 @@ module _ (c : Cluster) (cast : Cast) (clocks : HasClocks c) (is_cast : IsCast c 
               subst (λ (s : CorePlace). MayMore s.may (kept ∷ [])) (sym up) (λ k h. h),
             )
             (subst (λ (s : CorePlace). IsUp s) (sym up) tt)
+            may.9
             (λ k h. subst (λ (s : CorePlace). Has s.may k) (sym up) h))
             i.said,
         λ z h. ⊎_elim (λ (n : ⊥). n) (λ (h : ⊥ ⊎ ⊥). ⊎_elim (λ (n : ⊥). n) (λ (n : ⊥). n) h) h,
@@ -425,6 +439,7 @@ module _ (c : Cluster) (cast : Cast) (clocks : HasClocks c) (is_cast : IsCast c 
       in_version = refl;
       stands_at = λ t e. absurd (none_is t e);
       is_up = λ t e. absurd (none_is t e);
+      placed = λ t e. absurd (none_is t e);
       more = λ k h. h;
       only = λ k h. h;
     };

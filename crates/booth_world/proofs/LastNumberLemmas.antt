@@ -11,19 +11,19 @@ use Rattle.booth_ticket.proofs.CaseLemmas.{is_number, when_false, when_true}
 use Rattle.booth_world.specs.LastNumbers.{LastNumbers}
 
 last_round : (setup : Setup) (view : View) (round : Round) (now : ℕ) → view.round ≡ Some round → round.number ≡ 4294967295
-    → needs_term setup view ≡ false → renew setup view now ≡ runs_out view
+    → needs_term setup view round ≡ false → renew setup view now ≡ runs_out view
 last_round setup view round now is last unneeded =
     subst
     (λ (o : Option Round).
     (elim o [
       | None ↦ renew_by_term setup view now
       | Some r ↦
-          if needs_term setup view then renew_by_term setup view now else
+          if needs_term setup view r then renew_by_term setup view now else
           if r.number == LAST_NUMBER then runs_out view else
           renew_in_term setup view (r.number + 1) now
     ]) ≡ runs_out view)
     (sym is)
-    (when_false (λ (x : Outcome). x ≡ runs_out view) (needs_term setup view) _ _ unneeded
+    (when_false (λ (x : Outcome). x ≡ runs_out view) (needs_term setup view round) _ _ unneeded
     (when_true (λ (x : Outcome). x ≡ runs_out view) (round.number == LAST_NUMBER) (runs_out view) _ (is_number round.number LAST_NUMBER last) refl))
 
 pub last_numbers : LastNumbers

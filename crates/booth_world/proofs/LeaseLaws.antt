@@ -13,11 +13,12 @@ use Rattle.booth_world.proofs.Stays.{Stays, Law, facts_stay, not_up, stands_by}
 
 -- gain
 pub gains : (c : Cluster) (now : ℕ) (f : Facts) (m : ℕ) (x : MemberState) (r : Round) (ms : List ℕ) → Law c now f m x (Gains r ms)
-gains c now f m x r ms i g below may =
+gains c now f m x r ms i g below may timely =
     let new : Gain = record { round = r; at = now; answers = ms } in
     let more : (k : ℕ) (y : MemberState) → MemberGood c now f k y → MemberGood c now (record f { leases = new ∷ f.leases }) k y
     = λ k y j. record {
       clock = j.clock;
+      session = j.session;
       may = j.may;
       term = j.term;
       round = j.round;
@@ -45,6 +46,8 @@ gains c now f m x r ms i g below may =
             (record {
               round = (i.round r may.open_round).fact;
               past = le_refl _;
+              opened = (g.rounds r (i.round r may.open_round).fact).past;
+              closes = subst (λ (y : ℕ). now ≤ (c.phase y).closes) (sym (i.round r may.open_round).in_phase) (timely may.up);
               majority = may.majority;
               answered = λ k h. let a = may.answered k h in (a.0, a.1, a.2, a.3, (g.answers a.0 a.1).past);
             })
@@ -103,6 +106,7 @@ joins c now f m x k rest i g may part =
     let least : first.0.term ≤ k.term = let l = i.term may.up first.0 first.1 in let t = may.own_term in omega arith in
     facts_stay c now f m _ g (record {
       clock = i.clock;
+      session = i.session;
       may = record {
         some = (k, inl refl);
         own_rounds = λ r h e. new_or_old (λ (z : KeptRecord). r.term ≤ z.term) k rest (let l = i.may.own_rounds r h e first.0 first.1 in omega arith) (λ y hy. i.may.own_rounds r h e y (part y hy));
@@ -127,19 +131,19 @@ joins c now f m x k rest i g may part =
       };
       answers = λ a h e. let b = i.answers a h e in record {
         past = b.past;
-        stands = stands_by c f.releases a x.reading (Guard c a x) (Guard c a (record x { may = k ∷ rest }))
+        stands = λ timed. stands_by c f.releases a x.reading (Guard c a x) (Guard c a (record x { may = k ∷ rest }))
             (λ q. Stands.Guarded (
               q.0,
               new_or_old (λ (z : KeptRecord). (p : Pledge) → z.pledge ≡ Some p → Covers c a p.abstain p.promise) k rest
                   (λ p has. pledge_covers c a x p may.up (kept_pledge x p (sym may.pledge ∙ has)) q.0)
                   (λ y hy. q.1 y (part y hy)),
             ))
-            b.stands;
+            (b.stands timed);
       };
     })
 
 pub tries : (c : Cluster) (now : ℕ) (f : Facts) (m : ℕ) (x : MemberState) (k : KeptRecord) → Law c now f m x (TriesKeep k)
-tries c now f m x k i g below may = joins c now f m x k x.may i g may (λ y h. h)
+tries c now f m x k i g below may timely = joins c now f m x k x.may i g may (λ y h. h)
 
 pub keeps : (c : Cluster) (now : ℕ) (f : Facts) (m : ℕ) (x : MemberState) (k : KeptRecord) → Law c now f m x (HasKept k)
-keeps c now f m x k i g below may = joins c now f m x k [] i g may (λ y n. absurd n)
+keeps c now f m x k i g below may timely = joins c now f m x k [] i g may (λ y n. absurd n)

@@ -3,7 +3,9 @@ pub mod Drift
 pub mod Majority
 pub mod Lists
 pub mod Invariant
+pub mod Phases
 pub mod Stays
+pub mod Timely
 pub mod OpenLaws
 pub mod PromiseLaws
 pub mod LeaseLaws
@@ -54,6 +56,8 @@ pub mod NodeActions
 pub mod NodeArrivals
 pub mod AbsentTurns
 pub mod HostRuns
+pub mod OnePhaseLemmas
+pub mod WorldPhases
 pub mod WorldSteps
 pub mod Beginnings
 pub mod WorldEntries
@@ -65,6 +69,7 @@ pub mod Configured
 pub mod WorldLaws
 pub mod WorldShadows
 pub mod WorldGrowth
+pub mod FencedPhases
 pub mod FencedWorlds
 pub mod LogSessions
 pub mod LoneRuns
@@ -93,3 +98,6 @@ pub mod DeadlineWorlds
 pub mod FencedExample
 pub mod FencedTellers
 pub mod TermWorlds
+pub mod SeatsOfLists
+pub mod StepWaits
+pub mod TwoStepsRuns

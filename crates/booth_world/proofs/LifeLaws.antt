@@ -1,19 +1,21 @@
 -- Learning a term, crashing, starting and the passing of time keep what holds.
-use Rattle.std.proofs.Common.{◌≡◌, ℕ, ◌<◌, ◌≤◌, List, [], ◌∷◌, Bool, true, false, refl, sym, ap, ◌∙◌, subst, inl, inr, length, arith, ⊎_elim}
+use Rattle.std.proofs.Common.{◌≡◌, ◌⊎◌, ℕ, ◌+◌, ◌<◌, ◌≤◌, List, [], ◌∷◌, Bool, true, false, refl, sym, ap, ◌∙◌, subst, inl, inr, length, arith, ⊎_elim}
 use Rattle.std.specs.Prelude.{Option, Some, None}
 use native.Mathlib.Nat.{le_of_eq, le_refl}
 use Rattle.booth_world.specs.Facts.{Has, Answer, Release, Facts}
-use Rattle.booth_world.specs.States.{Pledge, Promise, IsWithin, KeptRecord, MemberState, WorldState, Cluster, HasClocks, reads}
+use Rattle.booth_world.specs.States.{Pledge, Promise, IsWithin, KeptRecord, MemberState, WorldState, Cluster, HasClocks, HasPhases, reads, promise_time, lasts_in}
 use Rattle.booth_world.specs.Lives.{pledge_at_start, IsSilent, MayRead, MayStart, starting}
 use Rattle.booth_world.specs.Steps.{Learns, Crashes, Starts, ReadsClock, Passes, MayStep, happens}
 use Rattle.booth_world.proofs.Lists.{none_is}
 use Rattle.booth_world.proofs.Invariant.{Covers, StateGuard, RecordsCover, Guard, Stands, PromiseGood, PledgesGood, Good, LeaseGood, IsOverOrGood}
+use Rattle.booth_world.proofs.Phases.{near_or_passed}
 use Rattle.booth_world.proofs.Stays.{Law, facts_stay, only_one, not_up, stands_by, stands_beside}
 
 pub learns : (c : Cluster) (now : ℕ) (f : Facts) (m : ℕ) (x : MemberState) (term : ℕ) → Law c now f m x (Learns term)
-learns c now f m x term i g below may =
+learns c now f m x term i g below may timely =
     facts_stay c now f m _ g (record {
       clock = i.clock;
+      session = i.session;
       may = i.may;
       term = λ up k h. let l = i.term up k h in let n = may.above in omega arith;
       round = λ r e. absurd (none_is r e);
@@ -29,9 +31,10 @@ guard_crashed : (c : Cluster) (a : Answer) (x : MemberState) → StateGuard c a 
 guard_crashed c a x g = inl refl
 
 pub crashes : (c : Cluster) (now : ℕ) (f : Facts) (m : ℕ) (x : MemberState) → Law c now f m x Crashes
-crashes c now f m x i g below may =
+crashes c now f m x i g below may timely =
     facts_stay c now f m _ g (record {
       clock = i.clock;
+      session = λ up. absurd (not_up up);
       may = i.may;
       term = λ up k h. absurd (not_up up);
       round = i.round;
@@ -39,7 +42,7 @@ crashes c now f m x i g below may =
       promise = i.promise;
       within = i.within;
       pledges = i.pledges;
-      answers = λ a h e. let b = i.answers a h e in record { past = b.past; stands = stands_beside c f.releases a x.reading (StateGuard c a x) (StateGuard c a (record x { up = false })) (RecordsCover c a x.may) (λ g. Stands.Guarded (guard_crashed c a x g)) b.stands };
+      answers = λ a h e. let b = i.answers a h e in record { past = b.past; stands = λ timed. stands_beside c f.releases a x.reading (StateGuard c a x) (StateGuard c a (record x { up = false })) (RecordsCover c a x.may) (λ g. Stands.Guarded (guard_crashed c a x g)) (b.stands timed) };
     })
 
 -- start
@@ -63,36 +66,38 @@ read_reaches c m x k term read least site =
 
 -- a promise at the start is that of the record
 promise_at_start :
-    (c : Cluster) (reading : ℕ) (o : Option Pledge) (term : ℕ) (p : Promise)
+    (c : Cluster) (phase reading : ℕ) (o : Option Pledge) (term : ℕ) (p : Promise)
     → ((pledge : Pledge) → o ≡ Some pledge → (q : Promise) → pledge.promise ≡ Some q → PromiseGood term reading pledge.abstain q)
-    → (pledge_at_start c reading o).promise ≡ Some p → PromiseGood term reading (pledge_at_start c reading o).abstain p
-promise_at_start c reading None term p good e = absurd (none_is p e)
-promise_at_start c reading (Some pledge) term p good e = good pledge refl p e
+    → (pledge_at_start c phase reading o).promise ≡ Some p → PromiseGood term reading (pledge_at_start c phase reading o).abstain p
+promise_at_start c phase reading None term p good e = absurd (none_is p e)
+promise_at_start c phase reading (Some pledge) term p good e = good pledge refl p e
 
 -- so are the members that are named
 pub within_at_start :
-    (c : Cluster) (reading : ℕ) (o : Option Pledge) → ((pledge : Pledge) → o ≡ Some pledge → IsWithin c.members pledge.bound pledge.promise)
-    → IsWithin c.members (pledge_at_start c reading o).bound (pledge_at_start c reading o).promise
-within_at_start c reading None named = record { bound_below = λ s e. absurd (none_is s e); promise_below = λ p e. absurd (none_is p e) }
-within_at_start c reading (Some pledge) named = named pledge refl
+    (c : Cluster) (phase reading : ℕ) (o : Option Pledge) → ((pledge : Pledge) → o ≡ Some pledge → IsWithin c.members pledge.bound pledge.promise)
+    → IsWithin c.members (pledge_at_start c phase reading o).bound (pledge_at_start c phase reading o).promise
+within_at_start c phase reading None named = record { bound_below = λ s e. absurd (none_is s e); promise_below = λ p e. absurd (none_is p e) }
+within_at_start c phase reading (Some pledge) named = named pledge refl
 
 -- an answer is covered at the start by the record, or else by the abstention
 covers_at_start :
-    (c : Cluster) (reading : ℕ) (o : Option Pledge) (a : Answer) → a.reading ≤ reading
+    (c : Cluster) (phase reading : ℕ) (o : Option Pledge) (a : Answer) → lasts_in c a.round.phase ≤ promise_time c phase → a.reading ≤ reading
     → ((p : Pledge) → o ≡ Some p → Covers c a p.abstain p.promise)
-    → Covers c a (pledge_at_start c reading o).abstain (pledge_at_start c reading o).promise
-covers_at_start c reading None a past by_record = Covers.Abstains (omega arith)
-covers_at_start c reading (Some pledge) a past by_record = by_record pledge refl
+    → Covers c a (pledge_at_start c phase reading o).abstain (pledge_at_start c phase reading o).promise
+covers_at_start c phase reading None a near past by_record = Covers.Abstains (omega arith)
+covers_at_start c phase reading (Some pledge) a near past by_record = by_record pledge refl
 
 -- after a start an answer stands by the record, or the abstention
 start_stands :
-    (c : Cluster) (z : List Release) (a : Answer) (site : Bool) (x : MemberState) (k : KeptRecord) (second : Bool)
-    → MayRead site x.may k → a.reading ≤ x.reading → Guard c a x → Stands c z a x.reading (Guard c a (starting c x k second))
-start_stands c z a site x k second read past guard =
+    (c : Cluster) (z : List Release) (a : Answer) (site : Bool) (x : MemberState) (k : KeptRecord) (second : Bool) (phase : ℕ)
+    → MayRead site x.may k → (lasts_in c a.round.phase ≤ promise_time c phase) ⊎ (a.reading + lasts_in c a.round.phase ≤ x.reading)
+    → a.reading ≤ x.reading → Guard c a x → Stands c z a x.reading (Guard c a (starting c x k second phase))
+start_stands c z a site x k second phase read (inr over) past guard = Stands.Passed over
+start_stands c z a site x k second phase read (inl near) past guard =
     let covered : (p : Pledge) → k.pledge ≡ Some p → Covers c a p.abstain p.promise =
     λ p e. of_read site x.may k (Covers c a p.abstain p.promise) read (λ h. guard.1 k h p e) (λ silent. absurd (no_pledge_read site x.may k p silent e)) in
     Stands.Guarded (
-      inr (covers_at_start c x.reading k.pledge a past covered),
+      inr (covers_at_start c phase x.reading k.pledge a near past covered),
       λ w hw. subst (λ (y : KeptRecord). (p : Pledge) → y.pledge ≡ Some p → Covers c a p.abstain p.promise) (only_one k w hw) covered,
     )
 
@@ -128,10 +133,11 @@ start_pledges c m x k second may good = record {
     by_version true was first = absurd (let now = may.stays was in cc)
     by_version false was first = was
 
-pub starts : (c : Cluster) (now : ℕ) (f : Facts) (m : ℕ) (x : MemberState) (k : KeptRecord) (second : Bool) → Law c now f m x (Starts k second)
-starts c now f m x k second i g below may =
+pub starts : (c : Cluster) → HasClocks c → HasPhases c → (now : ℕ) (f : Facts) (m : ℕ) (x : MemberState) (k : KeptRecord) (second : Bool) (phase : ℕ) → Law c now f m x (Starts k second phase)
+starts c clocks phases now f m x k second phase i g below may timely =
     facts_stay c now f m _ g (record {
       clock = i.clock;
+      session = λ up. (timely.0, timely.2);
       may = record {
         some = (k, inl refl);
         own_rounds = λ r h e z hz. subst (λ (y : KeptRecord). r.term ≤ y.term) (only_one k z hz)
@@ -143,12 +149,14 @@ starts c now f m x k second i g below may =
       round = λ r e. absurd (none_is r e);
       lease = λ z hz l e. let own = ap (λ (y : KeptRecord). y.lease) (only_one k z hz) ∙ e in
           of_read (c.is_site m) x.may k (IsOverOrGood c f.leases f.releases m x.reading l) may.read (λ h. i.lease k h l own) (λ silent. absurd (none_is l (sym silent.free ∙ own)));
-      promise = λ p e. promise_at_start c x.reading k.pledge k.term p (pledge_read c m x k may.read i.pledges) e;
-      within = within_at_start c x.reading k.pledge (named_read c m x k may.read i.pledges);
+      promise = λ p e. promise_at_start c phase x.reading k.pledge k.term p (pledge_read c m x k may.read i.pledges) e;
+      within = within_at_start c phase x.reading k.pledge (named_read c m x k may.read i.pledges);
       pledges = start_pledges c m x k second may i.pledges;
       answers = λ a h e. let b = i.answers a h e in record {
         past = b.past;
-        stands = stands_by c f.releases a x.reading (Guard c a x) (Guard c a (starting c x k second)) (start_stands c f.releases a (c.is_site m) x k second may.read b.past) b.stands;
+        stands = λ timed. let fact = g.answers a h in
+            let near = near_or_passed c clocks phases now m x.reading x.at phase a f.rounds below g.within i.clock fact (g.rounds a.round fact.round) e timed timely.0 timely.1 in
+            stands_by c f.releases a x.reading (Guard c a x) (Guard c a (starting c x k second phase)) (start_stands c f.releases a (c.is_site m) x k second phase may.read near b.past) (b.stands timed);
       };
     })
 
@@ -159,11 +167,12 @@ stands_later c z a reading later g l (Stands.Free f) = Stands.Free f
 stands_later c z a reading later g l (Stands.Guarded h) = Stands.Guarded h
 
 pub reads_clock : (c : Cluster) → HasClocks c → (now : ℕ) (f : Facts) (m : ℕ) (x : MemberState) → Law c now f m x ReadsClock
-reads_clock c clocks now f m x i g below may =
+reads_clock c clocks now f m x i g below may timely =
     let within : now < length (c.clock m) = let l = g.within in let e = clocks.long m below in omega arith in
     let rise : x.reading ≤ reads c m now = let r = (clocks.rising m below).rises x.at now i.clock.past within in let e = i.clock.clock in omega arith in
     facts_stay c now f m _ g (record {
       clock = record { clock = refl; past = le_refl _ };
+      session = λ up. let l = (i.session up).0 in let p = i.clock.past in (omega arith, (i.session up).1);
       may = i.may;
       term = i.term;
       round = i.round;
@@ -178,7 +187,7 @@ reads_clock c clocks now f m x i g below may =
         named = i.pledges.named;
         good = λ k h pledge e p has. let q = i.pledges.good k h pledge e p has in let l = q.rested in record { within = q.within; rested = omega arith };
       };
-      answers = λ a h e. let b = i.answers a h e in let l = b.past in record { past = omega arith; stands = stands_later c f.releases a x.reading (reads c m now) (Guard c a x) rise b.stands };
+      answers = λ a h e. let b = i.answers a h e in let l = b.past in record { past = omega arith; stands = λ timed. stands_later c f.releases a x.reading (reads c m now) (Guard c a x) rise (b.stands timed) };
     })
 
 pub passes : (c : Cluster) (w : WorldState) (time : ℕ) → Good c w → MayStep c w (Passes time) → Good c (happens c w (Passes time))
@@ -187,6 +196,7 @@ passes c w time g may =
     record {
       each = λ k. let j = g.each k in record {
         clock = record { clock = j.clock.clock; past = let l = j.clock.past in omega arith };
+        session = j.session;
         may = j.may;
         term = j.term;
         round = j.round;
@@ -200,9 +210,9 @@ passes c w time g may =
         within = may.within;
         apart = g.facts.apart;
         one_round = g.facts.one_round;
-        rounds = λ r h. let q = g.facts.rounds r h in record { below = q.below; site = q.site; clock = q.clock; past = let l = q.past in omega arith };
+        rounds = λ r h. let q = g.facts.rounds r h in record { below = q.below; site = q.site; clock = q.clock; past = let l = q.past in omega arith; opens = q.opens };
         answers = λ a h. let q = g.facts.answers a h in record { below = q.below; clock = q.clock; round = q.round; later = q.later; past = let l = q.past in omega arith };
-        leases = λ r h. let q = g.facts.leases r h in record { round = q.round; past = let l = q.past in omega arith; majority = q.majority; answered = q.answered };
+        leases = λ r h. let q = g.facts.leases r h in record { round = q.round; past = let l = q.past in omega arith; opened = q.opened; closes = q.closes; majority = q.majority; answered = q.answered };
         releases = λ r h. let l = g.facts.releases r h in omega arith;
         releasers = g.facts.releasers;
       };

@@ -1,6 +1,6 @@
 -- What an arrival is for one ticket: a member's message that is heard, a client's request, or nothing; and so the whole
 -- turn.
-use Rattle.std.proofs.Common.{◌≡◌, ◌≢◌, ◌⊎◌, inl, inr, ℕ, zero, suc, ◌+◌, ◌^◌, ◌<◌, ◌≤◌, Bool, List, length, refl, sym, subst, arith, [], ◌∷◌}
+use Rattle.std.proofs.Common.{◌≡◌, ◌≢◌, ◌⊎◌, inl, inr, ℕ, zero, suc, ◌+◌, ◌^◌, ◌<◌, ◌≤◌, Bool, List, length, refl, sym, ap, subst, arith, [], ◌∷◌}
 use Rattle.std.specs.Prelude.{Option, Some, None, Result, Ok, Err}
 use Rattle.std.specs.List.{range_with_len}
 use Rattle.std.specs.Option.{ForSome}
@@ -18,6 +18,8 @@ use Rattle.booth_host.specs.declared.host.Failed.{Failed}
 use Rattle.booth_host.specs.declared.host.Arrival.{Arrival}
 use Rattle.booth_host.specs.declared.host.Arrival.TheVariants as arrivals
 use Rattle.booth_raft.specs.declared.view.View.{View}
+use Rattle.booth_raft.specs.Outcome.{Outcome}
+use Rattle.booth_raft.specs.State.{step}
 use Rattle.booth_ticket.specs.declared.request.Request.{Request}
 use Rattle.booth_ticket.specs.declared.handling.Service.{Service}
 use Rattle.booth_ticket.specs.Automatic.{end_job, hear as hears_words, hear_message}
@@ -25,7 +27,10 @@ use Rattle.booth_ticket.specs.Handling.{service_of}
 use Rattle.booth_ticket.specs.declared.request.Given.{Given}
 use Rattle.booth_ticket.specs.Requests.{follow_request}
 use Rattle.booth_ticket.specs.Ticket.{left_as}
-use Rattle.booth_ticket.specs.Waiting.{Left, spare_in, waiting_at}
+use Rattle.booth_ticket.specs.Waiting.{Left, spare_in, tell, waiting_at}
+use Rattle.booth_ticket.specs.declared.waiters.Waiter.{Waiter}
+use Rattle.booth_ticket.specs.Acts.{Ask as TicketAsk}
+use Rattle.booth_ticket.specs.Keeping.{carry_out}
 use Rattle.booth_node.specs.declared.node.Turn.{Turn}
 use Rattle.booth_node.specs.declared.node_config.NodeConfig.{NodeConfig}
 use Rattle.booth_node.specs.declared.state.Common.{Common}
@@ -42,11 +47,11 @@ use Rattle.booth_world.specs.Rules.{MemberMessage, Hears as HearsMessage}
 use Rattle.booth_world.specs.Turns.{TurnTree, Plan, plan_tree, call_tree, turn_tree, MayPlan, MayTurn}
 use Rattle.booth_world.proofs.Lists.{none_is, some_same}
 use Rattle.booth_world.proofs.Mirrors.{IsKept, Mirrors, mirrors_kept, mirrors_next}
-use Rattle.booth_world.proofs.Echoes.{echoes_as}
+use Rattle.booth_world.proofs.Echoes.{Echoes, echoes_as}
 use Rattle.booth_world.proofs.Plans.{ask_plan, over_plan}
 use Rattle.booth_world.proofs.PlanCalls.{always, ask_may, over_may}
 use Rattle.booth_world.proofs.PlanDeeds.{heard, asked, job_ended}
-use Rattle.booth_world.proofs.NodeTrees.{IsFew, minds_heard, minds_asked, minds_over}
+use Rattle.booth_world.proofs.NodeTrees.{IsFew, minds_heard, minds_asked, minds_over, same_heard}
 use Rattle.booth_world.proofs.NodeTurns.{IsPlacedAt, IsOver, Over, over_kept, left_set, own_acts, other_acts, ready_in, after_plan, after_may, dues_over, below_most}
 use Rattle.booth_world.proofs.NodeActions.{IsLetIn, AreReplies, Comes, comes}
 
@@ -57,6 +62,17 @@ no_message Good = λ message e. absurd (none_is message e)
 
 one_message : (Good : MemberMessage → Type 0) (message : MemberMessage) → Good message → ForSome (Some message) Good
 one_message Good message good = λ other e. subst Good (some_same message other e) good
+
+-- a stamp changes nothing of what a ticket does with a message
+stamped_same : (s : Setup) (now : ℕ) (view : View) (waiters : List Waiter) (member : ℕ) (auth : Bool) (time : ℕ) (head : Head) (part : TicketPart)
+    → hears_words (record { setup = s; view = view }) waiters member (stamped_head auth time head) part now
+    ≡ hears_words (record { setup = s; view = view }) waiters member head part now
+unfolding hears_words hear_message
+stamped_same s now view waiters member auth time head part =
+    ap
+    (λ (o : Outcome).
+    carry_out (Some member) now (step (record { setup = s; view = view }) o) >>= (λ last. tell now waiters last))
+    (same_heard s view member auth time head part now)
 
 module _ (s : Setup) (place : ℕ) (node : NodeConfig) (now : ℕ) (all : s.members ≡ length node.config.members) (own : s.place < s.members)
     (most : ℕ) (enough : 2 ^ 64 ≤ most) (Good : MemberMessage → Type 0) where
@@ -136,10 +152,15 @@ module _ (s : Setup) (place : ℕ) (node : NodeConfig) (now : ℕ) (all : s.memb
           (subst (λ (h : Head). Mirrors node s Then sent (acts node now state place (is_told member h part)) (heard_tree plain.0))
           (sym plain.3)
           (own_acts s place node now all Then state view (is_told member (stamped_head plain.1 plain.2 plain.0) part) sent (heard_tree plain.0) few at.own
+          (subst
+          (λ (t : Deeds TicketAsk Left).
+          Echoes s (λ sent' left tree'. (counted : Common) → IsFew counted → Then sent' (with_ticket state place counted left) tree') sent
+          (t >>= (λ left. Ends (left_as left))) (heard_tree plain.0))
+          (sym (stamped_same s now view (waiting_at state.waiters place) member plain.1 plain.2 plain.0 part))
           (echoes_as s (LeftThen state) (λ sent' left tree'. (counted : Common) → IsFew counted → Then sent' (with_ticket state place counted left) tree') left_as
           sent (hears_words (record { setup = s; view = view }) (waiting_at state.waiters place) member plain.0 part now) (heard_tree plain.0) (λ sent' left tree' m. m)
           (heard s now most own (LeftThen state) (left_kept state) (then_plan state) (left_dues state view at last_is) (handler_at node place)
-          state.common.next_job (below_most s place node now all own most enough state.common few) view (waiting_at state.waiters place) member plain.0 part sent))));
+          state.common.next_job (below_most s place node now all own most enough state.common few) view (waiting_at state.waiters place) member plain.0 part sent)))));
     }
       where
         heard_tree : Head → TurnTree

@@ -1,6 +1,6 @@
 -- A ticket's tree of deeds in the node's: its own, and another ticket's, which passes by.
 use Rattle.std.proofs.Common.{◌≡◌, ◌≢◌, inl, inr, ⊎_elim, ℕ, ◌+◌, ◌-◌, ◌^◌, ◌<◌, Bool, true, false, List, [], ◌∷◌, length, refl, sym, ap, ◌∙◌, subst, arith}
-use Rattle.std.specs.Prelude.{◌==◌, Option, Some, None, slice_get, if◌then◌else◌}
+use Rattle.std.specs.Prelude.{◌==◌, ◌&&◌, min, Option, Some, None, slice_get, if◌then◌else◌}
 use Rattle.std.proofs.lemmas.Bool.Decides.{nat_tests}
 use Rattle.std.proofs.lemmas.Option.{slice_get_within, slice_get_cases}
 use Rattle.booth_base.specs.declared.address.Peer.{Peer}
@@ -16,7 +16,12 @@ use Rattle.booth_wire.specs.Command.{direction_of}
 use Rattle.booth_wire.specs.PlainMessage.{PlainMessage, Ticket}
 use Rattle.booth_auth.specs.Sealed.{stamped_head}
 use Rattle.booth_raft.specs.declared.view.View.{View}
-use Rattle.booth_raft.specs.OtherMessages.{hear}
+use Rattle.booth_raft.specs.declared.view.Round.{Round}
+use Rattle.booth_wire.specs.declared.command.Cmd.{Cmd}
+use Rattle.booth_wire.specs.declared.command.Cmd.TheVariants as cmds
+use Rattle.booth_raft.specs.OtherMessages.{hear, is_bound_elsewhere}
+use Rattle.booth_raft.specs.Outcome.{quiet}
+use Rattle.booth_raft.specs.StartAndLearn.{learned, with_seen}
 use Rattle.booth_raft.specs.declared.deed.Told.{Told}
 use Rattle.booth_ticket.specs.declared.hands.To.{To}
 use Rattle.booth_ticket.specs.declared.hands.To.TheVariants.{Member, Client}
@@ -58,9 +63,22 @@ sends_on node now name peer message common to go rest =
     >>= (λ done. rest done.common done.left)
 
 -- a stamp changes nothing of what the rules hear
+same_bound : (round : Option Round) (auth : Bool) (time : ℕ) (head : Head) (part : TicketPart)
+    → is_bound_elsewhere round (stamped_head auth time head) part ≡ is_bound_elsewhere round head part
+same_bound None auth time head part = refl
+same_bound (Some round) auth time head part = refl
+
+same_by : (s : Setup) (view : View) (from : ℕ) (auth : Bool) (time : ℕ) (head : Head) (part : TicketPart) (now : ℕ) (cmd : Cmd)
+    → hear s view from (stamped_head auth time head) part now cmd ≡ hear s view from head part now cmd
+same_by s view from auth time head part now cmds.Rjc =
+    ap
+    (λ (b : Bool). quiet (learned s (if s.steady && b then with_seen view (min (view.term + 1) 4294967295) else view) part now))
+    (same_bound view.round auth time head part)
+same_by s view from auth time head part now cmd = refl
+
 pub same_heard : (s : Setup) (view : View) (from : ℕ) (auth : Bool) (time : ℕ) (head : Head) (part : TicketPart) (now : ℕ)
     → hear s view from (stamped_head auth time head) part now head.cmd ≡ hear s view from head part now head.cmd
-same_heard s view from auth time head part now = refl
+same_heard s view from auth time head part now = same_by s view from auth time head part now head.cmd
 
 same_part : (a b : TicketPart) → Ticket a ≡ Ticket b → a ≡ b
 same_part a b e = cc

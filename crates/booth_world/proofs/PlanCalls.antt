@@ -14,7 +14,7 @@ use Rattle.booth_raft.specs.declared.view.Role.{Role}
 use Rattle.booth_raft.specs.declared.view.Role.TheVariants.{Follower, Working, Candidate, Leader}
 use Rattle.booth_raft.specs.declared.view.View.{View}
 use Rattle.booth_raft.specs.AskAndRenew.{are_terms_spent, ask}
-use Rattle.booth_raft.specs.Deadlines.{due_now}
+use Rattle.booth_raft.specs.Deadlines.{due_now, is_silent}
 use Rattle.booth_raft.specs.GainReleaseLost.{own_end}
 use Rattle.booth_raft.specs.Members.{is_promised_elsewhere, is_follower, is_leader, is_working}
 use Rattle.booth_raft.specs.Notes.{MayNote, noted}
@@ -25,7 +25,7 @@ use Rattle.booth_ticket.specs.declared.request.Wish.TheVariants.{Grant, Revoke}
 use Rattle.booth_ticket.specs.declared.handling.Service.{Service}
 use Rattle.booth_ticket.specs.declared.handling.Service.TheVariants.{CanRun, CannotRun}
 use Rattle.booth_ticket.specs.Handling.{is_job}
-use Rattle.booth_ticket.specs.Requests.{is_holder, is_shown_elsewhere, refused_grant, refused_revoke}
+use Rattle.booth_ticket.specs.Requests.{is_busy, is_holder, is_shown_elsewhere, refused_grant, refused_revoke}
 use Rattle.booth_ticket.specs.Waiting.{waits}
 use Rattle.booth_world.specs.Rules.{Asks, Greets, MeetsDeadline, MakesNote, RenewsLease, GivesBack}
 use Rattle.booth_world.specs.Turns.{TurnTree, call_tree, Plan, Calls, Waits, LeavesAlways, MayPlan}
@@ -161,8 +161,9 @@ module _ (s : Setup) (now most : ℕ) where
       let site = not_refused (not s.site || not (request.options == 0 || waits request.options)) IARG _ is in
       let other = not_refused (is_holder s view now) _ _ site.1 in
       let open_now = not_refused (is_shown_elsewhere view.shown s.me now) OVER _ other.1 in
-      let idle = not_refused (not (is_follower view.role) || is_promised_elsewhere view.promise s.me now) BUSY _ open_now.1 in
-      let follows : is_follower view.role ≡ true = first_false (is_follower view.role) (is_promised_elsewhere view.promise s.me now) idle.0 in
+      let idle = not_refused (is_busy s view now) BUSY _ open_now.1 in
+      let follows : is_follower view.role ≡ true =
+      first_false (is_follower view.role) (is_promised_elsewhere view.promise s.me now || is_silent s view now) idle.0 in
       (follows, acquire_may handler ADMN go (noted s view now notes.Asked) may (first_false s.site (not (request.options == 0 || waits request.options)) site.0) follows)
 
   revoke_may : (go : View → Plan) (view : View) (request : Request) (result : Option ℕ) → MayGoOn go

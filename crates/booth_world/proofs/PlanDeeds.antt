@@ -228,11 +228,11 @@ module _ (s : Setup) (now most : ℕ) where
     -- the deadline's deeds, each part after the other
     due_parts : (view : View) (waiters : List Waiter) (ready : Bool)
         → come_due (core_of view) waiters (given_now ready)
-        ≡ (say s None (hello s view now) >> (role_due (core_of (greeted view)) (given_now ready) >>= carries (tell now waiters)))
+        ≡ (say s None (hello s view now) >> (role_due (core_of (greeted s view)) (given_now ready) >>= carries (tell now waiters)))
     unfolding come_due tick
     due_parts view waiters ready =
         let hail = say s None (hello s view now) in
-        let due = role_due (core_of (greeted view)) (given_now ready) in
+        let due = role_due (core_of (greeted s view)) (given_now ready) in
         then_then hail (λ done. due >>= (λ begun. carry_out None now begun)) (tell now waiters)
         ∙ ap (λ (t : Deeds Ask Left). hail >> t) (then_then due (λ begun. carry_out None now begun) (tell now waiters))
 
@@ -241,8 +241,8 @@ module _ (s : Setup) (now most : ℕ) where
     ticked view waiters ready sent =
         subst (λ (t : Deeds Ask Left). Echoes s P sent t (plan_tree s now view (due_plan s now most ready handler go)))
         (sym (due_parts view waiters ready))
-        (said s own P kept (λ left. plan_tree s now left (role_plan s now most ready handler go left)) None (hello s view now) sent (greeted view)
-        (role_due (core_of (greeted view)) (given_now ready) >>= carries (tell now waiters)) (role waiters ready (greeted view) sent))
+        (said s own P kept (λ left. plan_tree s now left (role_plan s now most ready handler go left)) None (hello s view now) sent (greeted s view)
+        (role_due (core_of (greeted s view)) (given_now ready) >>= carries (tell now waiters)) (role waiters ready (greeted s view) sent))
 
     -- a job is over
     worked_on : (service : Service) (view : View) (rest : Step → Deeds Ask Left) (sent : List MemberMessage) → ThenSo rest

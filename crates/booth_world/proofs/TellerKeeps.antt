@@ -1,6 +1,6 @@
 -- What they show and say after a keep, and at a start, is what the kept record's lease says.
-use Rattle.std.proofs.Common.{◌≡◌, ℕ, ◌<◌, true, false, refl, sym, ap, ◌∙◌, subst}
-use Rattle.std.specs.Prelude.{Option, Some, None, ◌==◌}
+use Rattle.std.proofs.Common.{◌≡◌, ℕ, ◌<◌, Bool, true, false, ◌&&◌, refl, sym, ap, ◌∙◌, subst}
+use Rattle.std.specs.Prelude.{Option, Some, None, not, nat_lt, ◌==◌, if◌then◌else◌}
 use Rattle.booth_base.specs.declared.address.TheConstants.{NO_ONE}
 use Rattle.booth_rec.specs.declared.record.Record.{Record}
 use Rattle.booth_rec.specs.Record.{lease_end}
@@ -14,15 +14,25 @@ use Rattle.booth_raft.specs.declared.view.Shown.{Shown}
 use Rattle.booth_raft.specs.declared.view.View.{View}
 use Rattle.booth_raft.specs.declared.view.Waiting.{Waiting}
 use Rattle.booth_raft.specs.AskAndRenew.{finish, goes_on}
-use Rattle.booth_raft.specs.Members.{is_leader}
+use Rattle.booth_raft.specs.GainReleaseLost.{is_held_elsewhere, keeps_shown}
+use Rattle.booth_raft.specs.Members.{is_leader, is_same}
 use Rattle.booth_raft.specs.Messages.{part_of, revokes}
 use Rattle.booth_raft.specs.Outcome.{saying, telling}
 use Rattle.booth_raft.specs.StartAndLearn.{holds_at_start, started}
-use Rattle.booth_raft.proofs.FactsLemmas.{on_cond, on_option, untrue}
+use Rattle.booth_raft.proofs.AnswerLemmas.{same-is_same}
+use Rattle.booth_raft.proofs.FactsLemmas.{on_cond, on_option, on_test, untrue}
 use Rattle.booth_world.proofs.Lists.{none_is, some_same}
 use Rattle.booth_world.proofs.TellerRules.{OwnShown, IsGained, MayGoOn, Shows, IsCalm, for_this, for_none, state_borne, nothing_left, calmly, quietly, calm_if, begins}
 
 -- ---- the answer of a keep
+
+not_both : (a b : Bool) → a ≡ true → not a && b ≡ true → ⊥
+not_both true b is both = cc
+not_both false b is both = cc
+
+second_holds : (a b : Bool) → a && b ≡ true → b ≡ true
+second_holds true b both = both
+second_holds false b both = cc
 
 module _ (s : Setup) (now : ℕ) (lasts : 0 < s.times.expire) where
   -- the record that was tried is kept now, and its lease is that of the one before
@@ -45,6 +55,28 @@ module _ (s : Setup) (now : ℕ) (lasts : 0 < s.times.expire) where
     trusted = λ e. q;
   }
 
+  -- Whom the end of a round leaves known as the owner is another member.
+  elsewhere : (shown : Option Shown) (kept : Record) → is_held_elsewhere shown s.me now ≡ true → OwnShown s.me kept shown
+  elsewhere None kept held = for_none (λ (x : Shown). x.owner ≡ s.me → x.until ≡ lease_end kept.lease)
+  elsewhere (Some shown) kept held =
+      for_this (λ (x : Shown). x.owner ≡ s.me → x.until ≡ lease_end kept.lease) shown
+      (λ own. absurd (not_both (is_same shown.owner s.me) (nat_lt now shown.until) (same-is_same shown.owner s.me own) held))
+
+  left_shown : (view : View) (kept : Record) → OwnShown s.me kept (if keeps_shown s view now then view.shown else None)
+  left_shown view kept =
+      on_test (λ (o : Option Shown). OwnShown s.me kept o) (keeps_shown s view now) view.shown None
+      (λ keeps. elsewhere view.shown kept (second_holds s.steady (is_held_elsewhere view.shown s.me now) keeps))
+      (λ hides. for_none (λ (x : Shown). x.owner ≡ s.me → x.until ≡ lease_end kept.lease))
+
+  ended_calm : (Q : Type 0) → Q → (view other : View) (tried : Record) → other.shown ≡ (if keeps_shown s view now then view.shown else None)
+      → other.kept ≡ tried → other.waiting ≡ None → IsCalm s tried Q other
+  ended_calm Q q view other tried shown kept none = record {
+    own = subst (λ (o : Option Shown). OwnShown s.me other.kept o) (sym shown) (left_shown view other.kept);
+    same = kept;
+    rests = none;
+    trusted = λ e. q;
+  }
+
   goes_kept : (Q : Type 0) → Q → (view : View) (rule : Rule) (tried : Record) → OwnShown s.me view.kept view.shown → view.waiting ≡ None
       → MayGoOn now view.kept rule tried → Shows s now tried Q (goes_on s view rule tried now true)
   goes_kept Q q view rules.Gain tried own none may =
@@ -55,10 +87,10 @@ module _ (s : Setup) (now : ℕ) (lasts : 0 < s.times.expire) where
       begins s now tried Q lasts _ 0 (kept_calm Q q view _ tried own may refl refl none)
   goes_kept Q q view (rules.Release reason) tried own none may =
       on_cond (λ (v : View). Shows s now tried Q (saying v (revokes s view.term reason) tells.Released)) (reason == SPLT) _ _
-      (calmly s now tried Q _ (hidden_calm Q q _ tried refl refl none) refl (nothing_left s now tried Q (part_of s NO_ONE view.term 0) refl) (λ e. absurd e))
+      (calmly s now tried Q _ (ended_calm Q q view _ tried refl refl none) refl (nothing_left s now tried Q (part_of s NO_ONE view.term 0) refl) (λ e. absurd e))
       (calmly s now tried Q _ (hidden_calm Q q _ tried refl refl none) refl (nothing_left s now tried Q (part_of s NO_ONE view.term 0) refl) (λ e. absurd e))
   goes_kept Q q view rules.EndRound tried own none may =
-      calmly s now tried Q _ (hidden_calm Q q _ tried refl refl none) refl (nothing_left s now tried Q (part_of s NO_ONE view.term 0) refl) (λ e. absurd e)
+      calmly s now tried Q _ (ended_calm Q q view _ tried refl refl none) refl (nothing_left s now tried Q (part_of s NO_ONE view.term 0) refl) (λ e. absurd e)
   goes_kept Q q view (rules.Answer kind to number request told) tried own none may =
       calmly s now tried Q _ (kept_calm Q q view _ tried own may.0 refl refl none) refl (nothing_left s now tried Q (part_of s to view.term 0) refl)
       (λ e. absurd (may.1 e))

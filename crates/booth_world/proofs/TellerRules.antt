@@ -1,6 +1,6 @@
 -- What the lease rules show and say of their own member as the ticket's leader is what its record's lease says.
 use Rattle.std.proofs.Common.{◌≡◌, ◌⊎◌, inl, inr, ℕ, ◌+◌, ◌*◌, ◌<◌, Bool, true, false, refl, sym, ap, ◌∙◌, subst, arith, ◌&&◌}
-use Rattle.std.specs.Prelude.{Option, Some, None, not, nat_le, nat_lt, ◌==◌, is_some, if◌then◌else◌}
+use Rattle.std.specs.Prelude.{Option, Some, None, not, nat_le, nat_lt, ◌==◌, is_some, min, if◌then◌else◌}
 use Rattle.std.specs.Option.{ForSome}
 use Rattle.std.proofs.lemmas.Bool.Decides.{nat_tests}
 use Rattle.booth_base.specs.declared.address.MemberId.{MemberId}
@@ -32,13 +32,13 @@ use Rattle.booth_raft.specs.declared.view.TheConstants.{LAST_NUMBER}
 use Rattle.booth_raft.specs.declared.view.View.{View}
 use Rattle.booth_raft.specs.declared.view.Waiting.{Waiting}
 use Rattle.booth_raft.specs.AskAndRenew.{answers_itself, are_terms_spent, ask, asked_all, asking, begin_round, bound_itself, in_next_term, needs_term, new_round, own_answer, promised_itself, renew, renew_by_term, with_own_promise, with_round}
-use Rattle.booth_raft.specs.Deadlines.{candidate_due, due_now, follower_due, is_tried, leader_due, resends_or_renews, waits_or_acquires}
+use Rattle.booth_raft.specs.Deadlines.{candidate_due, due_now, follower_due, is_tried, leader_due, resends_or_renews, waits_or_acquires, is_sent_again, is_silent}
 use Rattle.booth_raft.specs.GainReleaseLost.{gain, lease_record, lost, own_end, release, round_ends}
 use Rattle.booth_raft.specs.Members.{is_candidate, is_follower, is_leader, is_majority, is_promised_elsewhere, is_same}
 use Rattle.booth_raft.specs.Messages.{owner_now, part_of, round_part, shown_end, state_part}
 use Rattle.booth_raft.specs.Notes.{noted}
 use Rattle.booth_raft.specs.Numbers.{seconds_left}
-use Rattle.booth_raft.specs.OtherMessages.{freed, hear, is_freed_by, is_owner, revoked}
+use Rattle.booth_raft.specs.OtherMessages.{freed, hear, is_bound_elsewhere, is_freed_by, is_owner, refused, revoked, unasking}
 use Rattle.booth_raft.specs.Outcome.{Outcome, keeping, quiet}
 use Rattle.booth_raft.specs.RoundsAndAnswers.{answered_round, hear_answer, hear_round, is_answer_to, may_answer, promised, shows_site, stood_down, told_by_answer, wins, with_answer, with_site}
 use Rattle.booth_raft.specs.StartAndLearn.{awaits_failover, learned, shows_leader, with_seen, with_shown}
@@ -313,6 +313,16 @@ module _ (s : Setup) (now : ℕ) (base : Record) (Q : Type 0) where
       learns : IsCalm s base Q (learned s view part now)
       learns = learned_calm view part calm
 
+      refuses : IsCalm s base Q (refused s view head part)
+      refuses =
+          calm_if (s.steady && is_bound_elsewhere view.round head part) (with_seen view (min (view.term + 1) 4294967295)) view
+          (in_parts view calm _ refl refl refl refl) calm
+
+      unasks : IsCalm s base Q (unasking s (with_seen view part.term) head.reason)
+      unasks =
+          calm_if (s.steady && not (head.reason == SPLT)) (record (with_seen view part.term) { hello = false }) (with_seen view part.term)
+          (in_parts view calm _ refl refl refl refl) seen
+
       by_cmd : (cmd : Cmd) → Shows s now base Q (hear s view place head part now cmd)
       by_cmd cmds.RVot =
           on_cond (Shows s now base Q) (head.options == 0) _ _ (hears_round (with_seen view part.term) Election head part other seen) (quietly _ seen)
@@ -324,9 +334,9 @@ module _ (s : Setup) (now : ℕ) (base : Record) (Q : Type 0) where
           on_cond (Shows s now base Q) (head.options == 0) _ _ (quietly _ seen) (hears_answer (with_seen view part.term) place head part seen)
       by_cmd cmds.Stat = calmly _ learns refl (state_borne (learned s view part now) learns) (λ e. absurd e)
       by_cmd cmds.MIdx = quietly _ learns
-      by_cmd cmds.Rjc = quietly _ learns
+      by_cmd cmds.Rjc = quietly _ (learned_calm (refused s view head part) part refuses)
       by_cmd cmds.UpdE = quietly _ learns
-      by_cmd cmds.Revk = quietly _ (revoked_calm (with_seen view part.term) head.from part.term head.reason seen)
+      by_cmd cmds.Revk = quietly _ (revoked_calm (unasking s (with_seen view part.term) head.reason) head.from part.term head.reason unasks)
       by_cmd cmds.CLst = quietly view calm
       by_cmd cmds.CTkt = quietly view calm
       by_cmd cmds.Peer = quietly view calm
@@ -383,7 +393,7 @@ module _ (s : Setup) (now : ℕ) (base : Record) (Q : Type 0) where
     renewed_shows view calm =
         on_option (Shows s now base Q) view.round _ _ (λ none. renews_by_term view calm)
         (λ round is.
-        on_cond (Shows s now base Q) (needs_term s view) _ _ (renews_by_term view calm)
+        on_cond (Shows s now base Q) (needs_term s view round) _ _ (renews_by_term view calm)
         (on_cond (Shows s now base Q) (round.number == LAST_NUMBER) _ _ (quietly _ (in_parts view calm _ refl refl refl refl))
         (on_cond (Shows s now base Q) (s.second && answers_itself s view now) _ _
         (tries (with_own_promise s view now) (rules.Renew (round.number + 1)) _ (in_parts view calm _ refl refl refl refl) refl)
@@ -418,7 +428,7 @@ module _ (s : Setup) (now : ℕ) (base : Record) (Q : Type 0) where
     resends : (view : View) → IsCalm s base Q view → Shows s now base Q (resends_or_renews s view now)
     resends view calm =
         on_option (Shows s now base Q) view.round _ _ (λ none. calmly _ calm refl tt (λ e. absurd e))
-        (λ round is. on_cond (Shows s now base Q) (not round.won && is_tried s round now) _ _
+        (λ round is. on_cond (Shows s now base Q) (is_sent_again s view round now) _ _
         (calmly _ (in_parts view calm _ refl refl refl refl) refl (round_borne view calm.same) (λ e. absurd e))
         (calmly _ calm refl tt (λ e. absurd e)))
 
@@ -431,8 +441,9 @@ module _ (s : Setup) (now : ℕ) (base : Record) (Q : Type 0) where
     acquires : (view : View) → IsCalm s base Q view → Shows s now base Q (waits_or_acquires s view now)
     acquires view calm =
         on_cond (Shows s now base Q) (nat_lt now (shown_end view.shown)) _ _ (quietly _ (in_parts view calm _ refl refl refl refl))
+        (on_cond (Shows s now base Q) (is_silent s view now) _ _ (quietly _ (in_parts view calm _ refl refl refl refl))
         (on_cond (Shows s now base Q) (is_promised_elsewhere view.promise s.me now) _ _ (quietly _ (in_parts view calm _ refl refl refl refl))
-        (calmly _ (nobody_shown view calm _ refl refl refl refl) refl tt (λ e. absurd e)))
+        (calmly _ (nobody_shown view calm _ refl refl refl refl) refl tt (λ e. absurd e))))
 
     followers : (view : View) → IsCalm s base Q view → Shows s now base Q (follower_due s view now)
     followers view calm =

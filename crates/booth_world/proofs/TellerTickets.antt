@@ -41,7 +41,7 @@ use Rattle.booth_ticket.specs.Acts.{Ask}
 use Rattle.booth_ticket.specs.Automatic.{come_due, end_job, follow, hear, hear_job, hear_message, role_due, take_over, tick}
 use Rattle.booth_ticket.specs.Handling.{acquire, acquires, checks, goes_on, is_job, job_over, leads_on, renews_by, renews_or_releases, works, works_on}
 use Rattle.booth_ticket.specs.Keeping.{carry_out}
-use Rattle.booth_ticket.specs.Requests.{Answered, acquire_for, do_for, follow_request, grant, grant_result, holder_result, is_holder, is_shown_elsewhere, refuse, refused_grant, refused_revoke, release_for, reply, revoke}
+use Rattle.booth_ticket.specs.Requests.{Answered, acquire_for, do_for, follow_request, grant, grant_result, holder_result, is_busy, is_holder, is_shown_elsewhere, refuse, refused_grant, refused_revoke, release_for, reply, revoke}
 use Rattle.booth_ticket.specs.Saying.{say, say_to}
 use Rattle.booth_ticket.specs.Ticket.{Automatic, Known, Manual, left_as, ticket_asked, ticket_due, ticket_heard, ticket_over}
 use Rattle.booth_ticket.specs.Waiting.{Left, commits, tell, waits as wants_to_wait}
@@ -195,9 +195,9 @@ module _ (s : Setup) (now : ℕ) (lasts : 0 < s.times.expire) where
       (subst (λ (n : ℕ). Honest s now (Stays may) may (say s None (hello s view n))) (sym same)
       (said_true s now lasts may base None (hello s view now) has (hello_borne may base view calm) (rules_speak.greeted s view now)))
       (λ later done stays.
-      honest_then s now (IsStep s now lasts) (IsLast s now lasts) later (role_due (at s now lasts (greeted view)) given) _
-      (subst (λ (rs : List Record). Honest s now (IsStep s now lasts) rs (role_due (at s now lasts (greeted view)) given)) (sym stays)
-      (role_come may base (greeted view) given same has (in_parts s now base (may ≡ base ∷ []) view calm (greeted view) refl refl refl refl)))
+      honest_then s now (IsStep s now lasts) (IsLast s now lasts) later (role_due (at s now lasts (greeted s view)) given) _
+      (subst (λ (rs : List Record). Honest s now (IsStep s now lasts) rs (role_due (at s now lasts (greeted s view)) given)) (sym stays)
+      (role_come may base (greeted s view) given same has (in_parts s now base (may ≡ base ∷ []) view calm (greeted s view) refl refl refl refl)))
       (λ after begun is_step.
       subst (λ (n : ℕ). Honest s now (IsLast s now lasts) after (carry_out None n begun)) (sym same) (carried s now lasts after None begun is_step)))
 
@@ -246,7 +246,7 @@ module _ (s : Setup) (now : ℕ) (lasts : 0 < s.times.expire) where
       (on_test Q (is_holder s view now) _ _ (λ holds r h z. (held holds, sure_done view.sure (some_same _ r h ∙ z)))
       (λ no.
       on_cond Q (is_shown_elsewhere view.shown s.me now) _ _ (fails OVER (λ n. omega (arith, n)))
-      (on_cond Q (not (is_follower view.role) || is_promised_elsewhere view.promise s.me now) _ _ (fails BUSY (λ n. omega (arith, n)))
+      (on_cond Q (is_busy s view now) _ _ (fails BUSY (λ n. omega (arith, n)))
       (on_cond Q (not ready) _ _ (fails APRQ (λ n. omega (arith, n)))
       (on_cond Q (are_terms_spent view) _ _ (fails FAIL (λ n. omega (arith, n)))
       (on_cond Q (wants_to_wait options && spare == 0) _ _ (fails BUSY (λ n. omega (arith, n))) (λ r h z. absurd (none_is r h))))))))

@@ -65,8 +65,13 @@ module _ (conf : TicketConf) (me : MemberId) (address : Address) (lasts : 0 < co
   abbrev pub at_of : NodeConfig → Option ℕ
   at_of node = position (is_called conf.name) node.config.tickets
 
+  -- its configuration there says whether it follows the steady rules
+  abbrev pub steady_at : List TicketConf → Option ℕ → Bool
+  steady_at tickets None = false
+  steady_at tickets (Some place) = option_map_or (λ (own : TicketConf). own.steady) (slice_get tickets place) false
+
   abbrev pub setup : NodeConfig → Setup
-  setup node = setup_of node (unwrap_or (at_of node) 0) conf
+  setup node = record (setup_of node (unwrap_or (at_of node) 0) conf) { steady = steady_at node.config.tickets (at_of node) }
 
   -- the node is this member's, with an address of its own
   pub record IsItsNode (node : NodeConfig) : Type 0 where
@@ -205,13 +210,19 @@ module _ (w : World) (is_world : IsUntimedWorld w) (ticket : TicketConf) (one : 
   abbrev pub setup_now : NodeConfig → Setup
   setup_now node = setup ticket (id_at w m) (address_at w m) lasts node
 
-  -- the setup of the ticket is by its name and its times alone
-  setup_same : (node : NodeConfig) (place : ℕ) (own : TicketConf) → own.name ≡ ticket.name → own.times ≡ ticket.times → found node ≡ Some place
-      → setup_of node place own ≡ setup_now node
-  setup_same node place own named timed at =
-      ap (λ (name : List ℕ). setup_by name own.times node.config.members node.me (own_place node) (rank_at node place) node.second) named
-      ∙ ap (λ (times : Times). setup_by ticket.name times node.config.members node.me (own_place node) (rank_at node place) node.second) timed
-      ∙ ap (λ (o : Option ℕ). setup_of node (unwrap_or o 0) ticket) (sym at)
+  abbrev steady_of : NodeConfig → Option ℕ → Bool
+  steady_of node at = steady_at ticket (id_at w m) (address_at w m) lasts node.config.tickets at
+
+  -- the setup of the ticket is by its name, its times, and whether it follows the steady rules
+  setup_same : (node : NodeConfig) (place : ℕ) (own : TicketConf) → slice_get node.config.tickets place ≡ Some own
+      → own.name ≡ ticket.name → own.times ≡ ticket.times → found node ≡ Some place → setup_of node place own ≡ setup_now node
+  setup_same node place own there named timed at =
+      let by : List ℕ → Times → Bool → Setup = λ name times steady.
+      setup_by name times node.config.members node.me (own_place node) (rank_at node place) node.second steady in
+      ap (λ (name : List ℕ). by name own.times own.steady) named
+      ∙ ap (λ (times : Times). by ticket.name times own.steady) timed
+      ∙ ap (λ (o : Option TicketConf). by ticket.name ticket.times (option_map_or (λ (x : TicketConf). x.steady) o false)) (sym there)
+      ∙ ap (λ (o : Option ℕ). record (setup_of node (unwrap_or o 0) ticket) { steady = steady_of node o }) (sym at)
 
   opened_so : (node : NodeConfig) → IsNodeOf w m node → (reading : ℕ) (records : List (Option Record)) → length records ≡ length node.config.tickets
       → StartsWithIt ticket (Starts node reading records) → (may : List Record)
@@ -226,7 +237,7 @@ module _ (w : World) (is_world : IsUntimedWorld w) (ticket : TicketConf) (one : 
           known = known_at_start there.0.manual (setup_now node) rec now;
           own = started_at node now 0 place node.config.tickets records there.0 all there.1
               ∙ ap (λ (n : ℕ). Some (opened_by there.0 (setup_of node n there.0) rec now)) (omega arith)
-              ∙ ap (λ (s : Setup). Some (opened_by there.0 s rec now)) (setup_same node place there.0 named agrees.1 at);
+              ∙ ap (λ (s : Setup). Some (opened_by there.0 s rec now)) (setup_same node place there.0 there.1 named agrees.1 at);
           honest = subst (λ (rs : List Record). IsHonest (setup_now node) rs (known_at_start there.0.manual (setup_now node) rec now))
               (sym (ap (λ (o : Option ℕ). option_map_or (λ (n : ℕ). record_at records n ∷ []) o may) at))
               (subst (λ (b : Bool). IsHonest (setup_now node) (rec ∷ []) (known_at_start b (setup_now node) rec now))
@@ -466,7 +477,7 @@ tellers_are_apart w is_world ticket automatic early late between later first sec
       held_by w (untimed w is_world) ticket automatic late second at_second other tells_too live_too,
     ) in
     ⊎_elim
-    (λ (apart : IsApartFrom (cluster_of w ticket) first.member q.0 early.time late.time).
+    (λ (apart : IsApartFrom (cluster_of w ticket) ticket.times.after first.member q.0 early.time late.time).
     inl (apart early.time (omega arith) later.not_before holds.2))
     (λ (given : ReleasedIn w ticket first.member q.0 early.before between). inr (q.0, holds, q.2, given))
     (worlds_are_apart w is_world ticket automatic early late between later first.member second.member ne q.0 holds holds_too)

@@ -39,7 +39,8 @@ use Rattle.booth_world.proofs.CallSteps.{put_same}
 use Rattle.booth_world.proofs.Mirrors.{Repeats, IsTold}
 use Rattle.booth_world.proofs.NodeTurns.{IsPlacedAt}
 use Rattle.booth_world.proofs.NodeArrivals.{IsTurnOf, HearsGood, reacts}
-use Rattle.booth_world.proofs.HostRuns.{of_both}
+use Rattle.booth_world.proofs.HostRuns.{of_both, sent_as}
+use Rattle.booth_world.proofs.WorldPhases.{is_open, has_opened}
 use Rattle.booth_world.proofs.WorldSteps.{Trace, Frees, IsTrace, Setting, same_bytes, other_bytes, cluster, setup_at, cast, Seats, all_of, Doings, StandsAt, Shows, Steps, rests_so, then_says, moved_one, keeps_own, starts_own}
 use Rattle.booth_world.proofs.Configured.{names_apart}
 use Rattle.booth_world.specs.Cores.{Session}
@@ -204,7 +205,7 @@ module _ (w : World) (clocks : HasRisingClocks w) (ticket : TicketConf) (setting
             subst (λ (rs : List Record). Stepping hosts m session (Doing node (go (is_ok answer))) rs (IsTrace w ticket.name m hosts.now (Doing node (go (is_ok answer))) (Makes (calls.Keep ticket_name rec answer))))
             (ap (λ (r : Record). may_after_keep (is_ok answer) r may) (sym same)
             ∙ sym (when_true (bytes_eq ticket_name ticket.name) _ _ (same_bytes ticket_name ticket.name (named ∙ own.0))))
-            (keeps_own w ticket setting m below hosts session node (Doing node (Does (Keep name tried) go)) (Doing node (go (is_ok answer))) may
+            (keeps_own w ticket setting m below hosts within session node (Doing node (Does (Keep name tried) go)) (Doing node (go (is_ok answer))) may
             (IsTrace w ticket.name m hosts.now (Doing node (go (is_ok answer))) (Makes (calls.Keep ticket_name rec answer))) tried (is_ok answer) go x.stands.1 x.stands.2 own.1
             x.stands.0 refl x x.stands.3 x.stands.4 own.2 (own.3 (is_ok answer))
             (releases rec answer same (named ∙ own.0) own.1 (x.stands.3 ∙ ap (λ (t : TurnTree). Some t) own.2) own.4))
@@ -219,7 +220,7 @@ module _ (w : World) (clocks : HasRisingClocks w) (ticket : TicketConf) (setting
             rests_here (Doing node (Does (Start job) go)) (Doing node (go ok)) may may R x refl
             (x.stands.0, x.stands.1, x.stands.2, x.stands.3, x.stands.4, other ok)
         by_ticket (inr own) =
-            starts_own w ticket setting m below hosts session node (Doing node (Does (Start job) go)) (Doing node (go ok)) may R ok (own.2 ok).0 go
+            starts_own w ticket setting m below hosts within session node (Doing node (Does (Start job) go)) (Doing node (go ok)) may R ok (own.2 ok).0 go
             x.stands.1 x.stands.2 own.0 x.stands.0 refl x x.stands.3 x.stands.4 own.1 (own.2 ok).1
 
     -- the turn uses the reading of the clock as it is
@@ -234,7 +235,7 @@ module _ (w : World) (clocks : HasRisingClocks w) (ticket : TicketConf) (setting
     begins : (node : NodeConfig) (old : State) (answer : Result Arrival Failed) (bytes : List ℕ) (may : List Record) (reading : ℕ)
         → (x : Stood (Hearing node old answer bytes) may) → reading ≡ clock_at w m hosts.now
         → HearsGood (setup_at w ticket setting m session) x.stands.0.place node (read_by m hosts.now) (all_of w ticket setting m session node x.stands.0) below setting.most setting.enough
-        (MayCome (cast w ticket setting) hosts) answer bytes
+        (MayCome (cluster w ticket setting) (cast w ticket setting) session hosts) answer bytes
         → Stepping hosts m session (Doing node (react node old (used old.last_reading reading) answer bytes)) may (IsTrace w ticket.name m hosts.now (Doing node (react node old (used old.last_reading reading) answer bytes)) (Makes (calls.Now reading)))
     begins node old answer bytes may reading x read_is good =
         let R : Trace → Type 0 = IsTrace w ticket.name m hosts.now (Doing node (react node old (used old.last_reading reading) answer bytes)) (Makes (calls.Now reading)) in
@@ -242,18 +243,19 @@ module _ (w : World) (clocks : HasRisingClocks w) (ticket : TicketConf) (setting
         let moment : ℕ = read_by m hosts.now in
         let used_so : used old.last_reading reading ≡ moment = used_is old.last_reading x.time reading (x.stands.4 ∙ x.read) x.past read_is in
         let turn : IsTurnOf (setup_at w ticket setting m session) x.stands.0.place node moment (all_of w ticket setting m session node x.stands.0) below setting.most setting.enough
-        (MayCome (cast w ticket setting) hosts) view (react node old moment answer bytes) =
+        (MayCome (cluster w ticket setting) (cast w ticket setting) session hosts) view (react node old moment answer bytes) =
         reacts (setup_at w ticket setting m session) x.stands.0.place node moment (all_of w ticket setting m session node x.stands.0) below setting.most setting.enough
-        (MayCome (cast w ticket setting) hosts) old view answer bytes x.stands.3 x.stands.5 good in
+        (MayCome (cluster w ticket setting) (cast w ticket setting) session hosts) old view answer bytes x.stands.3 x.stands.5 good in
         let tree : TurnTree = turn_tree (setup_at w ticket setting m session) moment view turn.came turn.plan in
         subst (λ (at : ℕ). Stepping hosts m session (Doing node (react node old at answer bytes)) may R) (sym used_so)
-        (then_says w ticket setting m below hosts (BeginsTurn m hosts.now turn.came turn.plan) session (Doing node (react node old moment answer bytes)) may R tree (
+        (then_says w ticket setting m below hosts within (BeginsTurn m hosts.now turn.came turn.plan) session (Doing node (react node old moment answer bytes)) may R tree (
           below,
           omega arith,
           within,
           subst (λ (b : Session). IsSomeAnd (hosts.place m).tree (MayBegin (setup_at w ticket setting m b) moment turn.came turn.plan)) (sym x.same_session)
               (subst (λ (o : Option TurnTree). IsSomeAnd o (MayBegin (setup_at w ticket setting m session) moment turn.came turn.plan)) (sym x.stands.2) turn.may),
           turn.good,
+          is_open w setting.goes_on ticket (hosts.place m).session hosts.now within,
         )
         (moved_one w ticket setting m below hosts _ hosts.sent (λ l h. h))
         (ap (λ (p : HostPlace). p.tree) (put_same hosts.place m _)
@@ -268,11 +270,11 @@ module _ (w : World) (clocks : HasRisingClocks w) (ticket : TicketConf) (setting
           stands = (
             x.stands.0,
             tree,
-            hosts.sent,
+            [],
             tree_is,
-            (λ l h. h),
-            subst (λ (r : ℕ). Doings w ticket setting m session node x.stands.0 r hosts.sent (react node old moment answer bytes) tree)
-                (sym (reading_is ∙ ap (λ (q : HostPlace). q.reading) (put_same hosts.place m _))) (turn.over hosts.sent),
+            sent_as m tree [] hosts.sent (λ l h. absurd h),
+            subst (λ (r : ℕ). Doings w ticket setting m session node x.stands.0 r [] (react node old moment answer bytes) tree)
+                (sym (reading_is ∙ ap (λ (q : HostPlace). q.reading) (put_same hosts.place m _))) (turn.over []),
           );
         })
         (λ z r. absurd r) (λ k t r. (sym r.0, sym r.1, read_is)) (λ b r. absurd r) (λ p. tt))
@@ -282,7 +284,7 @@ module _ (w : World) (clocks : HasRisingClocks w) (ticket : TicketConf) (setting
     HearsGoodAt (Hearing node old answer bytes) =
         (own : Seats w ticket setting m session node)
         → HearsGood (setup_at w ticket setting m session) own.place node (read_by m hosts.now) (all_of w ticket setting m session node own) below setting.most setting.enough
-        (MayCome (cast w ticket setting) hosts) answer bytes
+        (MayCome (cluster w ticket setting) (cast w ticket setting) session hosts) answer bytes
     HearsGoodAt stand = Unit {0}
 
     abbrev pub ReadsHere : Entry → Type 0
@@ -392,10 +394,10 @@ module _ (w : World) (clocks : HasRisingClocks w) (ticket : TicketConf) (setting
     boots hosts session node its automatic reading records within down stays all is may_read on =
         let now : ℕ = read_by m hosts.now in
         let kept : Record = record_at records its.place in
-        then_says w ticket setting m below hosts (Boots m hosts.now session kept) session (Doing node (Ends (opened node records reading))) (kept ∷ [])
+        then_says w ticket setting m below hosts within (Boots m hosts.now session kept) session (Doing node (Ends (opened node records reading))) (kept ∷ [])
         (IsTrace w ticket.name m hosts.now (Doing node (Ends (opened node records reading))) (Starts node reading records))
         (Ends (started (setup_at w ticket setting m session) kept now))
-        (below, omega arith, within, down, may_read, stays, on)
+        (below, omega arith, within, down, may_read, stays, on, has_opened w setting.goes_on ticket session hosts.now its.first, is_open w setting.goes_on ticket session hosts.now within, (below, refl))
         (moved_one w ticket setting m below hosts _ hosts.sent (λ l h. h))
         (ap (λ (p : HostPlace). p.tree) (put_same hosts.place m _))
         (λ p tree_is reading_is may_is session_is. record {
@@ -407,9 +409,9 @@ module _ (w : World) (clocks : HasRisingClocks w) (ticket : TicketConf) (setting
           stands = (
             its,
             Ends (started (setup_at w ticket setting m session) kept now),
-            hosts.sent,
+            [],
             tree_is,
-            (λ l h. h),
+            (λ l h. absurd h),
             record {
               view = started (setup_at w ticket setting m session) kept now;
               ended = refl;

@@ -319,7 +319,7 @@ module _ (w : World) (is_world : IsUntimedWorld w) (ticket : TicketConf) (settin
         (read_by w is_world.rising_clocks ticket setting e.member e.time) shadow own
         (used_is w is_world.rising_clocks ticket setting e.member session below passed within old.last_reading x.time reading (x.stands.4 ∙ x.read) x.past r)
         heard members hosts.sent refl member head part let_in in
-        (q.0, q.1, q.2, q.3, (q.4, q.5))
+        (q.0, q.1, q.2, q.3, (q.4, q.5, q.6))
     good_at (Hearing node old (Ok (arrivals.Datagram from)) bytes) call x d r heard = absurd d
     good_at (Hearing node old (Ok (arrivals.Handler job status)) bytes) call x d r heard = λ own. tt
     good_at (Hearing node old (Ok arrivals.Quiet) bytes) call x d r heard = λ own. tt

@@ -13,6 +13,7 @@ use Rattle.booth_world.proofs.CoreRuns.{all_are_second, all_released, runs_of}
 use Rattle.booth_world.proofs.CoreSteps.{opens}
 use Rattle.booth_world.proofs.HostSteps.{follow_all, opens_hosts}
 use Rattle.booth_world.proofs.WorldEntries.{has_clocks}
+use Rattle.booth_world.proofs.WorldPhases.{has_phases}
 use Rattle.booth_world.proofs.WorldHosts.{after_hosts, append_none}
 use Rattle.booth_world.proofs.WorldRuns.{append_both, begins_free, is_cast, IsLeftIn, left_second, reached, reached_later}
 use Rattle.booth_world.proofs.WorldShadows.{shadow_by}
@@ -38,15 +39,16 @@ shadows_grow w is_world going recs ticket automatic early late between later =
     let c = cluster w ticket setting in
     let k = cast w ticket setting in
     let clocks = has_clocks w is_world.rising_clocks ticket setting (begins_free w is_world ticket setting) in
+    let phases = has_phases w setting.goes_on ticket in
     let seated = is_cast w is_world ticket setting in
     let r = reached w is_world ticket setting early in
     let hosts = after_hosts w is_world ticket setting (opening_hosts c k) r.entries in
     let q = reached_later w is_world ticket setting early late between hosts later r.now_is r.shadow in
     let last = after_hosts w is_world ticket setting hosts q.entries in
-    let f = follow_all c k clocks seated (opening_hosts c k) (opening_cores c k) r.entries (opens_hosts c k clocks seated) r.hosted_all in
+    let f = follow_all c k clocks phases seated (opening_hosts c k) (opening_cores c k) r.entries (opens_hosts c k clocks phases seated) r.hosted_all in
     let cores = cores_after c k (opening_cores c k) f.0 in
-    let g = follow_all c k clocks seated hosts cores q.entries f.2 q.hosted_all in
-    let course : CoreCourse c k f.0 g.0 = record { clocks = clocks; is_cast = seated; enters_early = f.1; enters_late = g.1 } in
+    let g = follow_all c k clocks phases seated hosts cores q.entries f.2 q.hosted_all in
+    let course : CoreCourse c k f.0 g.0 = record { clocks = clocks; phases = phases; is_cast = seated; enters_early = f.1; enters_late = g.1 } in
     let runs = runs_of c k f.0 g.0 course in
     let P : ℕ → ℕ → Type 0 = λ m time. ReadsIn r.entries m time ⊎ ReadsIn q.entries m time in
     let early_read = all_read c k P (opening_cores c k) f.0 (opening_read c k P)
@@ -60,10 +62,10 @@ shadows_grow w is_world going recs ticket automatic early late between later =
     λ trace x. subst (λ (es : List WorldEntry). IsLeftIn w is_world ticket setting [] es trace) (sym later.entries) (at_last [] early.before between _ x) in
     let freed_early : (z : Release) → Has cores.releases z → IsLeftIn w is_world ticket setting [] early.before (Frees z) =
     λ z h. ⊎_elim (λ (none : ⊥). absurd none) (λ in_entries. r.released z (f.3 z in_entries))
-    (all_released c k clocks seated (opening_cores c k) f.0 [] z tt (opens c k clocks seated) f.1 h) in
+    (all_released c k clocks phases seated (opening_cores c k) f.0 [] z tt (opens c k clocks phases seated) f.1 h) in
     let freed_late : (z : Release) → Has (cores_after c k cores g.0).releases z → Has cores.releases z ⊎ IsLeftIn w is_world ticket setting early.before between (Frees z) =
     λ z h. ⊎_elim (λ (old : Has cores.releases z). inl old) (λ in_entries. inr (q.released z (g.3 z in_entries)))
-    (all_released c k clocks seated cores g.0 runs.first z runs.run_first runs.early_holds g.1 h) in
+    (all_released c k clocks phases seated cores g.0 runs.first z runs.run_first runs.early_holds g.1 h) in
     record {
       first = shadow_by w is_world ticket setting early hosts cores runs.first (ReadsIn r.entries) r.now_is r.shadow f.2 runs.run_first
           runs.early_holds freed_early

@@ -42,6 +42,7 @@ use Rattle.booth_world.specs.Hosts.{HostEntry, HostPlace, Hosts, hosts_after}
 use Rattle.booth_world.specs.Shadows.{IsComing, LastStand, has_ticket, last_after, last_after_all, second_after, second_after_all}
 use Rattle.booth_world.proofs.Lists.{some_same}
 use Rattle.booth_world.proofs.AbsentTurns.{IsUnspoken, IsWithout, Quiet}
+use Rattle.booth_world.proofs.HostRuns.{SentAs}
 use Rattle.booth_world.proofs.Mirrors.{sent_by, SentMore, IsSpoken}
 use Rattle.booth_world.proofs.NodeActions.{IsLetIn}
 use Rattle.booth_world.proofs.WorldSteps.{Setting, Seats, equal_bytes, cluster, setup_at, cast, StandsAt, stands_more, Shows}
@@ -292,7 +293,7 @@ module _ (w : World) (is_world : IsUntimedWorld w) (ticket : TicketConf) (settin
   -- ---- what was sent
 
   sealed_said : (m : ℕ) (session : Session) (node : NodeConfig) (message' message : PlainMessage) (bytes : List ℕ) (known sent : List MemberMessage)
-      → SentMore known sent → IsSpoken node (setup_at w ticket setting m session) known message'
+      → SentAs m known sent → IsSpoken node (setup_at w ticket setting m session) known message'
       → bytes ≡ sealed node.ring message' → Fits message' → decoded bytes ≡ Ok message → IsSaidBy sent m message
   sealed_said m session node message' message bytes known sent more spoken bytes_are fits read part between is named =
       let same : message' ≡ message =
@@ -303,7 +304,7 @@ module _ (w : World) (is_world : IsUntimedWorld w) (ticket : TicketConf) (settin
         is_some node.ring,
         q.1,
         ap (λ (l : PlainMessage). l.head) (sym same) ∙ q.2,
-        more _ q.3,
+        more (record { sender = m; head = q.0; part = part }) q.3,
       )
 
   -- in a session without the ticket nothing is said of it
@@ -362,7 +363,7 @@ module _ (w : World) (is_world : IsUntimedWorld w) (ticket : TicketConf) (settin
       → (member : ℕ) (head : Head) (part : TicketPart)
       → IsLetIn node (verdict node.config node.ring node.me moment bytes) member its.place head part
       → (plain : Head) × (auth : Bool) × (time : ℕ) × (head ≡ stamped_head auth time plain)
-      × Has sent (record { sender = member; head = plain; part = part }) × (plain.from ≡ id_at w member)
+      × Has sent (record { sender = member; head = plain; part = part }) × (plain.from ≡ id_at w member) × (member < members_of w)
   hears_so m session before hosts node old from bytes reading moment shadow its used_so heard members sent same member head part x =
       let let_in : verdict node.config node.ring node.me (used old.last_reading reading) bytes ≡ Ok x.message =
       ap (λ (t : ℕ). verdict node.config node.ring node.me t bytes) used_so ∙ x.let_in in
@@ -381,4 +382,5 @@ module _ (w : World) (is_world : IsUntimedWorld w) (ticket : TicketConf) (settin
         subst (λ (n : ℕ). Has sent (record { sender = n; head = q.0; part = part })) same_member
             (subst (λ (ls : List MemberMessage). Has ls (record { sender = was.entry.member; head = q.0; part = part })) (sym same) q.4),
         ap (λ (h : Head). h.from) (sym q.3) ∙ sym was.sender ∙ ap (λ (n : ℕ). id_at w n) same_member,
+        subst (λ (n : ℕ). n < members_of w) same_member (members was.entry was.earlier),
       )

@@ -36,6 +36,7 @@ use Rattle.booth_world.proofs.HostCourses.{hosts_hold_one, hosts_are_apart, host
 use Rattle.booth_world.proofs.HostRuns.{hosted_join, after_join, released_join}
 use Rattle.booth_world.proofs.WorldSteps.{Trace, Frees, Reads, Begins, StartsIt, IsTrace, Setting, equal_bytes, cluster, cast}
 use Rattle.booth_world.proofs.WorldEntries.{has_clocks}
+use Rattle.booth_world.proofs.WorldPhases.{has_phases, is_distance, is_window}
 use Rattle.booth_world.proofs.WorldHosts.{has_here, entries_join, sessions_at, stand_own, last_of, append_none, no_stand, may_of, after_hosts, IsAt, placed_more, Shadows}
 use Rattle.booth_world.proofs.WorldGoes.{Extends, one_step}
 use Rattle.booth_world.specs.Clusters.{cluster_of, kept_at}
@@ -318,8 +319,8 @@ module _ (w : World) (is_world : IsUntimedWorld w) (ticket : TicketConf) (settin
   is_cast = record {
     ids = λ s t s_below t_below e.
         some_same s t (sym (setting.ids s s_below) ∙ ap (λ (i : MemberId). position (has_id i) w.members) e ∙ setting.ids t t_below);
-    seated = λ m below second. refl;
-    sound = setting.sound;
+    seated = λ m below session inside. refl;
+    sound = λ m below session inside. setting.sound m below session;
   }
 
   pub holds_so : (moment : Moment w) (m : ℕ) (hosts : Hosts) → hosts.now ≡ moment.time → Shadows w is_world ticket setting moment.before hosts
@@ -335,7 +336,7 @@ module _ (w : World) (is_world : IsUntimedWorld w) (ticket : TicketConf) (settin
       let r = reached moment in
       let hosts : Hosts = after_hosts w is_world ticket setting Opening r.entries in
       hosts_hold_one (cluster w ticket setting) (cast w ticket setting) r.entries
-      (record { clocks = has_clocks w is_world.rising_clocks ticket setting begins_free; is_cast = is_cast; hosted_early = r.hosted_all; hosted_late = tt })
+      (record { clocks = has_clocks w is_world.rising_clocks ticket setting begins_free; phases = has_phases w setting.goes_on ticket; is_cast = is_cast; hosted_early = r.hosted_all; hosted_late = tt })
       timed s t (by_s.0, holds_so moment s hosts r.now_is r.shadow by_s.0 by_s.1) (by_t.0, holds_so moment t hosts r.now_is r.shadow by_t.0 by_t.1)
 
   gave_back : (s : ℕ) (kept : Record) (z : Release) (earlier : List WorldEntry) (entry : WorldEntry)
@@ -356,20 +357,21 @@ module _ (w : World) (is_world : IsUntimedWorld w) (ticket : TicketConf) (settin
 
   pub are_apart : IsTimed (cluster w ticket setting) → (early late : Moment w) (between : List WorldEntry) → IsLater w early late between → (s t : ℕ) → s ≢ t → (kept : Record)
       → HoldsBy w ticket s early kept → HoldsIt w ticket t late
-      → IsApartFrom (cluster_of w ticket) s kept early.time late.time ⊎ ReleasedIn w ticket s kept early.before between
+      → IsApartFrom (cluster_of w ticket) ticket.times.after s kept early.time late.time ⊎ ReleasedIn w ticket s kept early.before between
   are_apart timed early late between later s t ne kept by_s by_t =
       let r = reached early in
       let hosts : Hosts = after_hosts w is_world ticket setting Opening r.entries in
       let q = reached_later early late between hosts later r.now_is r.shadow in
       let last : Hosts = after_hosts w is_world ticket setting hosts q.entries in
       ⊎_elim
-      (λ (apart : IsApartFrom (cluster w ticket setting) s kept hosts.now last.now).
-      inl (subst (λ (n : ℕ). IsApartFrom (cluster w ticket setting) s kept early.time n) q.now_is
-      (subst (λ (n : ℕ). IsApartFrom (cluster w ticket setting) s kept n last.now) r.now_is apart)))
+      (λ (apart : IsApartFrom (cluster w ticket setting) ticket.times.after s kept hosts.now last.now).
+      inl (subst (λ (n : ℕ). IsApartFrom (cluster w ticket setting) ticket.times.after s kept early.time n) q.now_is
+      (subst (λ (n : ℕ). IsApartFrom (cluster w ticket setting) ticket.times.after s kept n last.now) r.now_is apart)))
       (λ x. inr (some_so early.before between _ _ (λ earlier entry rel. gave_back s kept x.0 earlier entry rel x.2) (q.released x.0 x.1)))
       (hosts_are_apart (cluster w ticket setting) (cast w ticket setting) r.entries q.entries
-      (record { clocks = has_clocks w is_world.rising_clocks ticket setting begins_free; is_cast = is_cast; hosted_early = r.hosted_all; hosted_late = q.hosted_all })
-      timed s t ne kept (holds_so early s hosts r.now_is r.shadow kept by_s) (by_t.0, holds_so late t last q.now_is q.shadow by_t.0 by_t.1))
+      (record { clocks = has_clocks w is_world.rising_clocks ticket setting begins_free; phases = has_phases w setting.goes_on ticket; is_cast = is_cast; hosted_early = r.hosted_all; hosted_late = q.hosted_all })
+      timed s t ne kept ticket.times.after (is_distance w setting.goes_on ticket)
+      (holds_so early s hosts r.now_is r.shadow kept by_s) (by_t.0, holds_so late t last q.now_is q.shadow by_t.0 by_t.1))
 
   -- ---- version 2 alone
 
@@ -398,10 +400,11 @@ module _ (w : World) (is_world : IsUntimedWorld w) (ticket : TicketConf) (settin
       let whole : w.entries ≡ early.before ++ (between ++ late.after) =
       late.whole ∙ ap (λ (es : List WorldEntry). es ++ late.after) later.entries ∙ append_both early.before between late.after in
       later_host (cluster w ticket setting) (cast w ticket setting) r.entries q.entries
-      (record { clocks = has_clocks w is_world.rising_clocks ticket setting begins_free; is_cast = is_cast; hosted_early = r.hosted_all; hosted_late = q.hosted_all })
+      (record { clocks = has_clocks w is_world.rising_clocks ticket setting begins_free; phases = has_phases w setting.goes_on ticket; is_cast = is_cast; hosted_early = r.hosted_all; hosted_late = q.hosted_all })
       timed on (all_boots_second r.entries (λ v h. left_second all [] early.before early.after early.whole v (r.started v h)))
       (all_boots_second q.entries (λ v h. left_second all early.before between late.after whole v (q.started v h)))
-      s t ne kept other first second is_first is_second
+      s t ne kept other first second is_first is_second 0
+      (is_window w setting.goes_on ticket hosts.now last.now (subst (λ (n : ℕ). n < w.span) (sym q.now_is) late.within))
       (holds_so early s hosts r.now_is r.shadow kept by_s) (holds_so late t last q.now_is q.shadow other by_t)
 
   -- ---- terms
@@ -474,7 +477,7 @@ module _ (w : World) (is_world : IsUntimedWorld w) (ticket : TicketConf) (settin
           subst (λ (rs : List Record). Has rs some.0) (sym ((reached early).shadow.each s below).same_may) some.1 in
           let low = of_may some.0 there in
           let high = next_is_highest (cluster w ticket setting) (cast w ticket setting) (reached early).entries
-          (record { clocks = has_clocks w is_world.rising_clocks ticket setting begins_free; is_cast = is_cast; hosted_early = (reached early).hosted_all; hosted_late = tt })
+          (record { clocks = has_clocks w is_world.rising_clocks ticket setting begins_free; phases = has_phases w setting.goes_on ticket; is_cast = is_cast; hosted_early = (reached early).hosted_all; hosted_late = tt })
           s below kept go is some.0 (in_pending (hosts.place s).tree (hosts.place s).may some.0 there) in
           let same : kept.term ≡ k.term = ap (λ (r : Record). r.term) e in
           omega (arith, low, high, same)
@@ -490,5 +493,5 @@ module _ (w : World) (is_world : IsUntimedWorld w) (ticket : TicketConf) (settin
       let q = reached_later early late between hosts later r.now_is r.shadow in
       let last : Hosts = after_hosts w is_world ticket setting hosts q.entries in
       host_terms (cluster w ticket setting) (cast w ticket setting) r.entries q.entries
-      (record { clocks = has_clocks w is_world.rising_clocks ticket setting begins_free; is_cast = is_cast; hosted_early = r.hosted_all; hosted_late = q.hosted_all })
+      (record { clocks = has_clocks w is_world.rising_clocks ticket setting begins_free; phases = has_phases w setting.goes_on ticket; is_cast = is_cast; hosted_early = r.hosted_all; hosted_late = q.hosted_all })
       s term below on (at_host early s term below least) k (covers late s below last q.shadow k h)

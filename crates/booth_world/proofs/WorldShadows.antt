@@ -43,6 +43,7 @@ use Rattle.booth_world.proofs.NodeTurns.{IsPlacedAt}
 use Rattle.booth_world.proofs.Configured.{names_apart, no_position, going_on, setting_of}
 use Rattle.booth_world.proofs.Lists.{some_same}
 use Rattle.booth_world.proofs.WorldEntries.{has_clocks}
+use Rattle.booth_world.proofs.WorldPhases.{has_phases}
 use Rattle.booth_world.proofs.WorldHosts.{has_here, no_stand, after_hosts, may_of, IsAt, Shadows}
 use Rattle.booth_world.proofs.WorldRuns.{some_one, IsLeftIn, reached, begins_free, is_cast, covers, holds_so, holds_back, still_next}
 
@@ -240,12 +241,13 @@ worlds_have_shadows w is_world going recs ticket automatic moment =
     let r = reached w is_world ticket setting moment in
     let hosts = after_hosts w is_world ticket setting (opening_hosts c k) r.entries in
     let clocks = has_clocks w is_world.rising_clocks ticket setting (begins_free w is_world ticket setting) in
+    let phases = has_phases w setting.goes_on ticket in
     let seated = is_cast w is_world ticket setting in
-    let f = follow_all c k clocks seated (opening_hosts c k) (opening_cores c k) r.entries (opens_hosts c k clocks seated) r.hosted_all in
-    let runs = runs_of c k f.0 [] (record { clocks = clocks; is_cast = seated; enters_early = f.1; enters_late = tt }) in
+    let f = follow_all c k clocks phases seated (opening_hosts c k) (opening_cores c k) r.entries (opens_hosts c k clocks phases seated) r.hosted_all in
+    let runs = runs_of c k f.0 [] (record { clocks = clocks; phases = phases; is_cast = seated; enters_early = f.1; enters_late = tt }) in
     shadow_by w is_world ticket setting moment hosts (cores_after c k (opening_cores c k) f.0) runs.first (ReadsIn r.entries)
     r.now_is r.shadow f.2 runs.run_first runs.early_holds
     (λ z h. ⊎_elim (λ (none : ⊥). absurd none) (λ in_entries. r.released z (f.3 z in_entries))
-    (all_released c k clocks seated (opening_cores c k) f.0 [] z tt (opens c k clocks seated) f.1 h))
+    (all_released c k clocks phases seated (opening_cores c k) f.0 [] z tt (opens c k clocks phases seated) f.1 h))
     (all_read c k (ReadsIn r.entries) (opening_cores c k) f.0 (opening_read c k (ReadsIn r.entries)) f.4)
     r.read

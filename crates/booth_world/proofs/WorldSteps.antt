@@ -30,10 +30,11 @@ use Rattle.booth_world.proofs.Lists.{some_same}
 use Rattle.booth_world.proofs.CallSteps.{put_same}
 use Rattle.booth_world.proofs.CoreReads.{ReadsAt, ReadsIn, StartsAt, StartsIn}
 use Rattle.booth_world.proofs.TreePlaces.{put_other}
-use Rattle.booth_world.proofs.Mirrors.{skip, sent_by, later, SentMore, sent_more}
+use Rattle.booth_world.proofs.Mirrors.{skip, sent_by, later, SentMore}
 use Rattle.booth_world.proofs.NodeTrees.{IsFew}
 use Rattle.booth_world.proofs.NodeTurns.{IsPlacedAt, Over}
-use Rattle.booth_world.proofs.HostRuns.{IsOf, of_none, of_both, says, AreSaid, all_said, at_ask}
+use Rattle.booth_world.proofs.HostRuns.{SentAs, sent_under, sent_as, IsOf, of_none, of_both, says, AreSaid, IsOpen, all_said, at_ask}
+use Rattle.booth_world.proofs.WorldPhases.{is_open}
 use Rattle.std.proofs.lemmas.Slice.Eq.{bytes_eq-Decides}
 use Rattle.booth_world.specs.Clusters.{cluster_going}
 
@@ -58,9 +59,10 @@ IsTrace w name m now after what (Begins second) = StartsIt what second
 
 -- ---- the ticket in its configuration
 
--- the setup of a ticket, by its name and times, the members, a member's id, place and rank, and its version
-abbrev pub setup_by : List ℕ → Times → List Member → MemberId → ℕ → ℕ → Bool → Setup
-setup_by name times members me own rank second = record {
+-- the setup of a ticket, by its name and times, the members, a member's id, place and rank, its version and whether it
+-- follows the steady rules
+abbrev pub setup_by : List ℕ → Times → List Member → MemberId → ℕ → ℕ → Bool → Bool → Setup
+setup_by name times members me own rank second steady = record {
   ticket = name;
   me = me;
   place = own;
@@ -69,10 +71,11 @@ setup_by name times members me own rank second = record {
   rank = rank;
   times = times;
   second = second;
+  steady = steady;
 }
 
 abbrev pub setup_for : World → TicketConf → ℕ → Session → Setup
-setup_for w ticket m session = setup_by ticket.name ticket.times w.members (id_at w m) m session.rank session.second
+setup_for w ticket m session = setup_by ticket.name ticket.times w.members (id_at w m) m session.rank session.second session.steady
 
 -- What sound configurations give: each member's id is its own, the starts agree on the ticket, which is granted by
 -- votes, and each member's setup, in any session, is one that the rules take. Numbers of jobs are below `most`. And
@@ -110,7 +113,7 @@ module _ (w : World) (ticket : TicketConf) (setting : Setting w ticket) where
   abbrev pub cast : Cast
   cast = record { id_of = id_at w; setup = setup_at }
 
-  -- the node is this member's, in this session, and has the ticket at a place
+  -- the node is this member's, in this session of the only phase, and has the ticket at a place
   pub record Seats (m : ℕ) (session : Session) (node : NodeConfig) : Type 0 where
     pub own : IsNodeOf w m node
     pub place : ℕ
@@ -118,6 +121,7 @@ module _ (w : World) (ticket : TicketConf) (setting : Setting w ticket) where
     pub there : slice_get node.config.tickets place ≡ Some conf
     pub named : conf.name ≡ ticket.name
     pub same : setup_of node place conf ≡ setup_at m session
+    pub first : session.phase ≡ 0
 
   pub all_of : (m : ℕ) (session : Session) (node : NodeConfig) → Seats m session node → (setup_at m session).members ≡ length node.config.members
   all_of m session node seats = sym (ap (λ (members : List Member). length members) seats.own.members)
@@ -135,12 +139,12 @@ module _ (w : World) (ticket : TicketConf) (setting : Setting w ticket) where
       Over (setup_at m session) seats.place node moment (all_of m session node seats) known deeds tree
 
   -- In this session the host is at the next keep or start of this ticket, or at the end of its turn; what
-  -- comes before that is said already.
+  -- comes before that is said already, under the member's number.
   abbrev pub StandsAt : ℕ → Session → Stand → HostPlace → List MemberMessage → Type 0
   StandsAt m session Down p sent = Unit {0}
   StandsAt m session (Doing node deeds) p sent =
       (seats : Seats m session node) × (tree : TurnTree) × (known : List MemberMessage) × (p.tree ≡ Some (skip tree))
-      × SentMore (sent_by tree known) sent × Doings m session node seats p.reading known deeds tree
+      × SentAs m (sent_by tree known) sent × Doings m session node seats p.reading known deeds tree
   StandsAt m session (Hearing node old answer bytes) p sent =
       (seats : Seats m session node) × (view : View) × (p.tree ≡ Some (Ends view)) × IsPlacedAt (setup_at m session) seats.place view old.tickets
       × (old.last_reading ≡ p.reading) × IsFew old.common
@@ -156,7 +160,7 @@ module _ (w : World) (ticket : TicketConf) (setting : Setting w ticket) where
   pub stands_more : (m : ℕ) (session : Session) (stand : Stand) (p : HostPlace) (sent sent' : List MemberMessage) → SentMore sent sent'
       → StandsAt m session stand p sent → StandsAt m session stand p sent'
   stands_more m session Down p sent sent' more x = tt
-  stands_more m session (Doing node deeds) p sent sent' more x = (x.0, x.1, x.2, x.3, (λ l h. more l (x.4 l h)), x.5)
+  stands_more m session (Doing node deeds) p sent sent' more x = (x.0, x.1, x.2, x.3, (λ l h. more (record l { sender = m }) (x.4 l h)), x.5)
   stands_more m session (Hearing node old answer bytes) p sent sent' more x = x
 
   pub shows_more : (m : ℕ) (session : Session) (stand : Stand) (may : List Record) (now now' : ℕ) (p : HostPlace) (sent sent' : List MemberMessage)
@@ -242,19 +246,23 @@ module _ (w : World) (ticket : TicketConf) (setting : Setting w ticket) where
   }
 
   module _ (m : ℕ) (below : m < members_of w) where
+    -- the only phase is open while the clocks run
+    abbrev is_open_at : (hosts : Hosts) → hosts.now < w.span → IsOpen cluster cast m below hosts.now
+    is_open_at hosts within session = is_open w setting.goes_on ticket session hosts.now within
+
     -- one entry at the host, and then what is said
-    pub then_says : (hosts : Hosts) (entry : HostEntry) (session : Session) (stand : Stand) (may : List Record) (R : Trace → Type 0) (tree : TurnTree)
+    pub then_says : (hosts : Hosts) → hosts.now < w.span → (entry : HostEntry) (session : Session) (stand : Stand) (may : List Record) (R : Trace → Type 0) (tree : TurnTree)
         → MayHost cluster cast hosts entry → IsOf cluster cast m hosts (hosted cluster cast hosts entry)
         → ((hosted cluster cast hosts entry).place m).tree ≡ Some tree
         → ((p : HostPlace) → p.tree ≡ Some (skip tree) → p.reading ≡ ((hosted cluster cast hosts entry).place m).reading
         → p.may ≡ ((hosted cluster cast hosts entry).place m).may → p.session ≡ ((hosted cluster cast hosts entry).place m).session
-        → Shows m session stand may hosts.now p (sent_by tree (hosted cluster cast hosts entry).sent))
+        → Shows m session stand may hosts.now p (sent_under m tree (hosted cluster cast hosts entry).sent))
         → ((z : Release) → IsHostReleaseAt cluster hosts entry z → R (Frees z)) → ((k time : ℕ) → ReadsAt entry k time → R (Reads k time))
         → ((version : Bool) → StartsAt entry version → R (Begins version)) → ((p : HostPlace) → AtCut stand (hosts.place m) p)
         → Steps hosts m session stand may R
-    then_says hosts entry session stand may R tree may_do own is shows rel reading starting cut =
+    then_says hosts within entry session stand may R tree may_do own is shows rel reading starting cut =
         let after : Hosts = hosted cluster cast hosts entry in
-        let said : AreSaid cluster cast m below after tree = all_said cluster cast m below after tree is in
+        let said : AreSaid cluster cast m below after tree = all_said cluster cast m below after tree (is_open_at after (let same = own.same_now in omega (arith, same, within))) is in
         let last : Hosts = hosts_after cluster cast after (says cluster cast m below tree) in
         record {
           entries = entry ∷ says cluster cast m below tree;
@@ -276,19 +284,19 @@ module _ (w : World) (ticket : TicketConf) (setting : Setting w ticket) where
     moved_one hosts p sent more = record { same_now = refl; others = λ k ne. put_other hosts.place m k p ne; still_sent = more }
 
     -- a keep of this ticket is answered
-    pub keeps_own : (hosts : Hosts) (session : Session) (node : NodeConfig) (before stand : Stand) (may : List Record) (R : Trace → Type 0) (tried : Record) (ok : Bool)
+    pub keeps_own : (hosts : Hosts) → hosts.now < w.span → (session : Session) (node : NodeConfig) (before stand : Stand) (may : List Record) (R : Trace → Type 0) (tried : Record) (ok : Bool)
         (go : Bool → Deeds Ask State) (tree : TurnTree) (known : List MemberMessage) (rest : Bool → TurnTree)
         → (own : Seats m session node) → stand ≡ Doing node (go ok)
         → Shows m session before may hosts.now (hosts.place m) hosts.sent
-        → (hosts.place m).tree ≡ Some (skip tree) → SentMore (sent_by tree known) hosts.sent
+        → (hosts.place m).tree ≡ Some (skip tree) → SentAs m (sent_by tree known) hosts.sent
         → skip tree ≡ Does (Keeps tried) rest
         → Doings m session node own (hosts.place m).reading (sent_by tree known) (go ok) (rest ok)
         → ((z : Release) → IsHostReleaseAt cluster hosts (DoesAsk m (Keeps tried) ok) z → R (Frees z))
         → Steps hosts m session stand (may_after_keep ok tried may) R
-    keeps_own hosts session node before stand may R tried ok go tree known rest its stand_is x there more next_keep on rel =
+    keeps_own hosts within session node before stand may R tried ok go tree known rest its stand_is x there more next_keep on rel =
         let at_keep : (hosts.place m).tree ≡ Some (Does (Keeps tried) rest) = there ∙ ap (λ (t : TurnTree). Some t) next_keep in
-        then_says hosts (DoesAsk m (Keeps tried) ok) session stand (may_after_keep ok tried may) R (rest ok)
-        (below, subst (λ (o : Option TurnTree). IsSomeAnd o (IsNextAsk (Keeps tried))) (sym at_keep) refl)
+        then_says hosts within (DoesAsk m (Keeps tried) ok) session stand (may_after_keep ok tried may) R (rest ok)
+        (below, subst (λ (o : Option TurnTree). IsSomeAnd o (IsNextAsk (Keeps tried))) (sym at_keep) refl, is_open_at hosts within (hosts.place m).session)
         (moved_one hosts _ hosts.sent (λ l h. h))
         (ap (λ (p : HostPlace). p.tree) (put_same hosts.place m _) ∙ ap (λ (o : Option TurnTree). went_on ok o) at_keep)
         (λ p tree_is reading_is may_is session_is. record {
@@ -297,12 +305,12 @@ module _ (w : World) (ticket : TicketConf) (setting : Setting w ticket) where
           time = x.time;
           past = x.past;
           read = reading_is ∙ ap (λ (q : HostPlace). q.reading) (put_same hosts.place m _) ∙ x.read;
-          stands = subst (λ (d : Stand). StandsAt m session d p (sent_by (rest ok) hosts.sent)) (sym stand_is) (
+          stands = subst (λ (d : Stand). StandsAt m session d p (sent_under m (rest ok) hosts.sent)) (sym stand_is) (
             its,
             rest ok,
             sent_by tree known,
             tree_is,
-            sent_more (rest ok) (sent_by tree known) hosts.sent more,
+            sent_as m (rest ok) (sent_by tree known) hosts.sent more,
             subst (λ (r : ℕ). Doings m session node its r (sent_by tree known) (go ok) (rest ok))
                 (sym (reading_is ∙ ap (λ (q : HostPlace). q.reading) (put_same hosts.place m _))) on,
           );
@@ -323,7 +331,7 @@ module _ (w : World) (ticket : TicketConf) (setting : Setting w ticket) where
     ShowsAt hosts session stand may tree =
         (p : HostPlace) → p.tree ≡ Some (skip tree) → p.reading ≡ (hosts.place m).reading → p.may ≡ (hosts.place m).may
         → p.session ≡ (hosts.place m).session
-        → Shows m session stand may hosts.now p (sent_by tree hosts.sent)
+        → Shows m session stand may hosts.now p (sent_under m tree hosts.sent)
 
     asked_tree : (ok : Bool) (hosts : Hosts) (go : Bool → TurnTree) (tree : TurnTree) → (hosts.place m).tree ≡ Some (Does AsksElse go) → go ok ≡ tree
         → ((asked_hosts ok hosts).place m).tree ≡ Some tree
@@ -338,35 +346,35 @@ module _ (w : World) (ticket : TicketConf) (setting : Setting w ticket) where
         (session_is ∙ ap (λ (q : HostPlace). q.session) (put_same hosts.place m _))
 
     -- it is answered, and then what follows is said
-    asked_once : (ok : Bool) (hosts : Hosts) (go : Bool → TurnTree) (session : Session) (stand : Stand) (may : List Record) (R : Trace → Type 0) (tree : TurnTree)
+    asked_once : (ok : Bool) (hosts : Hosts) → hosts.now < w.span → (go : Bool → TurnTree) (session : Session) (stand : Stand) (may : List Record) (R : Trace → Type 0) (tree : TurnTree)
         → (hosts.place m).tree ≡ Some (Does AsksElse go) → go ok ≡ tree → ShowsAt hosts session stand may tree
         → ((old new : HostPlace) → AtCut stand old new) → Steps hosts m session stand may R
-    asked_once ok hosts go session stand may R tree there is shows cut =
-        then_says hosts (DoesAsk m AsksElse ok) session stand may R tree (at_ask cluster cast m below hosts AsksElse ok go there)
+    asked_once ok hosts within go session stand may R tree there is shows cut =
+        then_says hosts within (DoesAsk m AsksElse ok) session stand may R tree (at_ask cluster cast m below hosts AsksElse ok go (is_open_at hosts within) there)
         (moved_one hosts _ hosts.sent (λ l h. h)) (asked_tree ok hosts go tree there is) (asked_shows ok hosts session stand may tree shows)
         (λ z r. absurd r) (λ k t r. absurd r) (λ b r. absurd r) (λ p. cut (hosts.place m) p)
 
     -- it is answered, and then what else is asked for so, and then what follows is said
-    asked : (ok : Bool) (answers : List Bool) (hosts : Hosts) (go : Bool → TurnTree) (session : Session) (stand : Stand) (may : List Record) (R : Trace → Type 0)
+    asked : (ok : Bool) (answers : List Bool) (hosts : Hosts) → hosts.now < w.span → (go : Bool → TurnTree) (session : Session) (stand : Stand) (may : List Record) (R : Trace → Type 0)
         → (hosts.place m).tree ≡ Some (Does AsksElse go) → ShowsAt hosts session stand may (later answers (go ok))
         → ((old new : HostPlace) → AtCut stand old new) → Steps hosts m session stand may R
-    asked ok [] hosts go session stand may R there shows cut = asked_once ok hosts go session stand may R (go ok) there refl shows cut
-    asked ok (b ∷ more) hosts go session stand may R there shows cut =
-        by_tree (go ok) refl shows (λ on is shows_then. asked b more (asked_hosts ok hosts) on session stand may R is shows_then cut)
+    asked ok [] hosts within go session stand may R there shows cut = asked_once ok hosts within go session stand may R (go ok) there refl shows cut
+    asked ok (b ∷ more) hosts within go session stand may R there shows cut =
+        by_tree (go ok) refl shows (λ on is shows_then. asked b more (asked_hosts ok hosts) within on session stand may R is shows_then cut)
       where
         by_tree : (tree : TurnTree) → go ok ≡ tree → ShowsAt hosts session stand may (later (b ∷ more) tree)
             → ((on : Bool → TurnTree) → ((asked_hosts ok hosts).place m).tree ≡ Some (Does AsksElse on)
             → ShowsAt (asked_hosts ok hosts) session stand may (later more (on b)) → Steps (asked_hosts ok hosts) m session stand may R)
             → Steps hosts m session stand may R
-        by_tree (Ends view) is shows_then on_more = asked_once ok hosts go session stand may R (Ends view) there is shows_then cut
-        by_tree (Does (Keeps kept) on) is shows_then on_more = asked_once ok hosts go session stand may R (Does (Keeps kept) on) there is shows_then cut
-        by_tree (Does (Sends message) on) is shows_then on_more = asked_once ok hosts go session stand may R (Does (Sends message) on) there is shows_then cut
+        by_tree (Ends view) is shows_then on_more = asked_once ok hosts within go session stand may R (Ends view) there is shows_then cut
+        by_tree (Does (Keeps kept) on) is shows_then on_more = asked_once ok hosts within go session stand may R (Does (Keeps kept) on) there is shows_then cut
+        by_tree (Does (Sends message) on) is shows_then on_more = asked_once ok hosts within go session stand may R (Does (Sends message) on) there is shows_then cut
         by_tree (Does AsksElse on) is shows_then on_more =
             let rest : Steps (asked_hosts ok hosts) m session stand may R =
             on_more on (asked_tree ok hosts go (Does AsksElse on) there is) (asked_shows ok hosts session stand may (later more (on b)) shows_then) in
             record {
               entries = DoesAsk m AsksElse ok ∷ rest.entries;
-              hosted_all = (at_ask cluster cast m below hosts AsksElse ok go there, rest.hosted_all);
+              hosted_all = (at_ask cluster cast m below hosts AsksElse ok go (is_open_at hosts within) there, rest.hosted_all);
               own = of_both cluster cast m hosts (asked_hosts ok hosts) (hosts_after cluster cast (asked_hosts ok hosts) rest.entries)
                   (moved_one hosts _ hosts.sent (λ l h. h)) rest.own;
               here = rest.here;
@@ -377,28 +385,28 @@ module _ (w : World) (ticket : TicketConf) (setting : Setting w ticket) where
             }
 
     -- a start of this ticket's handler is answered
-    pub starts_own : (hosts : Hosts) (session : Session) (node : NodeConfig) (before stand : Stand) (may : List Record) (R : Trace → Type 0) (ok : Bool)
+    pub starts_own : (hosts : Hosts) → hosts.now < w.span → (session : Session) (node : NodeConfig) (before stand : Stand) (may : List Record) (R : Trace → Type 0) (ok : Bool)
         (answers : List Bool) (go : Bool → Deeds Ask State) (tree : TurnTree) (known : List MemberMessage) (rest : Bool → TurnTree)
         → (own : Seats m session node) → stand ≡ Doing node (go ok)
         → Shows m session before may hosts.now (hosts.place m) hosts.sent
-        → (hosts.place m).tree ≡ Some (skip tree) → SentMore (sent_by tree known) hosts.sent
+        → (hosts.place m).tree ≡ Some (skip tree) → SentAs m (sent_by tree known) hosts.sent
         → skip tree ≡ Does AsksElse rest
         → Doings m session node own (hosts.place m).reading (sent_by tree known) (go ok) (later answers (rest ok))
         → Steps hosts m session stand may R
-    starts_own hosts session node before stand may R ok answers go tree known rest its stand_is x there more next_start on =
-        asked ok answers hosts rest session stand may R (there ∙ ap (λ (t : TurnTree). Some t) next_start)
+    starts_own hosts within session node before stand may R ok answers go tree known rest its stand_is x there more next_start on =
+        asked ok answers hosts within rest session stand may R (there ∙ ap (λ (t : TurnTree). Some t) next_start)
         (λ p tree_is reading_is may_is session_is. record {
           same_session = session_is ∙ x.same_session;
           same_may = may_is ∙ x.same_may;
           time = x.time;
           past = x.past;
           read = reading_is ∙ x.read;
-          stands = subst (λ (d : Stand). StandsAt m session d p (sent_by (later answers (rest ok)) hosts.sent)) (sym stand_is) (
+          stands = subst (λ (d : Stand). StandsAt m session d p (sent_under m (later answers (rest ok)) hosts.sent)) (sym stand_is) (
             its,
             later answers (rest ok),
             sent_by tree known,
             tree_is,
-            sent_more (later answers (rest ok)) (sent_by tree known) hosts.sent more,
+            sent_as m (later answers (rest ok)) (sent_by tree known) hosts.sent more,
             subst (λ (r : ℕ). Doings m session node its r (sent_by tree known) (go ok) (later answers (rest ok))) (sym reading_is) on,
           );
         })

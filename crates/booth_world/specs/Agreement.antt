@@ -23,20 +23,20 @@ abbrev pub AreIds : ℕ → (ℕ → MemberId) → Type 0
 AreIds members id_of =
     (s t : ℕ) → s < members → t < members → id_of s ≡ id_of t → s ≡ t
 
--- The setup of the member at this place of the cluster, in a session of version 2 or 1. The ticket's name and the
--- member's rank stay as in the given setup.
-abbrev pub seat : Cluster → (ℕ → MemberId) → ℕ → Bool → Setup → Setup
-seat c id_of m second setup = record setup {
+-- The setup of the member with this number in the cluster, in a session of version 2 or 1 and of a phase. The ticket's
+-- name and the member's rank stay as in the given setup.
+abbrev pub seat : Cluster → (ℕ → MemberId) → ℕ → Bool → ℕ → Setup → Setup
+seat c id_of m second phase setup = record setup {
   me = id_of m;
-  place = m;
-  members = c.members;
+  place = (c.phase phase).seats.place m;
+  members = (c.phase phase).seats.size;
   site = c.is_site m;
-  times = c.times;
+  times = (c.phase phase).times;
   second = second;
 }
 
-abbrev pub IsSeated : Cluster → (ℕ → MemberId) → ℕ → Bool → Setup → Type 0
-IsSeated c id_of m second setup = setup ≡ seat c id_of m second setup
+abbrev pub IsSeated : Cluster → (ℕ → MemberId) → ℕ → Bool → ℕ → Setup → Type 0
+IsSeated c id_of m second phase setup = setup ≡ seat c id_of m second phase setup
 
 -- ---- members: the rules name them by ids, and the world by places
 
@@ -88,9 +88,9 @@ abbrev pub HasAnswered : Facts → Round → ℕ → Type 0
 HasAnswered f round place =
     (a : Answer) × (Has f.answers a) × (a.member ≡ place) × (a.round ≡ round)
 
--- The view's round is the round that the member has open. If the view notes that a member answered the round, the
--- member has answered it.
-pub record IsOpen (f : Facts) (m : ℕ) (round : ViewRound) (open_round : Option Round) : Type 0 where
+-- The view's round is the round that the member has open. If the view notes that the member at a place answered the
+-- round, this member has answered it. The view names members by their places in the round's phase.
+pub record IsOpen (c : Cluster) (f : Facts) (m : ℕ) (round : ViewRound) (open_round : Option Round) : Type 0 where
   pub own : Round
   pub open_at : open_round ≡ Some own
   pub site : own.site ≡ m
@@ -98,7 +98,7 @@ pub record IsOpen (f : Facts) (m : ℕ) (round : ViewRound) (open_round : Option
   pub number : own.number ≡ round.number
   pub opened : own.opened ≡ round.opened
   pub answered : (place : ℕ) → slice_index_or round.answers place false ≡ true
-      → HasAnswered f own place
+      → (place < (c.phase own.phase).seats.size) × HasAnswered f own ((c.phase own.phase).seats.number place)
 
 -- ---- a view and a member
 
@@ -136,7 +136,7 @@ IsAsked c id_of f m x view (rules.Renew number) =
     (c.is_site m ≡ true) × (x.bound ≡ Some m) × IsSomeAnd view.round (λ round. round.number + 1 ≡ number)
     × (x.second ≡ true → PromisesItself c m x)
 IsAsked c id_of f m x view (rules.Answer kind to number request told) =
-    PromisesTo id_of f.rounds x.second x.term x.at (x.reading + promise_time c) x.bound x.promise to number
+    PromisesTo id_of f.rounds x.second x.term x.at (x.reading + promise_time c x.phase) x.bound x.promise to number
 IsAsked c id_of f m x view rule = c.is_site m ≡ true
 
 -- A record whose write waits may have been written, and its pledge is the member's.
@@ -157,7 +157,7 @@ pub record Agrees (c : Cluster) (id_of : ℕ → MemberId) (f : Facts) (m : ℕ)
   pub abstain : view.abstain ≡ x.abstain
   pub within : IsWithin c.members x.bound x.promise
   pub kept : Has (records_in id_of x.may) view.kept
-  pub round : ForSome view.round (λ round. IsOpen f m round x.round)
+  pub round : ForSome view.round (λ round. IsOpen c f m round x.round)
   pub tried : ForSome view.waiting (λ waits. IsTried id_of x waits.tried)
   pub asked : ForSome view.waiting (λ waits. IsAsked c id_of f m x view waits.rule)
   pub active : IsTrue (is_candidate view.role || is_leader view.role) → c.is_site m ≡ true

@@ -1,5 +1,5 @@
 -- Each call of the lease rules, and each result of a write, is a list of world steps of its member.
-use Rattle.std.specs.Prelude.{◌≡◌, ℕ, ◌<◌, List, [], ◌∷◌, Bool, true, false, None, IsTrue}
+use Rattle.std.specs.Prelude.{◌≡◌, ℕ, ◌<◌, ◌≤◌, List, [], ◌∷◌, Bool, true, false, None, IsTrue}
 use Rattle.booth_base.specs.declared.address.MemberId.{MemberId}
 use Rattle.booth_rec.specs.declared.record.Record.{Record}
 use Rattle.booth_wire.specs.declared.message.Say.TheVariants as says
@@ -11,10 +11,10 @@ use Rattle.booth_raft.specs.RoundsAndAnswers.{MayAnswer}
 use Rattle.booth_raft.specs.Sound.{IsSound}
 use Rattle.booth_world.specs.Reading.{MayBeRead, IsLaterOrKept}
 use Rattle.booth_world.specs.Facts.{Facts}
-use Rattle.booth_world.specs.States.{MemberState, WorldState, opening, Cluster, HasClocks}
+use Rattle.booth_world.specs.States.{MemberState, WorldState, opening, Cluster, HasClocks, HasPhases}
 use Rattle.booth_world.specs.Rounds.{MayPromise}
 use Rattle.booth_world.specs.Steps.{MemberStep, WorldStep, IsRun, after_steps, world_of}
-use Rattle.booth_world.specs.MemberRuns.{IsMemberRun, member_after_all, facts_after_all, world_steps}
+use Rattle.booth_world.specs.MemberRuns.{IsMemberRun, AreTimely, member_after_all, facts_after_all, world_steps}
 use Rattle.booth_world.specs.Agreement.{AreIds, IsSeated, records_in, Agrees}
 use Rattle.booth_world.specs.Messages.{IsFact}
 use Rattle.booth_world.specs.Gives.{may_answered, Mark, mark_of, releases_answered, Given, given_by, LeadsTo}
@@ -43,7 +43,9 @@ pub record Caller : Type 0 where
 pub record IsMember (c : Cluster) (w : WorldState) (member : Caller) : Type 0 where
   pub ids : AreIds c.members member.id_of
   pub below : member.place < c.members
-  pub seated : IsSeated c member.id_of member.place (w.member member.place).second member.setup
+  pub seated : IsSeated c member.id_of member.place (w.member member.place).second (w.member member.place).phase
+      member.setup
+  pub timely : w.now ≤ (c.phase (w.member member.place).phase).closes
   pub sound : IsSound member.setup
   pub view_facts : ViewFacts member.setup member.view
   pub agrees : Agrees c member.id_of w.facts member.place member.view (w.member member.place)
@@ -51,7 +53,7 @@ pub record IsMember (c : Cluster) (w : WorldState) (member : Caller) : Type 0 wh
 -- The property holds for each member of each world to which a list of steps leads.
 abbrev pub OfEachMember : (Cluster → WorldState → Caller → Type 0) → Type 0
 OfEachMember P =
-    (c : Cluster) → HasClocks c → (steps : List WorldStep) → IsRun c (opening c) steps
+    (c : Cluster) → HasClocks c → HasPhases c → (steps : List WorldStep) → IsRun c (opening c) steps
     → (member : Caller) → IsMember c (world_of c steps) member → P c (world_of c steps) member
 
 abbrev pub state_of : WorldState → Caller → MemberState
@@ -66,10 +68,10 @@ mark_at w m = mark_of w.now m (w.member m)
 abbrev pub Gives : Cluster → (ℕ → MemberId) → WorldState → ℕ → Given → Type 0
 Gives c id_of w m given = LeadsTo c id_of (mark_at w m) w.facts (w.member m) given
 
--- Steps of the member in a session of this version lead from this world to the given result.
-abbrev pub GivesIn : Bool → Cluster → (ℕ → MemberId) → WorldState → ℕ → Given → Type 0
-GivesIn second c id_of w m given =
-    LeadsTo c id_of (record (mark_at w m) { second = second }) w.facts (w.member m) given
+-- Steps of the member in a session of this version and this phase lead from this world to the given result.
+abbrev pub GivesIn : Bool → ℕ → Cluster → (ℕ → MemberId) → WorldState → ℕ → Given → Type 0
+GivesIn second phase c id_of w m given =
+    LeadsTo c id_of (record (mark_at w m) { second = second; phase = phase }) w.facts (w.member m) given
 
 -- The result of a call, at the member's last reading.
 abbrev pub given_by_call : Rules → WorldState → Caller → CoreCall → Given
@@ -98,13 +100,15 @@ given_by_start rules w m setup kept = record {
 
 -- ---- the calls
 
--- A message of a member arrives at the true time of the reading, and is a fact about its sender.
+-- A message of a member arrives at the true time of the reading, and is a fact about its sender. The sender is named by
+-- its place in the phase of the member's session.
 pub record IsHeard (c : Cluster) (w : WorldState) (member : Caller) (message : MemberMessage)
     : Type 0 where
   pub timely : (state_of w member).at ≡ w.now
-  pub below : message.sender < c.members
-  pub from : message.head.from ≡ member.id_of message.sender
-  pub fact : IsFact member.id_of w.facts message.sender message.head message.part message.head.cmd
+  pub below : message.sender < (c.phase (state_of w member).phase).seats.size
+  pub from : message.head.from ≡ member.id_of ((c.phase (state_of w member).phase).seats.number message.sender)
+  pub fact : IsFact member.id_of w.facts ((c.phase (state_of w member).phase).seats.number message.sender)
+      message.head message.part message.head.cmd
 
 -- The condition of a call, apart from the condition that no write waits.
 abbrev pub MayCall : Cluster → WorldState → Caller → CoreCall → Type 0
@@ -118,14 +122,14 @@ MayCall c w member call = Unit {0}
 -- either version, but not of version 1 after one of version 2.
 abbrev pub StartsAreSteps : Rules → Type 0
 StartsAreSteps rules =
-    (c : Cluster) → HasClocks c → (steps : List WorldStep) → IsRun c (opening c) steps
-    → (id_of : ℕ → MemberId) (m : ℕ) (second : Bool) (setup : Setup)
-    → AreIds c.members id_of → m < c.members → IsSeated c id_of m second setup
+    (c : Cluster) → HasClocks c → HasPhases c → (steps : List WorldStep) → IsRun c (opening c) steps
+    → (id_of : ℕ → MemberId) (m : ℕ) (second : Bool) (phase : ℕ) (setup : Setup)
+    → AreIds c.members id_of → m < c.members → IsSeated c id_of m second phase setup
     → ((world_of c steps).member m).up ≡ false
     → (((world_of c steps).member m).second ≡ true → second ≡ true)
     → (kept : Record) → MayBeRead (c.is_site m) (records_in id_of ((world_of c steps).member m).may) kept
     → (c.goes_on ≡ true → IsLaterOrKept (records_in id_of ((world_of c steps).member m).may) kept)
-    → GivesIn second c id_of (world_of c steps) m (given_by_start rules (world_of c steps) m setup kept)
+    → GivesIn second phase c id_of (world_of c steps) m (given_by_start rules (world_of c steps) m setup kept)
 
 -- Each start, each call and each result of a write gives steps. The result of a write may come later than its call,
 -- after steps of other members.
@@ -141,7 +145,7 @@ pub record CallsAreSteps (rules : Rules) : Type 0 where
 abbrev pub StepsOfOneAreSteps : Type 0
 StepsOfOneAreSteps =
     (c : Cluster) (w : WorldState) (m : ℕ) (steps : List MemberStep) → m < c.members
-    → IsMemberRun c w.now m w.facts (w.member m) steps
+    → IsMemberRun c w.now m w.facts (w.member m) steps → AreTimely c w.now m (w.member m) steps
     → IsRun c w (world_steps m steps)
     × ((after_steps c w (world_steps m steps)).member m
     ≡ member_after_all c w.now m (w.member m) steps)

@@ -8,6 +8,7 @@ use Rattle.booth_rec.specs.declared.record.Record.{Record}
 use Rattle.booth_rec.specs.Record.{is_second}
 use Rattle.booth_node.specs.Opening.{is_site_at}
 use Rattle.booth_node.specs.World.{World, members_of, begins_with}
+use Rattle.booth_world.specs.OnePhase.{all_seats, only_phase}
 use Rattle.booth_world.specs.States.{Promise, KeptRecord, Cluster}
 
 -- The place of the member with this id.
@@ -33,13 +34,14 @@ kept_at w kept = record {
       else None;
 }
 
--- The cluster of a ticket, from the world's members, clocks and configuration. If `going` is true, each of its starts
--- goes on from a record that its member may have written, or in a later term.
+-- The cluster of a ticket, from the world's members, clocks and configuration. It has one phase, since all starts of a
+-- world have the same members, and the ticket has the same times in each of them. If `going` is true, each of its
+-- starts goes on from a record that its member may have written, or in a later term.
 abbrev pub cluster_going : Bool → World → TicketConf → Cluster
 cluster_going going w ticket = record {
   members = members_of w;
   is_site = is_site_at w.members;
-  times = ticket.times;
+  phase = only_phase w.span w.ticks (all_seats (members_of w)) ticket.times;
   ticks = w.ticks;
   span = w.span;
   clock = w.clock;

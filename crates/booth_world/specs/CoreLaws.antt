@@ -6,7 +6,7 @@ use Rattle.booth_rec.specs.declared.record.Record.{Record}
 use Rattle.booth_rec.specs.Record.{IsInForce}
 use Rattle.booth_raft.specs.declared.view.Rule.{Rule}
 use Rattle.booth_raft.specs.declared.view.Rule.TheVariants as rules
-use Rattle.booth_world.specs.States.{Cluster, HasClocks, IsTimed, reads}
+use Rattle.booth_world.specs.States.{Cluster, HasClocks, IsTimed, HasPhases, IsDistance, IsWindow, reads}
 use Rattle.booth_world.specs.Facts.{Has, Release}
 use Rattle.booth_world.specs.Held.{IsApartFrom, GivesBackLease}
 use Rattle.booth_world.specs.Cores.{CoreEntry, HasAnswer, StartsWith, Cores, opening_cores, Cast, IsCast, entered, AreEntered, cores_after}
@@ -49,6 +49,7 @@ CoreHolds c cores s = (k : Record) × CoreHoldsBy c cores s k
 -- A list of entries from the very beginning, in two parts: the early entries and the late ones.
 pub record CoreCourse (c : Cluster) (cast : Cast) (early late : List CoreEntry) : Type 0 where
   pub clocks : HasClocks c
+  pub phases : HasPhases c
   pub is_cast : IsCast c cast
   pub enters_early : AreEntered c cast (opening_cores c cast) early
   pub enters_late : AreEntered c cast (cores_after c cast (opening_cores c cast) early) late
@@ -71,9 +72,9 @@ CoresHoldOne =
 abbrev pub CoresAreApart : Type 0
 CoresAreApart =
     (c : Cluster) (cast : Cast) (early late : List CoreEntry) → CoreCourse c cast early late → IsTimed c
-    → (s t : ℕ) → s ≢ t → (k : Record)
+    → (s t : ℕ) → s ≢ t → (k : Record) (distance : ℕ) → IsDistance c distance
     → CoreHoldsBy c (early_cores c cast early) s k → CoreHolds c (late_cores c cast early late) t
-    → IsApartFrom c s k (early_cores c cast early).now (late_cores c cast early late).now
+    → IsApartFrom c distance s k (early_cores c cast early).now (late_cores c cast early late).now
     ⊎ ((release : Release) × IsReleaseIn c cast (early_cores c cast early) late release
     × GivesBackLease s k.lease release)
 
@@ -101,9 +102,11 @@ AreSecondStarts (entry ∷ entries) = IsSecondStart entry × AreSecondStarts ent
 -- the greater term.
 abbrev pub LaterCoreHasLaterTerm : Type 0
 LaterCoreHasLaterTerm =
-    (c : Cluster) (cast : Cast) (early late : List CoreEntry) → CoreCourse c cast early late → IsTimed c → c.goes_on ≡ true
+    (c : Cluster) (cast : Cast) (early late : List CoreEntry) → CoreCourse c cast early late
+    → IsTimed c → c.goes_on ≡ true
     → AreSecondStarts early → AreSecondStarts late
     → (s t : ℕ) → s ≢ t → (k n : Record) (first second : Lease)
     → k.lease ≡ Some first → n.lease ≡ Some second
+    → (phase : ℕ) → IsWindow c phase (early_cores c cast early).now (late_cores c cast early late).now
     → CoreHoldsBy c (early_cores c cast early) s k → CoreHoldsBy c (late_cores c cast early late) t n
     → first.term < second.term

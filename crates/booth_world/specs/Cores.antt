@@ -1,6 +1,6 @@
 -- Entries of the lease cores of one ticket at all members, and the state of each member after them. The records that
 -- may have been written, the messages and the releases follow from the entries alone.
-use Rattle.std.specs.Prelude.{◌≡◌, refl, ℕ, ◌<◌, ◌≤◌, nat_lt, List, [], ◌∷◌, Bool, true, Option, Some, None, IsTrue, IsSomeAnd}
+use Rattle.std.specs.Prelude.{◌≡◌, refl, ℕ, ◌<◌, ◌≤◌, nat_lt, List, [], ◌∷◌, Bool, true, false, Option, Some, None, IsTrue, IsSomeAnd}
 use Rattle.std.specs.Option.{ForSome}
 use Rattle.booth_base.specs.declared.address.MemberId.{MemberId}
 use Rattle.booth_base.specs.declared.limits.TheConstants.{MEMBERS}
@@ -13,7 +13,7 @@ use Rattle.booth_raft.specs.Members.{is_leader}
 use Rattle.booth_raft.specs.Notes.{MayNote}
 use Rattle.booth_raft.specs.Sound.{IsSound}
 use Rattle.booth_world.specs.Facts.{Has, Release}
-use Rattle.booth_world.specs.States.{put, Cluster, reads}
+use Rattle.booth_world.specs.States.{put, Cluster, IsIn, reads}
 use Rattle.booth_world.specs.Agreement.{AreIds, IsSeated, record_in}
 use Rattle.booth_world.specs.Reading.{MayBeRead, IsLaterOrKept}
 use Rattle.booth_world.specs.Rules.{MemberMessage, CoreCall, Asks, Hears, MakesNote, RenewsLease, GivesBack, lease_rules}
@@ -21,16 +21,18 @@ use Rattle.booth_world.specs.Gives.{Mark, Given, given_by, may_answered, release
 
 -- ---- entries
 
--- The properties of a session: whether it is of version 2, and how many sites come before its member, by the weights
--- in its configuration.
+-- The properties of a session: whether it is of version 2, its phase, whether it follows the steady rules, and how many
+-- sites come before its member, by the weights in its configuration.
 pub record Session : Type 0 where
   pub second : Bool
+  pub phase : ℕ
+  pub steady : Bool
   pub rank : ℕ
   pub few : nat_lt rank MEMBERS ≡ true
 
 -- The session of a member that has not started yet.
 abbrev pub opening_session : Bool → Session
-opening_session second = record { second = second; rank = 0; few = refl }
+opening_session second = record { second = second; phase = 0; steady = false; rank = 0; few = refl }
 
 -- An event. Either true time passes, or one member does something: it reads its clock, calls its core, gets the
 -- result of a write, stops, or starts with a record in a new session.
@@ -61,16 +63,16 @@ pub record Cores : Type 0 where
   pub releases : List Release
   pub marks : List Mark
 
--- The members at the places: the id of each, and the setup of each for any session.
+-- The members: the id of each, and the setup of each for any session of a phase in which it has a place.
 pub record Cast : Type 0 where
   pub id_of : ℕ → MemberId
   pub setup : ℕ → Session → Setup
 
 pub record IsCast (c : Cluster) (cast : Cast) : Type 0 where
   pub ids : AreIds c.members cast.id_of
-  pub seated : (m : ℕ) → m < c.members → (session : Session)
-      → IsSeated c cast.id_of m session.second (cast.setup m session)
-  pub sound : (m : ℕ) → m < c.members → (session : Session) → IsSound (cast.setup m session)
+  pub seated : (m : ℕ) → m < c.members → (session : Session) → IsIn c session.phase m
+      → IsSeated c cast.id_of m session.second session.phase (cast.setup m session)
+  pub sound : (m : ℕ) → m < c.members → (session : Session) → IsIn c session.phase m → IsSound (cast.setup m session)
 
 -- The state before any start: each member has its beginning.
 abbrev pub opening_cores : Cluster → Cast → Cores
@@ -103,17 +105,28 @@ MayCallAlone setup view call = Unit {0}
 abbrev pub setup_in : Cast → Cores → ℕ → Setup
 setup_in cast cores m = cast.setup m (cores.place m).session
 
+-- The number in the cluster of the member at this place of the session's phase.
+abbrev pub number_in : Cluster → Session → ℕ → ℕ
+number_in c session place = (c.phase session.phase).seats.number place
+
 -- The condition of a call. A message that arrives was sent, has its sender's id, and arrives at the true time of the
--- reading.
-abbrev pub MayCallCore : Cast → Cores → ℕ → View → CoreCall → Type 0
-MayCallCore cast cores m view (Hears message) =
-    (Has cores.said message) × (message.head.from ≡ cast.id_of message.sender)
+-- reading. A core knows its sender by the place in its own configuration.
+abbrev pub MayCallCore : Cluster → Cast → Cores → ℕ → View → CoreCall → Type 0
+MayCallCore c cast cores m view (Hears message) =
+    (Has cores.said (record message { sender = number_in c (cores.place m).session message.sender }))
+    × (message.head.from ≡ cast.id_of (number_in c (cores.place m).session message.sender))
     × ((cores.place m).at ≡ cores.now)
-MayCallCore cast cores m view call = MayCallAlone (setup_in cast cores m) view call
+    × (message.sender < (c.phase (cores.place m).session.phase).seats.size)
+MayCallCore c cast cores m view call = MayCallAlone (setup_in cast cores m) view call
+
+-- The phase of the member's session has not closed.
+abbrev pub IsInTime : Cluster → Cores → ℕ → Type 0
+IsInTime c cores m = cores.now ≤ (c.phase (cores.place m).session.phase).closes
 
 -- The condition of an entry. While a write waits, the member does not call its core, and in version 2 it does not
 -- read its clock either. A start reads one of the records that may have been written, or a silent record, and is not of
--- version 1 after one of version 2.
+-- version 1 after one of version 2. Its member has a place in its phase, and has read its clock since the phase opened.
+-- After the phase has closed, the member calls nothing and gets no result of a write.
 abbrev pub MayEnter : Cluster → Cast → Cores → CoreEntry → Type 0
 MayEnter c cast cores (TimePasses time) = (cores.now ≤ time) × (time < c.span)
 MayEnter c cast cores (ReadsTime m time) =
@@ -122,17 +135,21 @@ MayEnter c cast cores (ReadsTime m time) =
 MayEnter c cast cores (CallsCore m call) =
     (m < c.members)
     × IsSomeAnd (cores.place m).view
-    (λ view. (view.waiting ≡ None) × MayCallCore cast cores m view call)
+    (λ view. (view.waiting ≡ None) × MayCallCore c cast cores m view call)
+    × IsInTime c cores m
 MayEnter c cast cores (HasAnswer m kept ok) =
     (m < c.members)
     × IsSomeAnd (cores.place m).view
     (λ view. IsSomeAnd view.waiting (λ waits. waits.tried ≡ kept))
+    × IsInTime c cores m
 MayEnter c cast cores (Stops m) =
     (m < c.members) × IsSomeAnd (cores.place m).view (λ view. Unit {0})
 MayEnter c cast cores (StartsWith m session kept) =
     (m < c.members) × ((cores.place m).view ≡ None) × MayBeRead (c.is_site m) (cores.place m).may kept
     × ((cores.place m).session.second ≡ true → session.second ≡ true)
     × (c.goes_on ≡ true → IsLaterOrKept (cores.place m).may kept)
+    × ((c.phase session.phase).opens ≤ (cores.place m).at) × (cores.now ≤ (c.phase session.phase).closes)
+    × IsIn c session.phase m
 
 -- ---- the state after an entry
 
@@ -148,6 +165,7 @@ abbrev pub mark_in : Cores → ℕ → Mark
 mark_in cores m = record {
   member = m;
   second = (cores.place m).session.second;
+  phase = (cores.place m).session.phase;
   reading = (cores.place m).reading;
   at = (cores.place m).at;
   now = cores.now;
@@ -160,7 +178,7 @@ has_given cores m session given = record {
   place = put cores.place m (record (cores.place m) { view = Some given.view; session = session; may = given.may });
   said = said_more m given.say cores.said;
   releases = given.releases;
-  marks = record (mark_in cores m) { second = session.second } ∷ cores.marks;
+  marks = record (mark_in cores m) { second = session.second; phase = session.phase } ∷ cores.marks;
 }
 
 -- The result of a call with this view, and the result after the write that waits.

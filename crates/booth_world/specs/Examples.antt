@@ -2,11 +2,13 @@
 use Rattle.std.specs.Prelude.{ℕ, zero, suc, ◌+◌, ◌++◌, nat_lt, true, false, List, [], ◌∷◌, Some, None}
 use Rattle.booth_base.specs.declared.address.MemberId.{MemberId}
 use Rattle.booth_base.specs.declared.name.Name.{Name}
+use Rattle.booth_base.specs.declared.times.Times.{Times}
 use Rattle.booth_rec.specs.Record.{no_record}
 use Rattle.booth_wire.specs.declared.message.Setup.{Setup}
 use Rattle.booth_raft.specs.StartAndLearn.{started}
 use Rattle.booth_world.specs.Calls.{Caller}
 use Rattle.booth_world.specs.Facts.{Round, Release}
+use Rattle.booth_world.specs.OnePhase.{all_seats, only_phase}
 use Rattle.booth_world.specs.States.{KeptRecord, none_kept, Cluster, begins_bare}
 use Rattle.booth_world.specs.Steps.{WorldStep, Elects, Renews, Promises, Answers, Gains, TriesKeep, HasKept, Releases, Clears, Learns, Crashes, Starts, ReadsClock, MemberDoes, Passes}
 
@@ -27,11 +29,14 @@ clock_of zero = ahead
 clock_of (suc zero) = behind
 clock_of (suc (suc m)) = exact
 
+abbrev pub example_times : Times
+example_times = record { expire = 2; after = 1; timeout = 1; retries = 1; renewal = 1 }
+
 abbrev pub three : Cluster
 three = record {
   members = 3;
   is_site = λ m. nat_lt m 2;
-  times = record { expire = 2; after = 1; timeout = 1; retries = 1; renewal = 1 };
+  phase = only_phase 8 1 (all_seats 3) example_times;
   ticks = 1;
   span = 8;
   clock = clock_of;
@@ -54,8 +59,8 @@ won_by round = record {
 -- All members start, in version 1, and have written nothing.
 abbrev pub start : List WorldStep
 start =
-    MemberDoes 0 (Starts none_kept false) ∷ MemberDoes 1 (Starts none_kept false)
-    ∷ MemberDoes 2 (Starts none_kept false) ∷ []
+    MemberDoes 0 (Starts none_kept false 0) ∷ MemberDoes 1 (Starts none_kept false 0)
+    ∷ MemberDoes 2 (Starts none_kept false 0) ∷ []
 
 abbrev pub all_read_at : ℕ → List WorldStep
 all_read_at time =
@@ -85,13 +90,13 @@ gain round =
 -- ---- a ticket is granted, renewed, released, and granted at the other site
 
 abbrev pub first_round : Round
-first_round = record { site = 0; term = 1; number = 0; opened = 7; at = 6 }
+first_round = record { site = 0; term = 1; number = 0; opened = 7; at = 6; phase = 0 }
 
 abbrev pub second_round : Round
-second_round = record { site = 0; term = 1; number = 1; opened = 8; at = 7 }
+second_round = record { site = 0; term = 1; number = 1; opened = 8; at = 7; phase = 0 }
 
 abbrev pub third_round : Round
-third_round = record { site = 1; term = 2; number = 0; opened = 7; at = 7 }
+third_round = record { site = 1; term = 2; number = 0; opened = 7; at = 7; phase = 0 }
 
 abbrev pub first_release : Release
 first_release = record { site = 0; term = 1; at = 7 }
@@ -120,7 +125,7 @@ granted_elsewhere =
 abbrev pub crashed_and_started : List WorldStep
 crashed_and_started =
     MemberDoes 0 Crashes ∷ MemberDoes 2 Crashes
-    ∷ MemberDoes 0 (Starts (won_by first_round) false) ∷ MemberDoes 2 (Starts none_kept false) ∷ []
+    ∷ MemberDoes 0 (Starts (won_by first_round) false 0) ∷ MemberDoes 2 (Starts none_kept false 0) ∷ []
 
 -- ---- a member whose view agrees with its state
 
@@ -136,8 +141,9 @@ first_setup ticket = record {
   members = 3;
   site = true;
   rank = 0;
-  times = three.times;
+  times = example_times;
   second = false;
+  steady = false;
 }
 
 abbrev pub first_caller : Name → Caller

@@ -8,8 +8,9 @@ use Rattle.booth_node.specs.Records.{Has as Kept}
 use Rattle.booth_node.specs.World.{WorldEntry, World, members_of, entries_of, begins_with}
 use Rattle.booth_node.specs.Held.{Moment, IsAutomatic, may_at, HoldsBy}
 use Rattle.booth_world.specs.Facts.{Has, Gain}
-use Rattle.booth_world.specs.States.{KeptRecord, WorldState, opening, Cluster}
+use Rattle.booth_world.specs.States.{KeptRecord, WorldState, opening, Cluster, HasSeats, IsNear}
 use Rattle.booth_world.specs.Steps.{WorldStep, IsRun, AreSecond, world_of}
+use Rattle.booth_world.specs.Held.{IsOfPhase}
 use Rattle.booth_world.specs.Shadows.{IsComing}
 use Rattle.booth_world.specs.Worlds.{IsLater}
 
@@ -20,13 +21,21 @@ pub record HasGained (c : Cluster) (w : WorldState) (s : ℕ) (lease : Lease) : 
   pub has : kept.lease ≡ Some lease
   pub fresh : (c.begins s).kept.lease ≢ Some lease
 
--- If each start is of version 2 and goes on, two gained leases with the same term belong to one member.
+-- Each gained lease was gained in some phase.
+abbrev pub GainedHavePhases : Type 0
+GainedHavePhases =
+    (c : Cluster) (steps : List WorldStep) → IsRun c (opening c) steps
+    → (s : ℕ) (lease : Lease) → HasGained c (world_of c steps) s lease
+    → (phase : ℕ) × IsOfPhase c (world_of c steps) s lease phase
+
+-- If each start is of version 2 and goes on, two gained leases with the same term belong to one member. Both leases are
+-- of one phase, or of a phase and the next.
 abbrev pub TermsAreOfOneMember : Type 0
 TermsAreOfOneMember =
-    (c : Cluster) → c.goes_on ≡ true
+    (c : Cluster) → HasSeats c → c.goes_on ≡ true
     → (early late : List WorldStep) → IsRun c (opening c) (early ++ late) → AreSecond (early ++ late)
-    → (s t : ℕ) (first second : Lease)
-    → HasGained c (world_of c early) s first → HasGained c (world_of c (early ++ late)) t second
+    → (s t : ℕ) (first second : Lease) (phase other : ℕ) → IsNear phase other
+    → IsOfPhase c (world_of c early) s first phase → IsOfPhase c (world_of c (early ++ late)) t second other
     → first.term ≡ second.term → s ≡ t
 
 -- Each record that the member may have written has a term below this one.
@@ -34,23 +43,25 @@ abbrev pub IsBelow : WorldState → ℕ → ℕ → Type 0
 IsBelow w s term = (k : KeptRecord) → Has (w.member s).may k → k.term < term
 
 -- A lease has a greater term than another lease if its member had not yet written its term when the other lease was
--- gained.
+-- gained. Both leases are of one phase, or of a phase and the next.
 abbrev pub LaterAskersHaveLaterTerms : Type 0
 LaterAskersHaveLaterTerms =
-    (c : Cluster) → c.goes_on ≡ true
+    (c : Cluster) → HasSeats c → c.goes_on ≡ true
     → (early late : List WorldStep) → IsRun c (opening c) (early ++ late) → AreSecond (early ++ late)
-    → (s t : ℕ) (first second : Lease)
-    → HasGained c (world_of c early) s first → HasGained c (world_of c (early ++ late)) t second
+    → (s t : ℕ) (first second : Lease) (phase other : ℕ) → IsNear phase other
+    → IsOfPhase c (world_of c early) s first phase → IsOfPhase c (world_of c (early ++ late)) t second other
+    → HasGained c (world_of c early) s first
     → IsBelow (world_of c early) t second.term
     → first.term < second.term
 
 -- The law for the facts: if a round was opened after another lease was gained, the lease of that round has no smaller
--- term. In the same term, both leases belong to the same site.
+-- term. In the same term, both leases belong to the same site. The rounds are of one phase, or of a phase and the next.
 abbrev pub LaterRoundsHaveLaterTerms : Type 0
 LaterRoundsHaveLaterTerms =
-    (c : Cluster) → c.goes_on ≡ true
+    (c : Cluster) → HasSeats c → c.goes_on ≡ true
     → (early late : List WorldStep) → IsRun c (opening c) (early ++ late) → AreSecond (early ++ late)
     → (g h : Gain) → Has (world_of c early).facts.leases g → Has (world_of c (early ++ late)).facts.leases h
+    → IsNear g.round.phase h.round.phase
     → (Has (world_of c early).facts.rounds h.round → ⊥)
     → (g.round.term ≤ h.round.term) × (g.round.term ≡ h.round.term → g.round.site ≡ h.round.site)
 

@@ -32,16 +32,17 @@ may_answered (Some waits) false may = may
 -- ---- the facts of a call
 
 -- The marks of a call's facts: its member; the member's last reading and the true time of that reading; the true time
--- now; and the version of the member's session, which is the version of its starts.
+-- now; and the version and the phase of the member's session, which are those of its starts.
 pub record Mark : Type 0 where
   pub member : ℕ
   pub second : Bool
+  pub phase : ℕ
   pub reading : ℕ
   pub at : ℕ
   pub now : ℕ
 
 abbrev pub mark_of : ℕ → ℕ → MemberState → Mark
-mark_of now m x = record { member = m; second = x.second; reading = x.reading; at = x.at; now = now }
+mark_of now m x = record { member = m; second = x.second; phase = x.phase; reading = x.reading; at = x.at; now = now }
 
 abbrev pub IsMarkedRound : Mark → Round → Type 0
 IsMarkedRound mark round =
@@ -103,6 +104,7 @@ pub record IsReached (c : Cluster) (id_of : ℕ → MemberId) (mark : Mark) (giv
   pub said : IsSaid id_of f mark.member given.say
   pub may_now : records_in id_of x.may ≡ given.may
   pub same_second : x.second ≡ mark.second
+  pub same_phase : x.phase ≡ mark.phase
   pub same_reading : x.reading ≡ mark.reading
   pub same_at : x.at ≡ mark.at
 
@@ -111,7 +113,7 @@ pub record LeadsTo (c : Cluster) (id_of : ℕ → MemberId) (mark : Mark) (f : F
     (given : Given) : Type 0 where
   pub steps : List MemberStep
   pub run : IsMemberRun c mark.now mark.member f x steps
-  pub starts_so : AreStartsOf mark.second steps
+  pub starts_so : AreStartsOf mark.second mark.phase steps
   pub reached : IsReached c id_of mark given (facts_after_all c mark.now mark.member f x steps)
       (member_after_all c mark.now mark.member x steps)
   pub adds : AddsOnly mark given.releases f (facts_after_all c mark.now mark.member f x steps)

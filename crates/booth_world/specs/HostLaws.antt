@@ -5,7 +5,7 @@ use Rattle.booth_rec.specs.declared.record.Lease.{Lease}
 use Rattle.booth_rec.specs.declared.record.Record.{Record}
 use Rattle.booth_rec.specs.Record.{IsInForce}
 use Rattle.booth_wire.specs.declared.command.Cmd.TheVariants.{Revk}
-use Rattle.booth_world.specs.States.{Cluster, HasClocks, IsTimed, reads}
+use Rattle.booth_world.specs.States.{Cluster, HasClocks, IsTimed, HasPhases, IsDistance, IsWindow, reads}
 use Rattle.booth_world.specs.Facts.{Has, Release}
 use Rattle.booth_world.specs.Held.{IsApartFrom, GivesBackLease}
 use Rattle.booth_world.specs.Cores.{Cast, IsCast}
@@ -32,7 +32,7 @@ RevokesAfter members term (Does ask go) = 1 < members → Revokes term (go true)
 abbrev pub IsHostReleaseAt : Cluster → Hosts → HostEntry → Release → Type 0
 IsHostReleaseAt c hosts (DoesAsk m (Keeps kept) true) release =
     (release ≡ record { site = m; term = kept.term; at = hosts.now }) × (kept.lease ≡ None)
-    × IsSomeAnd (hosts.place m).tree (RevokesAfter c.members kept.term)
+    × IsSomeAnd (hosts.place m).tree (RevokesAfter (c.phase (hosts.place m).session.phase).seats.size kept.term)
 IsHostReleaseAt c hosts entry release = ⊥
 
 abbrev pub IsHostReleaseIn : Cluster → Cast → Hosts → List HostEntry → Release → Type 0
@@ -62,6 +62,7 @@ HostHolds c hosts s = (k : Record) × HostHoldsBy c hosts s k
 -- A list of entries from the very beginning, in two parts: the early entries and the late ones.
 pub record HostCourse (c : Cluster) (cast : Cast) (early late : List HostEntry) : Type 0 where
   pub clocks : HasClocks c
+  pub phases : HasPhases c
   pub is_cast : IsCast c cast
   pub hosted_early : AreHosted c cast (opening_hosts c cast) early
   pub hosted_late : AreHosted c cast (hosts_after c cast (opening_hosts c cast) early) late
@@ -84,9 +85,9 @@ HostsHoldOne =
 abbrev pub HostsAreApart : Type 0
 HostsAreApart =
     (c : Cluster) (cast : Cast) (early late : List HostEntry) → HostCourse c cast early late → IsTimed c
-    → (s t : ℕ) → s ≢ t → (k : Record)
+    → (s t : ℕ) → s ≢ t → (k : Record) (distance : ℕ) → IsDistance c distance
     → HostHoldsBy c (early_hosts c cast early) s k → HostHolds c (late_hosts c cast early late) t
-    → IsApartFrom c s k (early_hosts c cast early).now (late_hosts c cast early late).now
+    → IsApartFrom c distance s k (early_hosts c cast early).now (late_hosts c cast early late).now
     ⊎ ((release : Release) × IsHostReleaseIn c cast (early_hosts c cast early) late release
     × GivesBackLease s k.lease release)
 
@@ -114,9 +115,11 @@ AreSecondBoots (entry ∷ entries) = IsSecondBoot entry × AreSecondBoots entrie
 -- the greater term.
 abbrev pub LaterHostHasLaterTerm : Type 0
 LaterHostHasLaterTerm =
-    (c : Cluster) (cast : Cast) (early late : List HostEntry) → HostCourse c cast early late → IsTimed c → c.goes_on ≡ true
+    (c : Cluster) (cast : Cast) (early late : List HostEntry) → HostCourse c cast early late
+    → IsTimed c → c.goes_on ≡ true
     → AreSecondBoots early → AreSecondBoots late
     → (s t : ℕ) → s ≢ t → (k n : Record) (first second : Lease)
     → k.lease ≡ Some first → n.lease ≡ Some second
+    → (phase : ℕ) → IsWindow c phase (early_hosts c cast early).now (late_hosts c cast early late).now
     → HostHoldsBy c (early_hosts c cast early) s k → HostHoldsBy c (late_hosts c cast early late) t n
     → first.term < second.term

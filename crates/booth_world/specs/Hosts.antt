@@ -7,11 +7,11 @@ use Rattle.booth_rec.specs.declared.record.Record.{Record}
 use Rattle.booth_wire.specs.declared.message.Setup.{Setup}
 use Rattle.booth_raft.specs.declared.view.View.{View}
 use Rattle.booth_world.specs.Facts.{Has}
-use Rattle.booth_world.specs.States.{put, Cluster, reads}
+use Rattle.booth_world.specs.States.{put, Cluster, IsIn, reads}
 use Rattle.booth_world.specs.Agreement.{record_in}
 use Rattle.booth_world.specs.Reading.{MayBeRead, IsLaterOrKept}
 use Rattle.booth_world.specs.Rules.{MemberMessage, lease_rules}
-use Rattle.booth_world.specs.Cores.{Session, opening_session, Cast}
+use Rattle.booth_world.specs.Cores.{Session, opening_session, Cast, number_in}
 use Rattle.booth_world.specs.Turns.{TicketAsk, Keeps, Sends, TurnTree, Plan, turn_tree, MayTurn}
 
 -- ---- entries
@@ -74,21 +74,30 @@ abbrev pub IsNextAsk : TicketAsk → TurnTree → Type 0
 IsNextAsk ask (Ends view) = ⊥
 IsNextAsk ask (Does first go) = first ≡ ask
 
--- A message that arrives was sent, and has its sender's id.
-abbrev pub MayCome : Cast → Hosts → MemberMessage → Type 0
-MayCome cast hosts message =
-    (Has hosts.sent message) × (message.head.from ≡ cast.id_of message.sender)
+-- A message that arrives was sent, and has its sender's id. A host knows its sender by the place in its own
+-- configuration.
+abbrev pub MayCome : Cluster → Cast → Session → Hosts → MemberMessage → Type 0
+MayCome c cast session hosts message =
+    (Has hosts.sent (record message { sender = number_in c session message.sender }))
+    × (message.head.from ≡ cast.id_of (number_in c session message.sender))
+    × (message.sender < (c.phase session.phase).seats.size)
+
+-- The phase of the session has not closed at this time.
+abbrev pub IsOpenAt : Cluster → Session → ℕ → Type 0
+IsOpenAt c session time = time ≤ (c.phase session.phase).closes
 
 -- The condition of an entry. A start reads the record of the last write that was done, or the record of a later write
--- that failed or was interrupted, or a silent record. It is not of version 1 after one of version 2.
+-- that failed or was interrupted, or a silent record. It is not of version 1 after one of version 2. Its member has a
+-- place in its phase, which is open. After the phase has closed, the member does nothing.
 abbrev pub MayHost : Cluster → Cast → Hosts → HostEntry → Type 0
 MayHost c cast hosts (LetsPass time) = (hosts.now ≤ time) × (time < c.span)
 MayHost c cast hosts (BeginsTurn m time came plan) =
     (m < c.members) × (hosts.now ≤ time) × (time < c.span)
     × IsSomeAnd (hosts.place m).tree (MayBegin (cast.setup m (hosts.place m).session) (reads c m time) came plan)
-    × ForSome came (MayCome cast hosts)
+    × ForSome came (MayCome c cast (hosts.place m).session hosts)
+    × IsOpenAt c (hosts.place m).session time
 MayHost c cast hosts (DoesAsk m ask ok) =
-    (m < c.members) × IsSomeAnd (hosts.place m).tree (IsNextAsk ask)
+    (m < c.members) × IsSomeAnd (hosts.place m).tree (IsNextAsk ask) × IsOpenAt c (hosts.place m).session hosts.now
 MayHost c cast hosts (Halts m) =
     (m < c.members) × IsSomeAnd (hosts.place m).tree (λ tree. Unit {0})
 MayHost c cast hosts (Boots m time session kept) =
@@ -96,6 +105,7 @@ MayHost c cast hosts (Boots m time session kept) =
     × ((hosts.place m).tree ≡ None) × MayBeRead (c.is_site m) (hosts.place m).may kept
     × ((hosts.place m).session.second ≡ true → session.second ≡ true)
     × (c.goes_on ≡ true → IsLaterOrKept (hosts.place m).may kept)
+    × ((c.phase session.phase).opens ≤ time) × IsOpenAt c session time × IsIn c session.phase m
 
 -- ---- the state after an entry
 
@@ -113,9 +123,10 @@ may_left (Keeps kept) true may = kept ∷ []
 may_left (Keeps kept) false may = kept ∷ may
 may_left ask ok may = may
 
-abbrev pub sent_more : TicketAsk → List MemberMessage → List MemberMessage
-sent_more (Sends message) sent = message ∷ sent
-sent_more ask sent = sent
+-- A member sends under its own number in the cluster.
+abbrev pub sent_more : ℕ → TicketAsk → List MemberMessage → List MemberMessage
+sent_more m (Sends message) sent = record message { sender = m } ∷ sent
+sent_more m ask sent = sent
 
 abbrev pub hosted : Cluster → Cast → Hosts → HostEntry → Hosts
 hosted c cast hosts (LetsPass time) = record hosts { now = time }
@@ -131,7 +142,7 @@ hosted c cast hosts (DoesAsk m ask ok) = record hosts {
     tree = went_on ok (hosts.place m).tree;
     may = may_left ask ok (hosts.place m).may;
   });
-  sent = sent_more ask hosts.sent;
+  sent = sent_more m ask hosts.sent;
 }
 hosted c cast hosts (Halts m) = record hosts {
   place = put hosts.place m (record (hosts.place m) {

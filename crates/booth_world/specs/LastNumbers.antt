@@ -13,7 +13,7 @@ pub record LastNumbers : Type 0 where
   -- No renewal follows the round with the last number. The lease runs out, and the member handles its deadline at
   -- that time.
   pub round : (setup : Setup) (view : View) (round : Round) (now : ℕ) → view.round ≡ Some round
-      → round.number ≡ 4294967295 → needs_term setup view ≡ false
+      → round.number ≡ 4294967295 → needs_term setup view round ≡ false
       → renew setup view now ≡ quiet (record view { due = Some (own_end view) })
   -- The second-to-last job number is followed by the last one, and the last one by the first.
   pub job : number_after 18446744073709551614 ≡ 18446744073709551615

@@ -3,7 +3,7 @@
 use Rattle.std.specs.Prelude.{◌≡◌, ◌⊎◌, ℕ, ◌+◌, ◌<◌, ◌&&◌, true, if◌then◌else◌, not, ◌==◌, nat_lt, Option, Some, None, List, [], ◌∷◌}
 use Rattle.booth_rec.specs.declared.record.Lease.{Lease}
 use Rattle.booth_world.specs.Facts.{Has, Round, Answer, Gain, Release, Facts, IsMajority}
-use Rattle.booth_world.specs.States.{Pledge, KeptRecord, Promise, MemberState, Cluster}
+use Rattle.booth_world.specs.States.{Pledge, KeptRecord, Promise, MemberState, Cluster, expire_in}
 
 -- ---- a gain
 -- The open round gives a lease if a majority answered it and the lease has not ended yet. The lease is added to the
@@ -13,10 +13,10 @@ pub record MayGain (c : Cluster) (f : Facts) (x : MemberState) (round : Round) (
     : Type 0 where
   pub up : x.up ≡ true
   pub open_round : x.round ≡ Some round
-  pub majority : IsMajority c.members places
+  pub majority : IsMajority (c.phase round.phase).seats places
   pub answered : (m : ℕ) → Has places m
       → (a : Answer) × (Has f.answers a) × (a.member ≡ m) × (a.round ≡ round)
-  pub soon : x.reading < round.opened + c.times.expire
+  pub soon : x.reading < round.opened + expire_in c round.phase
 
 abbrev pub with_gain : Facts → Round → ℕ → List ℕ → Facts
 with_gain f round now places =
@@ -34,7 +34,7 @@ pub record IsWon (c : Cluster) (f : Facts) (x : MemberState) (lease : Lease) : T
   pub fact : Has f.leases gained
   pub open_round : x.round ≡ Some gained.round
   pub same : lease
-      ≡ record { term = gained.round.term; until = gained.round.opened + c.times.expire }
+      ≡ record { term = gained.round.term; until = gained.round.opened + expire_in c gained.round.phase }
 
 abbrev pub MayLease : Cluster → Facts → MemberState → Option Lease → Type 0
 MayLease c f x None = Unit {0}

@@ -1,4 +1,3 @@
-pub use Rattle.booth_node.specs.Clock
 pub mod Facts
 pub mod States
 pub mod Rounds
@@ -6,6 +5,7 @@ pub mod Leases
 pub mod Lives
 pub mod Steps
 pub mod Held
+pub mod OnePhase
 pub mod MemberRuns
 pub mod Messages
 pub mod Agreement
@@ -36,3 +36,5 @@ pub mod LastNumbers
 pub mod NodeWaits
 pub mod FencingExample
 pub mod Told
+pub mod Lists
+pub mod TwoSteps

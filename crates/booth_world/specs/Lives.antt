@@ -22,9 +22,9 @@ crashing x = record x { up = false }
 
 -- ---- a start
 -- A member that is down starts with a record that it may have written, or with a silent record, in a session of either
--- version; but after a session of version 2 it stays in version 2. With a record of version 2 it has that record's
--- pledge, and abstains no longer than the record states. With any other record it does not know what it promised, so it
--- answers no round for the time of a whole promise.
+-- version and of any phase; but after a session of version 2 it stays in version 2. With a record of version 2 it has
+-- that record's pledge, and abstains no longer than the record states. With any other record it does not know what it
+-- promised, so it answers no round for the time of a whole promise of its phase.
 
 -- A silent record states no promise and has no lease. An arbitrator's may have any term, so a missing record is one
 -- too. A site's has at least the term of a record that the member may have written. In a smaller term the site may have
@@ -48,20 +48,21 @@ pub record MayStart (c : Cluster) (m : ℕ) (x : MemberState) (kept : KeptRecord
   pub on : c.goes_on ≡ true → GoesOn x.may kept
   pub stays : x.second ≡ true → second ≡ true
 
--- The pledge after a start at this reading, from the record's pledge.
-abbrev pub pledge_at_start : Cluster → ℕ → Option Pledge → Pledge
-pledge_at_start c reading None =
-    record { bound = None; promise = None; abstain = reading + promise_time c }
-pledge_at_start c reading (Some pledge) = pledge
+-- The pledge after a start at this reading in a session of this phase, from the record's pledge.
+abbrev pub pledge_at_start : Cluster → ℕ → ℕ → Option Pledge → Pledge
+pledge_at_start c phase reading None =
+    record { bound = None; promise = None; abstain = reading + promise_time c phase }
+pledge_at_start c phase reading (Some pledge) = pledge
 
-abbrev pub starting : Cluster → MemberState → KeptRecord → Bool → MemberState
-starting c x kept second = record x {
+abbrev pub starting : Cluster → MemberState → KeptRecord → Bool → ℕ → MemberState
+starting c x kept second phase = record x {
   up = true;
   second = second;
+  phase = phase;
   term = kept.term;
-  bound = (pledge_at_start c x.reading kept.pledge).bound;
-  promise = (pledge_at_start c x.reading kept.pledge).promise;
-  abstain = (pledge_at_start c x.reading kept.pledge).abstain;
+  bound = (pledge_at_start c phase x.reading kept.pledge).bound;
+  promise = (pledge_at_start c phase x.reading kept.pledge).promise;
+  abstain = (pledge_at_start c phase x.reading kept.pledge).abstain;
   may = kept ∷ [];
   round = None;
 }

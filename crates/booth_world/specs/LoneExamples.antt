@@ -10,13 +10,14 @@ use Rattle.booth_world.specs.Rules.{Asks, Greets, GivesBack}
 use Rattle.booth_world.specs.Cores.{CoreEntry, ReadsTime, CallsCore, HasAnswer, Stops, StartsWith, Cast, opening_session}
 use Rattle.booth_world.specs.Turns.{Keeps, Plan, Rests, Calls, Waits}
 use Rattle.booth_world.specs.Hosts.{HostEntry, BeginsTurn, DoesAsk, Halts, Boots}
-use Rattle.booth_world.specs.Examples.{exact, three, id_of_place}
+use Rattle.booth_world.specs.Examples.{exact, example_times, id_of_place}
+use Rattle.booth_world.specs.OnePhase.{all_seats, only_phase}
 
 abbrev pub lone : Cluster
 lone = record {
   members = 1;
   is_site = λ m. true;
-  times = three.times;
+  phase = only_phase 8 1 (all_seats 1) example_times;
   ticks = 1;
   span = 8;
   clock = λ m. exact;
@@ -34,8 +35,9 @@ lone_cast ticket = record {
     members = 1;
     site = true;
     rank = 0;
-    times = three.times;
+    times = example_times;
     second = session.second;
+    steady = session.steady;
   };
 }
 

@@ -2,7 +2,7 @@
 use Rattle.std.specs.Prelude.{Bool, ℕ, List, [], ◌∷◌}
 use Rattle.booth_world.specs.Facts.{Facts}
 use Rattle.booth_world.specs.States.{MemberState, Cluster}
-use Rattle.booth_world.specs.Steps.{MemberStep, WorldStep, MemberDoes, May, member_after, facts_after, IsStartOf}
+use Rattle.booth_world.specs.Steps.{MemberStep, WorldStep, MemberDoes, May, member_after, facts_after, IsStartOf, IsTimely}
 
 -- Each step is allowed in the state before it.
 abbrev pub IsMemberRun : Cluster → ℕ → ℕ → Facts → MemberState → List MemberStep → Type 0
@@ -26,7 +26,12 @@ abbrev pub world_steps : ℕ → List MemberStep → List WorldStep
 world_steps m [] = []
 world_steps m (step ∷ steps) = MemberDoes m step ∷ world_steps m steps
 
--- Each start among the steps is of version 2 exactly if `second` is true.
-abbrev pub AreStartsOf : Bool → List MemberStep → Type 0
-AreStartsOf second [] = Unit {0}
-AreStartsOf second (step ∷ steps) = IsStartOf second step × AreStartsOf second steps
+-- Each start among the steps is of version 2 exactly if `second` is true, and of this phase.
+abbrev pub AreStartsOf : Bool → ℕ → List MemberStep → Type 0
+AreStartsOf second phase [] = Unit {0}
+AreStartsOf second phase (step ∷ steps) = IsStartOf second phase step × AreStartsOf second phase steps
+
+-- Each step keeps to its phase.
+abbrev pub AreTimely : Cluster → ℕ → ℕ → MemberState → List MemberStep → Type 0
+AreTimely c now m x [] = Unit {0}
+AreTimely c now m x (step ∷ steps) = IsTimely c now m x step × AreTimely c now m (member_after c now m x step) steps

@@ -8,7 +8,7 @@ use Rattle.booth_world.specs.States.{Pledge, KeptRecord, Promise, MemberState, C
 -- The round that a member opens now.
 abbrev pub new_round : ℕ → MemberState → ℕ → Round
 new_round m x number =
-    record { site = m; term = x.term; number = number; opened = x.reading; at = x.at }
+    record { site = m; term = x.term; number = number; opened = x.reading; at = x.at; phase = x.phase }
 
 -- ---- an election is opened
 -- A site opens the first round of its term under three conditions: every record that it may have written is of that
@@ -57,7 +57,7 @@ pub record MayPromise (c : Cluster) (x : MemberState) (site term : ℕ) : Type 0
   pub unbound : (x.term < term) ⊎ ((x.term ≡ term) × ForSome x.bound (λ bound. bound ≡ site))
 
 abbrev pub new_promise : Cluster → MemberState → ℕ → ℕ → Promise
-new_promise c x site term = record { to = site; term = term; until = x.reading + promise_time c }
+new_promise c x site term = record { to = site; term = term; until = x.reading + promise_time c x.phase }
 
 abbrev pub round_left : ℕ → MemberState → ℕ → ℕ → Option Round
 round_left m x site term = if site == m && nat_eq x.term term then x.round else None
@@ -78,8 +78,8 @@ promising c m x site term = record x {
 -- whichever of them the next start reads, the vote and the promise are kept. The answer is added to the facts.
 
 -- A record of version 2 and of the round's term, with a vote for the round's site. It promises that site for the time
--- of a whole promise from a reading.
-pub record KeepsAnswer (c : Cluster) (reading : ℕ) (round : Round) (k : KeptRecord) : Type 0 where
+-- of a whole promise of the phase from a reading.
+pub record KeepsAnswer (c : Cluster) (phase reading : ℕ) (round : Round) (k : KeptRecord) : Type 0 where
   pub pledge : Pledge
   pub second : k.pledge ≡ Some pledge
   pub own_term : k.term ≡ round.term
@@ -88,7 +88,7 @@ pub record KeepsAnswer (c : Cluster) (reading : ℕ) (round : Round) (k : KeptRe
   pub stands : pledge.promise ≡ Some given
   pub to : given.to ≡ round.site
   pub for_term : given.term ≡ round.term
-  pub long : reading + promise_time c ≤ given.until
+  pub long : reading + promise_time c phase ≤ given.until
 
 pub record MayAddAnswer (c : Cluster) (f : Facts) (x : MemberState) (round : Round) (given : Promise)
     : Type 0 where
@@ -99,9 +99,9 @@ pub record MayAddAnswer (c : Cluster) (f : Facts) (x : MemberState) (round : Rou
   pub stands : x.promise ≡ Some given
   pub to : given.to ≡ round.site
   pub for_term : given.term ≡ round.term
-  pub long : x.reading + promise_time c ≤ given.until
+  pub long : x.reading + promise_time c x.phase ≤ given.until
   pub later : round.at ≤ x.at
-  pub kept : x.second ≡ true → (k : KeptRecord) → Has x.may k → KeepsAnswer c x.reading round k
+  pub kept : x.second ≡ true → (k : KeptRecord) → Has x.may k → KeepsAnswer c x.phase x.reading round k
 
 abbrev pub new_answer : ℕ → MemberState → Round → Answer
 new_answer m x round = record { member = m; round = round; reading = x.reading; at = x.at }

@@ -1,7 +1,7 @@
 -- The possible next steps of a ticket in a cluster, and lists of steps.
-use Rattle.std.specs.Prelude.{◌≡◌, ℕ, ◌+◌, ◌<◌, Bool, true, List, [], ◌∷◌}
+use Rattle.std.specs.Prelude.{◌≡◌, ℕ, ◌+◌, ◌<◌, ◌≤◌, Bool, true, List, [], ◌∷◌}
 use Rattle.booth_world.specs.Facts.{Round, Release, Facts}
-use Rattle.booth_world.specs.States.{KeptRecord, Promise, MemberState, WorldState, opening, put, Cluster}
+use Rattle.booth_world.specs.States.{KeptRecord, Promise, MemberState, WorldState, opening, put, Cluster, IsIn}
 use Rattle.booth_world.specs.Rounds.{new_round, MayElect, electing, MayRenew, renewing, with_round, MayPromise, promising, MayAddAnswer, new_answer, with_answer}
 use Rattle.booth_world.specs.Leases.{MayGain, with_gain, MayKeep, trying, having, MayRelease, releasing, with_release, MayClear, clearing}
 use Rattle.booth_world.specs.Lives.{MayLearn, learning, crashing, MayStart, starting, MayPass, reading_clock}
@@ -19,7 +19,7 @@ pub data MemberStep : Type 0 where
   Clears : (release : Release) → MemberStep
   Learns : (term : ℕ) → MemberStep
   Crashes : MemberStep
-  Starts : (kept : KeptRecord) (second : Bool) → MemberStep
+  Starts : (kept : KeptRecord) (second : Bool) (phase : ℕ) → MemberStep
   ReadsClock : MemberStep
 
 -- A step of the world: a member makes a step, or true time rises.
@@ -40,7 +40,7 @@ May c f m x Releases = MayRelease c m x
 May c f m x (Clears release) = MayClear f x release
 May c f m x (Learns term) = MayLearn x term
 May c f m x Crashes = x.up ≡ true
-May c f m x (Starts kept second) = MayStart c m x kept second
+May c f m x (Starts kept second phase) = MayStart c m x kept second
 May c f m x ReadsClock = Unit {0}
 
 -- The state of the member after its step.
@@ -56,7 +56,7 @@ member_after c now m x Releases = releasing m x
 member_after c now m x (Clears release) = clearing x release
 member_after c now m x (Learns term) = learning x term
 member_after c now m x Crashes = crashing x
-member_after c now m x (Starts kept second) = starting c x kept second
+member_after c now m x (Starts kept second phase) = starting c x kept second phase
 member_after c now m x ReadsClock = reading_clock c now m x
 
 -- The facts after a member's step.
@@ -68,9 +68,19 @@ facts_after now m x (Gains round places) f = with_gain f round now places
 facts_after now m x Releases f = with_release f m x.term now
 facts_after now m x step f = f
 
+-- What a step owes to its phase. A start is of a member that has a place in its phase, and its clock was read since the
+-- phase opened. No session does anything after its phase has closed, except that a member may read its clock or crash.
+abbrev pub IsTimely : Cluster → ℕ → ℕ → MemberState → MemberStep → Type 0
+IsTimely c now m x (Starts kept second phase) =
+    ((c.phase phase).opens ≤ x.at) × (now ≤ (c.phase phase).closes) × IsIn c phase m
+IsTimely c now m x Crashes = Unit {0}
+IsTimely c now m x ReadsClock = Unit {0}
+IsTimely c now m x step = x.up ≡ true → now ≤ (c.phase x.phase).closes
+
 -- The condition of a step of the world.
 abbrev pub MayStep : Cluster → WorldState → WorldStep → Type 0
-MayStep c w (MemberDoes m step) = (m < c.members) × May c w.facts m (w.member m) step
+MayStep c w (MemberDoes m step) =
+    (m < c.members) × (May c w.facts m (w.member m) step) × IsTimely c w.now m (w.member m) step
 MayStep c w (Passes time) = MayPass c w time
 
 -- The world after a step.
@@ -98,14 +108,19 @@ world_of c steps = after_steps c (opening c) steps
 
 -- ---- the versions of starts
 
--- A start is of version 2 exactly if `second` is true. Other steps are not starts.
-abbrev pub IsStartOf : Bool → MemberStep → Type 0
-IsStartOf second (Starts kept started) = started ≡ second
-IsStartOf second step = Unit {0}
+-- A start is of version 2 exactly if `second` is true, and of this phase. Other steps are not starts.
+abbrev pub IsStartOf : Bool → ℕ → MemberStep → Type 0
+IsStartOf second phase (Starts kept started own) = (started ≡ second) × (own ≡ phase)
+IsStartOf second phase step = Unit {0}
+
+-- A start is of version 2.
+abbrev pub IsSecondStart : MemberStep → Type 0
+IsSecondStart (Starts kept started phase) = started ≡ true
+IsSecondStart step = Unit {0}
 
 -- A start in this step is of version 2.
 abbrev pub StartsSecond : WorldStep → Type 0
-StartsSecond (MemberDoes m step) = IsStartOf true step
+StartsSecond (MemberDoes m step) = IsSecondStart step
 StartsSecond (Passes time) = Unit {0}
 
 -- Each start among these steps is of version 2.

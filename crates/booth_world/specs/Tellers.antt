@@ -195,7 +195,7 @@ TellersAreApartIn w =
     → (first second : WorldEntry) → IsNext early first → IsNext late second → first.member ≢ second.member
     → (claim other : Claim) → Tells w ticket first claim → Tells w ticket second other
     → IsLive w first.member early claim → IsLive w second.member late other
-    → AreApart (cluster_of w ticket) early.time late.time
+    → AreApart (cluster_of w ticket) ticket.times.after early.time late.time
     ⊎ ((kept : Record) × HoldsBy w ticket first.member early kept
     × IsSomeAnd kept.lease (λ lease. BearsOut claim lease.until)
     × ReleasedIn w ticket first.member kept early.before between)

@@ -61,7 +61,8 @@ WorldsAreApart =
     → (early late : Moment w) (between : List WorldEntry) → IsLater w early late between
     → (s t : ℕ) → s ≢ t → (kept : Record)
     → HoldsBy w ticket s early kept → Holds w ticket t late
-    → IsApartFrom (cluster_of w ticket) s kept early.time late.time ⊎ ReleasedIn w ticket s kept early.before between
+    → IsApartFrom (cluster_of w ticket) ticket.times.after s kept early.time late.time
+    ⊎ ReleasedIn w ticket s kept early.before between
 
 -- If each record that a site may have written for a ticket has at least this term, then so has each record that it may
 -- have written later. The same holds for an arbitrator if each start goes on.

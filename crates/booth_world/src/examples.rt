@@ -7,7 +7,7 @@ ghost use Rattle.booth_world.specs.HostLaws.{HostCourse, HostHolds, early_hosts}
 ghost use Rattle.booth_world.specs.LoneExamples.{lone, lone_cast, lone_grant, lone_restart, lone_turn};
 ghost use Rattle.booth_world.specs.Examples.{three, granted, renewed, released, granted_elsewhere, crashed_and_started, start, first_caller};
 ghost use Rattle.booth_world.specs.Held.{Held};
-ghost use Rattle.booth_world.specs.States.{opening, HasClocks, IsTimed};
+ghost use Rattle.booth_world.specs.States.{opening, HasClocks, HasPhases, IsTimed};
 ghost use Rattle.booth_world.specs.FencingExample.{wild, first_part, second_part};
 ghost use Rattle.booth_world.specs.Steps.{IsRun, AreSecond, world_of};
 
@@ -16,6 +16,7 @@ ghost use Rattle.booth_world.specs.Steps.{IsRun, AreSecond, world_of};
 pub fn ticket_moves()
     ensures clocks { HasClocks three }
     ensures timed { IsTimed three }
+    ensures phases { HasPhases three }
     ensures run { IsRun three (opening three) (granted ++ renewed ++ released ++ granted_elsewhere) }
     ensures held { Held three (world_of three granted) 0 }
     ensures renewed { Held three (world_of three (granted ++ renewed)) 0 }
@@ -51,6 +52,7 @@ pub fn lone_host_holds()
 /// leases have the terms 1 and 2.
 pub fn stepped_clock_gives_a_lease()
     ensures clocks { HasClocks wild }
+    ensures phases { HasPhases wild }
     ensures run { IsRun wild (opening wild) (first_part ++ second_part) }
     ensures second { AreSecond (first_part ++ second_part) }
     ensures first_holds { Held wild (world_of wild (first_part ++ second_part)) 0 }

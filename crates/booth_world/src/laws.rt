@@ -3,18 +3,21 @@ ghost use Rattle.booth_node.specs.World.{OneConfigurationIsEnough};
 ghost use Rattle.booth_world.specs.Alone.{GrantGainsAlone};
 ghost use Rattle.booth_world.specs.Calls.{CallsAreSteps, PromisesWhereItMayAnswer, StepsOfOneAreSteps};
 ghost use Rattle.booth_world.specs.CoreLaws.{CoreTermsNeverFall, CoresAreApart, CoresHoldOne, LaterCoreHasLaterTerm};
-ghost use Rattle.booth_world.specs.Fencing.{TermsAreOfOneMember, LaterAskersHaveLaterTerms, LaterRoundsHaveLaterTerms, LivesHaveTheirTerms};
+ghost use Rattle.booth_world.specs.Fencing.{GainedHavePhases, TermsAreOfOneMember, LaterAskersHaveLaterTerms, LaterRoundsHaveLaterTerms, LivesHaveTheirTerms};
 ghost use Rattle.booth_world.specs.Growth.{ShadowsGrow};
 ghost use Rattle.booth_world.specs.HostLaws.{HostTermsNeverFall, HostsAreApart, HostsHoldOne, LaterHostHasLaterTerm};
 ghost use Rattle.booth_world.specs.Kept.{FailedKeepsSayNothing, ManualWaitersHaveJobs, TicketsKeepTheirKinds, ToldStopWaiting};
 ghost use Rattle.booth_world.specs.LastNumbers.{LastNumbers};
-ghost use Rattle.booth_world.specs.Laws.{HasOneHolder, HoldersAreApart, KeptTermsNeverFall, LaterHolderHasLaterTerm};
+ghost use Rattle.booth_world.specs.Laws.{HasOneHolder, HoldersAreApart, HoldersHavePhases, KeptTermsNeverFall, LaterHolderHasLaterTerm, LaterInWindow};
+ghost use Rattle.booth_world.specs.Lists.{ListsAreSeats, ListStepsMeet, WaitIsEnough};
 ghost use Rattle.booth_world.specs.NodeWaits.{WorldsWaitersHaveDeadlines};
+ghost use Rattle.booth_world.specs.OnePhase.{OnePhaseIsEnough};
 ghost use Rattle.booth_world.specs.Rules.{lease_rules};
 ghost use Rattle.booth_world.specs.Stability.{AgreementStays, CallsLeadOn, MembersStay, RunsAppend};
 ghost use Rattle.booth_world.specs.Shadows.{WorldsHaveShadows};
 ghost use Rattle.booth_world.specs.Told.{ToldTermsAreGained, WorldsHaveFencingTerms};
 ghost use Rattle.booth_world.specs.Tellers.{ClaimsLast, GrantsAreKept, TellersAreApart, WhoTellsHasKept, WhoTellsHolds};
+ghost use Rattle.booth_world.specs.TwoSteps.{SmallerTermTwoStepsOn};
 ghost use Rattle.booth_world.specs.Waits.{WaitersHaveDeadlines};
 ghost use Rattle.booth_world.specs.Worlds.{CutSessionsAreSessions, LogsAreSessions, StoppedLogsAreSessions};
 ghost use Rattle.booth_world.specs.Worlds.{LaterHoldersHaveLaterTerms, WorldTermsNeverFall, WorldsAreApart, WorldsHoldOne};
@@ -25,8 +28,14 @@ pub fn one_holder()
     ensures worlds { WorldsHoldOne }
 {}
 
-/// One site holds by a lease, and another site holds later. Then acquire-after lies between that lease and the later
-/// time, or the first site released the lease between the two.
+/// The lease by which a site holds was gained in a phase, which is the time of one configuration.
+pub fn holders_have_phases()
+    ensures { HoldersHavePhases }
+{}
+
+/// One site holds by a lease, and another site holds later. Then the distance of the lease's phase lies between that
+/// lease and the later time, or the first site released the lease between the two. With one configuration, the distance
+/// is acquire-after.
 pub fn apart()
     ensures steps { HoldersAreApart }
     ensures worlds { WorldsAreApart }
@@ -39,10 +48,38 @@ pub fn terms()
 {}
 
 /// If each session is of version 2, and two sites hold by leases, one after the other, the later lease has the
-/// greater term.
+/// greater term. Both leases are of one phase, or of a phase and the next.
 pub fn later_terms()
     ensures steps { LaterHolderHasLaterTerm }
     ensures worlds { LaterHoldersHaveLaterTerms }
+{}
+
+/// If each session is of version 2, the later of two leases has the greater term if both sites hold between the opening
+/// of a phase and the opening of the next.
+pub fn later_in_window()
+    ensures { LaterInWindow }
+{}
+
+/// After two steps between configurations, the later lease may have the smaller term.
+pub fn smaller_two_steps_on()
+    ensures { SmallerTermTwoStepsOn }
+{}
+
+/// A cluster with one configuration has phases, and needs no premise on them.
+pub fn one_phase_is_enough()
+    ensures { OnePhaseIsEnough }
+{}
+
+/// The places of a list of members, whose ids are among those of all members, belong to different members. If two such
+/// lists pass the test of a step, their majorities meet.
+pub fn lists_are_seats()
+    ensures named { ListsAreSeats }
+    ensures meet { ListStepsMeet }
+{}
+
+/// If any clock has counted the time to wait, the slowest clock has counted a promise and a millisecond.
+pub fn wait_is_enough()
+    ensures { WaitIsEnough }
 {}
 
 /// A member that names itself as the holder of an automatic ticket is right. Just before, it may have written a
@@ -247,11 +284,13 @@ pub fn shadows_grow()
     ensures { ShadowsGrow }
 {}
 
-/// The terms of leases distinguish them, whatever clocks do, if each start is of version 2. Two gained leases with
-/// the same term belong to one member. A lease that is asked for later has a greater term, and so has a lease that a
-/// member gains after it went down. The same holds in each world whose clocks rise. In such a world, a member that
-/// reports a term has gained a lease of that term, in either version.
+/// The terms of leases distinguish them, whatever clocks do, if each start is of version 2. Each gained lease has a
+/// phase. Two gained leases with the same term belong to one member. A lease that is asked for later has a greater
+/// term. Both hold for leases of one phase, or of a phase and the next. A lease that a member gains after it went down
+/// has a greater term than its leases before. The same holds in each world whose clocks rise. In such a world, a member
+/// that reports a term has gained a lease of that term, in either version.
 pub fn fencing()
+    ensures phases { GainedHavePhases }
     ensures terms { TermsAreOfOneMember }
     ensures askers { LaterAskersHaveLaterTerms }
     ensures rounds { LaterRoundsHaveLaterTerms }

@@ -1,4 +1,4 @@
-use Rattle.booth_world.proofs.ExampleRuns.{three_clocks, three_timed, moves, granted_held, renewed_held, elsewhere_held}
+use Rattle.booth_world.proofs.ExampleRuns.{three_clocks, three_phases, three_timed, moves, granted_held, renewed_held, elsewhere_held}
 use Rattle.booth_world.proofs.examples.ticket_moves.Goals as goal
 
 pub returns-clause-clocks : goal.returns-clause-clocks
@@ -18,3 +18,6 @@ returns-clause-elsewhere c = elsewhere_held
 
 pub returns-clause-timed : goal.returns-clause-timed
 returns-clause-timed c = three_timed
+
+pub returns-clause-phases : goal.returns-clause-phases
+returns-clause-phases c = three_phases

@@ -1,7 +1,10 @@
 use Rattle.booth_world.proofs.TermWorlds.{told_terms_are_gained, worlds_have_fencing_terms}
 use Rattle.booth_world.proofs.FencedLives.{lives_have_terms}
-use Rattle.booth_world.proofs.FencedLaws.{terms_of_one, later_askers, later_rounds}
+use Rattle.booth_world.proofs.FencedLaws.{gained_have_phases, terms_of_one, later_askers, later_rounds}
 use Rattle.booth_world.proofs.laws.fencing.Goals as goal
+
+pub returns-clause-phases : goal.returns-clause-phases
+returns-clause-phases c = gained_have_phases
 
 pub returns-clause-terms : goal.returns-clause-terms
 returns-clause-terms c = terms_of_one
