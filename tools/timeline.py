@@ -6,9 +6,9 @@
 FILE has the lines that `boothd audit` prints, `ticket NAME, site ADDRESS, from FROM until UNTIL`, in milliseconds
 since 1970; without FILE they are read from standard input. Lines of silent starts, `PATH: line N: silent: NAME, term
 TERM`, are left out. Any other line is refused by its number, with status 1. Lines of one site are joined if they touch.
-There is an overlap if two sites have a line of one ticket at the same clock reading, each by its own clock. If their
-clocks differ, there may be an overlap as long as this difference, although the sites never held the ticket at the same
-time.
+There is an overlap if two sites have a line of one ticket at the same clock reading, each by its own clock. If no lease
+was released and nothing broke, an overlap is at most as long as the two clocks differ, plus the longest time from the
+clock reading of a turn to a write of the same turn. Then the sites never held the ticket at the same time.
 """
 
 import os

@@ -1,0 +1,17 @@
+pub mod BehindLemmas
+pub mod LeadingLemmas
+pub mod OpeningLemmas
+pub mod ExtendingLemmas
+pub mod SteadyLemmas
+pub mod WrittenLemmas
+pub mod TicketLemmas
+pub mod DueLemmas
+pub mod TurnLemmas
+pub mod RenewingLemmas
+pub mod SessionLemmas
+pub mod SpeakingLemmas
+pub mod TurnSpeakingLemmas
+pub mod ExampleLemmas
+pub mod WinningLemmas
+pub mod WinningSessions
+pub mod ExchangeLemmas

@@ -1,0 +1,14 @@
+pub mod Kept
+pub mod Behind
+pub mod Leading
+pub mod Extending
+pub mod Steady
+pub mod Written
+pub mod Tickets
+pub mod Turns
+pub mod Renewing
+pub mod Sessions
+pub mod Speaking
+pub mod RenewalExample
+pub mod Winning
+pub mod Exchange
