@@ -8,7 +8,7 @@ ghost use Rattle.booth_audit.specs.Hearings.{is_between, let_in, lets_in};
 
 use crate::Whose;
 use crate::notes::READINGS_END;
-use booth_auth::gate;
+use booth_auth::ring_gate;
 use booth_base::ByteText;
 use booth_host::{Arrival, Entry, Failed};
 use booth_wire::Direction;
@@ -51,7 +51,7 @@ fn is_between(direction: Direction) -> bool
 fn lets_in(whose: &Whose<'_>, now: u64, bytes: &[u8]) -> bool
     ensures { result ≡ lets_in whose.now.node now bytes.now }
 {
-    match gate(whose.config(), whose.ring(), whose.me(), now, bytes) {
+    match ring_gate(whose.config(), whose.ring(), whose.me(), now, bytes) {
         Ok(message) => is_between(message.head.cmd.direction()),
         Err(_) => false,
     }

@@ -120,7 +120,7 @@ impl<'a> Whose<'a> {
     {
         let config = self.config.copy(alloc)?;
         let ring = self.copied_ring();
-        let node = Node::open(alloc, config, ring, self.me, records, reading)?;
+        let node = Node::open_ring(alloc, config, ring, self.me, records, reading)?;
         Ok(node)
     }
 }

@@ -10,3 +10,4 @@ pub use Rattle.booth_keys.specs.Mac
 pub mod Verdict
 pub mod Sealed
 pub mod Laws
+pub mod WithKey

@@ -230,7 +230,7 @@ fn admitted<'a>(
 /// # Errors
 ///
 /// The first of the eight faults, in the order of `DropFault`.
-pub fn gate<'a>(
+pub fn ring_gate<'a>(
     config: &Config,
     ring: Option<&Ring>,
     me: MemberId,

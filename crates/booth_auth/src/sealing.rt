@@ -88,7 +88,7 @@ fn sign(frame: &mut Frame, ring: &Ring)
 /// first key. The message's own `auth`, `secs` and `usecs` are ignored.
 ///
 /// `secs` becomes the whole seconds of the reading, at most 2^32 - 1, and `usecs` the rest.
-pub fn seal(message: &Message<'_>, ring: Option<&Ring>, now: u64, into: &mut Frame)
+pub fn ring_seal(message: &Message<'_>, ring: Option<&Ring>, now: u64, into: &mut Frame)
     requires kind { kind_in (content_of message.now.body) ≡ kind_of message.now.head.cmd }
     requires named { is_named message.now.head.cmd (content_of message.now.body) ≡ true }
     requires text { has_text (content_of message.now.body) ≡ true }

@@ -1,11 +1,15 @@
 -- What a journal writes in several appends.
 use Rattle.std.specs.Prelude.{Option, None, Some, IsSome, take, min}
-use Rattle.std.proofs.Common.{◌≡◌, ◌≤◌, ◌+◌, ◌⊎◌, inl, inr, ℕ, Bool, true, false, List, [], ◌++◌, length, refl, sym, ◌∙◌, ap, append_assoc, append-nil, subst, arith, true≢false}
+use Rattle.std.proofs.Common.{◌≡◌, ◌≤◌, ◌+◌, ◌⊎◌, inl, inr, ℕ, Bool, true, false, List, [], ◌∷◌, ◌++◌, length, refl, sym, ◌∙◌, ap, append_assoc, append-nil, subst, arith, true≢false}
 use Rattle.std.proofs.lemmas.List.{take_min, take-append-le}
 use Rattle.std.proofs.Math.Seq.{take-append-add}
 use Rattle.booth_host.specs.Causes.{Rose}
 use Rattle.booth_journal.specs.Held.{HoldsMore, HoldsPart, with_bytes}
-use Rattle.booth_journal.specs.Journal.{Wrote}
+use Rattle.booth_host.specs.declared.entry.Entry.{Entry}
+use Rattle.booth_journal.specs.Journal.{IsOrdered, Ordered, Wrote}
+use Rattle.booth_journal.specs.Lines.{answer_line, call_line, lines_of, lines_said, said}
+use Rattle.booth_journal.specs.declared.said.Answer.{Answer}
+use Rattle.booth_journal.specs.declared.said.Call.{Call}
 use Rattle.booth_journal.specs.declared.journal.Journal.{Journal}
 
 with_both : (held : Option (List ℕ)) (xs ys : List ℕ) → with_bytes (with_bytes held xs) ys ≡ with_bytes held (xs ++ ys)
@@ -107,3 +111,28 @@ nothing_wrote held faults a = record {
 pub as_text : {S : Type 0} {held : S → Option (List ℕ)} {faults : S → ℕ} {a b : Journal S} {xs ys : List ℕ} → xs ≡ ys
     → Wrote held faults a b xs → Wrote held faults a b ys
 as_text {S} {held} {faults} {a} {b} same wrote = subst (λ (l : List ℕ). Wrote held faults a b l) same wrote
+
+-- a call between its two lines: what was written before it, the call, and what was written after it
+pub in_order : {H S : Type 0} {held : S → Option (List ℕ)} {faults : S → ℕ} {old mid called new : Journal S}
+    {calls first second last : List (H × Journal S)} {host end : H} {entry : Entry}
+    → Wrote held faults old mid (call_line (said entry)) → first ≡ calls → called ≡ mid
+    → second ≡ first ++ (host, mid) ∷ [] → Wrote held faults called new (answer_line (said entry)) → last ≡ second
+    → end ≡ host → IsOrdered held faults (old, calls) (new, last) end entry
+in_order {H} {S} {held} {faults} {old} {mid} {called} {new} {calls} {first} {second} {last} {host} {end} {entry} before is_first same noted after is_last is_host =
+    record {
+      during = mid;
+      noted = is_last ∙ noted ∙ ap (λ (l : List (H × Journal S)). l ++ (host, mid) ∷ []) is_first
+          ∙ ap (λ (h : H). calls ++ (h, mid) ∷ []) (sym is_host);
+      before = before;
+      after = subst (λ (j : Journal S). Wrote held faults j new (answer_line (said entry))) same after;
+    }
+
+two_lines : (both : Option (Call × Answer)) → call_line both ++ answer_line both ≡ lines_said both
+two_lines None = refl
+two_lines (Some both) = refl
+
+-- both lines of a call
+pub wrote_both : {H S : Type 0} {held : S → Option (List ℕ)} {faults : S → ℕ} {old new : Ordered H S} {host : H} {entry : Entry}
+    → IsOrdered held faults old new host entry → Wrote held faults old.0 new.0 (lines_of entry)
+wrote_both {H} {S} {held} {faults} {old} {new} {host} {entry} order =
+    as_text (two_lines (said entry)) (then_wrote order.before order.after)

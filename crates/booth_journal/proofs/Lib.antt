@@ -1,6 +1,7 @@
 pub mod BlankLemmas
 pub mod FieldLemmas
 pub mod HexLemmas
+pub mod HistoryWalks
 pub mod JournalLemmas
 pub mod LookLemmas
 pub mod OneLemmas

@@ -111,3 +111,12 @@ lines_said (Some both) = line (call_text both.0) ++ line (answer_text both.1)
 -- the lines of a journal for an entry
 abbrev pub lines_of : Entry → List ℕ
 lines_of entry = lines_said (said entry)
+
+-- the line of its call, and the line of its answer
+abbrev pub call_line : Option (Call × Answer) → List ℕ
+call_line None = []
+call_line (Some both) = line (call_text both.0)
+
+abbrev pub answer_line : Option (Call × Answer) → List ℕ
+answer_line None = []
+answer_line (Some both) = line (answer_text both.1)

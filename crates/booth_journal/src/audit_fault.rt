@@ -13,7 +13,8 @@ pub enum AuditFault {
     /// This line has another call than the rules demanded.
     #[error("line {line} of journal {journal} says another call than the one that was demanded")]
     Differs { journal: u32, line: u64 },
-    /// According to this line a start read a record that the member may not have written.
+    /// According to this line a start read a record that it may not read: the member may not have written it, and it is
+    /// not silent, or a site's silent record has too small a term.
     #[error("line {line} of journal {journal} says a record that was not kept")]
     Kept { journal: u32, line: u64 },
     /// This line has a message of a member that no journal has as a send.

@@ -1,20 +1,18 @@
-//! A host over any host that records each call and its answer.
+//! The parts of a host that keeps a journal: the host inside, the journal, and the order of what is done with both.
+//! The `impl` of `Host` is in another module, so it reaches both parts through the functions here alone.
 ghost use Rattle.std.specs.Prelude.{◌≡◌, ◌≤◌, ◌++◌, [], ◌∷◌, IfOk, false, length, List};
 ghost use Rattle.booth_host.specs.Past.{GrewBy};
 ghost use Rattle.booth_host.specs.Causes.{HasCause, HasReadCause};
 ghost use Rattle.booth_host.specs.declared.entry.Entry.{Entry};
 ghost use Rattle.hex.specs.Hex.{encode_lower};
 ghost use Rattle.booth_journal.specs.Journal.{Wrote};
-ghost use Rattle.booth_journal.specs.Lines.{answer_text, arrival_answer, call_text, done_answer, hex_text, kept_answer, line, lines_of};
-ghost use Rattle.booth_journal.specs.declared.said.Call.{Call};
+ghost use Rattle.booth_journal.specs.Lines.{answer_text, arrival_answer, done_answer, hex_text, line};
 
 use crate::Sink;
 use crate::draft::Draft;
+use crate::history::History;
 use crate::journal::Journal;
-use crate::spelling::{
-    data_head, done_line, ended_line, found_line, job_line, keep_line, kept_line, open_line,
-    put_bytes, reading_line, send_head,
-};
+use crate::spelling::{data_head, done_line, ended_line, put_bytes};
 use booth_base::{Address, ByteText, Name, Peer};
 use booth_host::{Arrival, DATAGRAM_BYTES, Datagram, Failed, Host, Job, Place, ReadFault};
 use booth_rec::Record;
@@ -26,8 +24,10 @@ use std::alloc::{AllocError, Global};
 pub struct JournalHost<H, S> {
     host: H,
     journal: Journal<S>,
+    // Each journaled call so far: the host inside after it, and the journal while it was made. Only proofs read it.
+    calls: History<H, Journal<S>>,
     // the line that is being written; its bytes have no meaning between two lines
-    draft: Draft,
+    pub(crate) draft: Draft,
 }
 
 impl<H: Host, S: Sink> JournalHost<H, S> {
@@ -38,11 +38,13 @@ impl<H: Host, S: Sink> JournalHost<H, S> {
         S: Drop,
         ensures made { IfOk result (λ made. (made.host ≡ host) × (made.journal.sink ≡ sink)) }
         ensures works { IfOk result (λ made. made.journal.failed ≡ false) }
+        ensures calls { IfOk result (λ made. made.calls.items ≡ []) }
     {
         let draft = Draft::new(alloc)?;
         Ok(JournalHost {
             host,
             journal: Journal::new(sink),
+            calls: History::new(),
             draft,
         })
     }
@@ -61,10 +63,20 @@ impl<H: Host, S: Sink> JournalHost<H, S> {
         self.journal.failed
     }
 
+    // Writes these bytes to the journal.
+    pub(crate) fn write(&mut self, bytes: &[u8])
+        ensures wrote { Wrote S.held S.faults self.old.journal self.new.journal bytes.now }
+        ensures host { self.new.host ≡ self.old.host }
+        ensures calls { self.new.calls.items ≡ self.old.calls.items }
+    {
+        self.journal.write(bytes);
+    }
+
     // Writes the line of the draft.
-    fn write_draft(&mut self)
+    pub(crate) fn write_draft(&mut self)
         ensures wrote { Wrote S.held S.faults self.old.journal self.new.journal self.old.draft }
         ensures host { self.new.host ≡ self.old.host }
+        ensures calls { self.new.calls.items ≡ self.old.calls.items }
     {
         self.journal.write(self.draft.bytes());
     }
@@ -73,6 +85,7 @@ impl<H: Host, S: Sink> JournalHost<H, S> {
     fn write_pieces(&mut self, bytes: &[u8])
         ensures wrote { Wrote S.held S.faults self.old.journal self.new.journal (encode_lower bytes.now) }
         ensures host { self.new.host ≡ self.old.host }
+        ensures calls { self.new.calls.items ≡ self.old.calls.items }
     {
         let mut rest = bytes;
         'pieces: while !rest.is_empty() {
@@ -85,11 +98,12 @@ impl<H: Host, S: Sink> JournalHost<H, S> {
     }
 
     // Writes a line that begins with the draft and ends with these bytes.
-    fn write_with(&mut self, bytes: &[u8])
+    pub(crate) fn write_with(&mut self, bytes: &[u8])
         requires { length self.old.draft ≤ 96 }
         ensures wrote { Wrote S.held S.faults self.old.journal self.new.journal
             (line (self.old.draft ++ hex_text bytes.now)) }
         ensures host { self.new.host ≡ self.old.host }
+        ensures calls { self.new.calls.items ≡ self.old.calls.items }
     {
         if bytes.len() <= DATAGRAM_BYTES {
             put_bytes(bytes, &mut self.draft);
@@ -98,24 +112,26 @@ impl<H: Host, S: Sink> JournalHost<H, S> {
         } else {
             self.write_draft();
             self.write_pieces(bytes);
-            self.journal.write(b"\n");
+            self.write(b"\n");
         }
     }
 
     // Writes whether a call succeeded.
-    fn write_done(&mut self, answer: &Result<(), Failed>)
+    pub(crate) fn write_done(&mut self, answer: &Result<(), Failed>)
         ensures wrote { Wrote S.held S.faults self.old.journal self.new.journal
             (line (answer_text (done_answer answer.now))) }
         ensures host { self.new.host ≡ self.old.host }
+        ensures calls { self.new.calls.items ≡ self.old.calls.items }
     {
         self.journal.write(done_line(answer));
     }
 
     // Writes the result of a wait.
-    fn write_arrival(&mut self, answer: &Result<Arrival, Failed>, bytes: &[u8])
+    pub(crate) fn write_arrival(&mut self, answer: &Result<Arrival, Failed>, bytes: &[u8])
         ensures wrote { Wrote S.held S.faults self.old.journal self.new.journal
             (line (answer_text (arrival_answer answer.now bytes.now))) }
         ensures host { self.new.host ≡ self.old.host }
+        ensures calls { self.new.calls.items ≡ self.old.calls.items }
     {
         match answer {
             Ok(Arrival::Datagram(from)) => {
@@ -131,143 +147,138 @@ impl<H: Host, S: Sink> JournalHost<H, S> {
             Err(Failed) => self.journal.write(b"fail\n"),
         }
     }
-}
 
-impl<H: Host, S: Sink> Host for JournalHost<H, S> {
-    ghost past = { λ h. H.past h.host };
-
-    ghost faults = { λ h. H.faults h.host };
-
-    fn open(&mut self, place: &Place) -> Result<(), Failed>
+    // Opens the host inside, and notes the call.
+    pub(crate) fn call_open(&mut self, place: &Place) -> Result<(), Failed>
         ensures past { GrewBy (H.past self.old.host) (H.past self.new.host)
             (Entry.Open place.now.local place.now.port place.now.records place.now.conf_path result ∷ []) }
         ensures cause { HasCause (H.faults self.old.host) (H.faults self.new.host) result }
-        ensures wrote { Wrote S.held S.faults self.old.journal self.new.journal
-            (lines_of (Entry.Open place.now.local place.now.port place.now.records place.now.conf_path result)) }
+        ensures journal { self.new.journal ≡ self.old.journal }
+        ensures noted { self.new.calls.items ≡ self.old.calls.items ++ (self.new.host, self.old.journal) ∷ [] }
     {
-        open_line(&place.local, &mut self.draft);
-        self.write_draft();
         let answer = self.host.open(place);
-        self.write_done(&answer);
+        self.calls = self.calls.and(&self.host, &self.journal);
         answer
     }
 
-    fn next(&mut self, wait_ms: u64, into: &mut Datagram) -> Result<Arrival, Failed>
+    // Waits on the host inside, and notes the call.
+    pub(crate) fn call_next(&mut self, wait_ms: u64, into: &mut Datagram) -> Result<Arrival, Failed>
         ensures past { GrewBy (H.past self.old.host) (H.past self.new.host)
             (Entry.Next wait_ms result into.new ∷ []) }
         ensures cause { HasCause (H.faults self.old.host) (H.faults self.new.host) result }
-        ensures wrote { Wrote S.held S.faults self.old.journal self.new.journal
-            (lines_of (Entry.Next wait_ms result into.new)) }
+        ensures journal { self.new.journal ≡ self.old.journal }
+        ensures noted { self.new.calls.items ≡ self.old.calls.items ++ (self.new.host, self.old.journal) ∷ [] }
     {
-        self.journal.write(b"next\n");
         let answer = self.host.next(wait_ms, into);
-        self.write_arrival(&answer, into.bytes());
+        self.calls = self.calls.and(&self.host, &self.journal);
         answer
     }
 
-    fn now(&mut self) -> u64
+    // Reads the clock of the host inside, and notes the call.
+    pub(crate) fn call_now(&mut self) -> u64
         ensures past { GrewBy (H.past self.old.host) (H.past self.new.host)
             (Entry.Now result ∷ []) }
         ensures later { H.faults self.old.host ≤ H.faults self.new.host }
-        ensures wrote { Wrote S.held S.faults self.old.journal self.new.journal
-            (lines_of (Entry.Now result)) }
+        ensures journal { self.new.journal ≡ self.old.journal }
+        ensures noted { self.new.calls.items ≡ self.old.calls.items ++ (self.new.host, self.old.journal) ∷ [] }
     {
-        self.journal.write(b"now\n");
-        let reading = self.host.now();
-        reading_line(reading, &mut self.draft);
-        self.write_draft();
-        reading
+        let answer = self.host.now();
+        self.calls = self.calls.and(&self.host, &self.journal);
+        answer
     }
 
-    fn send(&mut self, to: &Peer, bytes: &[u8]) -> Result<(), Failed>
+    // Sends by the host inside, and notes the call.
+    pub(crate) fn call_send(&mut self, to: &Peer, bytes: &[u8]) -> Result<(), Failed>
         ensures past { GrewBy (H.past self.old.host) (H.past self.new.host)
             (Entry.Send to.now bytes.now result ∷ []) }
         ensures cause { HasCause (H.faults self.old.host) (H.faults self.new.host) result }
-        ensures wrote { Wrote S.held S.faults self.old.journal self.new.journal
-            (lines_of (Entry.Send to.now bytes.now result)) }
+        ensures journal { self.new.journal ≡ self.old.journal }
+        ensures noted { self.new.calls.items ≡ self.old.calls.items ++ (self.new.host, self.old.journal) ∷ [] }
     {
-        send_head(to, &mut self.draft);
-        self.write_with(bytes);
         let answer = self.host.send(to, bytes);
-        self.write_done(&answer);
+        self.calls = self.calls.and(&self.host, &self.journal);
         answer
     }
 
-    fn kept(&mut self, ticket: &Name) -> Result<Option<Record>, Failed>
+    // Reads a record of the host inside, and notes the call.
+    pub(crate) fn call_kept(&mut self, ticket: &Name) -> Result<Option<Record>, Failed>
         ensures past { GrewBy (H.past self.old.host) (H.past self.new.host)
             (Entry.Kept ticket.now result ∷ []) }
         ensures cause { HasCause (H.faults self.old.host) (H.faults self.new.host) result }
-        ensures wrote { Wrote S.held S.faults self.old.journal self.new.journal
-            (lines_of (Entry.Kept ticket.now result)) }
+        ensures journal { self.new.journal ≡ self.old.journal }
+        ensures noted { self.new.calls.items ≡ self.old.calls.items ++ (self.new.host, self.old.journal) ∷ [] }
     {
-        kept_line(ticket, &mut self.draft);
-        self.write_draft();
         let answer = self.host.kept(ticket);
-        found_line(&answer, &mut self.draft);
-        self.write_draft();
+        self.calls = self.calls.and(&self.host, &self.journal);
         answer
     }
 
-    fn keep(&mut self, ticket: &Name, rec: &Record) -> Result<(), Failed>
+    // Writes a record by the host inside, and notes the call.
+    pub(crate) fn call_keep(&mut self, ticket: &Name, rec: &Record) -> Result<(), Failed>
         ensures past { GrewBy (H.past self.old.host) (H.past self.new.host)
             (Entry.Keep ticket.now rec.now result ∷ []) }
         ensures cause { HasCause (H.faults self.old.host) (H.faults self.new.host) result }
-        ensures wrote { Wrote S.held S.faults self.old.journal self.new.journal
-            (lines_of (Entry.Keep ticket.now rec.now result)) }
+        ensures journal { self.new.journal ≡ self.old.journal }
+        ensures noted { self.new.calls.items ≡ self.old.calls.items ++ (self.new.host, self.old.journal) ∷ [] }
     {
-        keep_line(ticket, rec, &mut self.draft);
-        self.write_draft();
         let answer = self.host.keep(ticket, rec);
-        self.write_done(&answer);
+        self.calls = self.calls.and(&self.host, &self.journal);
         answer
     }
 
-    fn start(&mut self, job: &Job) -> Result<(), Failed>
+    // Starts a handler by the host inside, and notes the call.
+    pub(crate) fn call_start(&mut self, job: &Job) -> Result<(), Failed>
         ensures past { GrewBy (H.past self.old.host) (H.past self.new.host)
             (Entry.Start job.now.number job.now.ticket job.now.handler job.now.local job.now.expires result ∷ []) }
         ensures cause { HasCause (H.faults self.old.host) (H.faults self.new.host) result }
-        ensures wrote { Wrote S.held S.faults self.old.journal self.new.journal (lines_of
-            (Entry.Start job.now.number job.now.ticket job.now.handler job.now.local job.now.expires result)) }
+        ensures journal { self.new.journal ≡ self.old.journal }
+        ensures noted { self.new.calls.items ≡ self.old.calls.items ++ (self.new.host, self.old.journal) ∷ [] }
     {
-        job_line(job, &mut self.draft);
-        self.write_draft();
         let answer = self.host.start(job);
-        self.write_done(&answer);
+        self.calls = self.calls.and(&self.host, &self.journal);
         answer
     }
 
-    fn read_file(&mut self, alloc: Global, path: &str) -> Result<ByteText, ReadFault>
-        ensures past { GrewBy (H.past self.old.host) (H.past self.new.host)
-            (Entry.ReadFile path.now result ∷ []) }
+    // Reads a file by the host inside. The call is in no journal.
+    pub(crate) fn pass_read_file(
+        &mut self,
+        alloc: Global,
+        path: &str,
+    ) -> Result<ByteText, ReadFault>
+        ensures past { GrewBy (H.past self.old.host) (H.past self.new.host) (Entry.ReadFile path.now result ∷ []) }
         ensures cause { HasReadCause (H.faults self.old.host) (H.faults self.new.host) result }
         ensures journal { self.new.journal ≡ self.old.journal }
+        ensures calls { self.new.calls.items ≡ self.old.calls.items }
     {
         self.host.read_file(alloc, path)
     }
 
-    fn lock(&mut self, path: &str) -> Result<bool, Failed>
-        ensures past { GrewBy (H.past self.old.host) (H.past self.new.host)
-            (Entry.Lock path.now result ∷ []) }
+    // Takes a lock by the host inside. The call is in no journal.
+    pub(crate) fn pass_lock(&mut self, path: &str) -> Result<bool, Failed>
+        ensures past { GrewBy (H.past self.old.host) (H.past self.new.host) (Entry.Lock path.now result ∷ []) }
         ensures cause { HasCause (H.faults self.old.host) (H.faults self.new.host) result }
         ensures journal { self.new.journal ≡ self.old.journal }
+        ensures calls { self.new.calls.items ≡ self.old.calls.items }
     {
         self.host.lock(path)
     }
 
-    fn out(&mut self, bytes: &[u8]) -> Result<(), Failed>
-        ensures past { GrewBy (H.past self.old.host) (H.past self.new.host)
-            (Entry.Out bytes.now result ∷ []) }
+    // Prints by the host inside. The call is in no journal.
+    pub(crate) fn pass_out(&mut self, bytes: &[u8]) -> Result<(), Failed>
+        ensures past { GrewBy (H.past self.old.host) (H.past self.new.host) (Entry.Out bytes.now result ∷ []) }
         ensures cause { HasCause (H.faults self.old.host) (H.faults self.new.host) result }
         ensures journal { self.new.journal ≡ self.old.journal }
+        ensures calls { self.new.calls.items ≡ self.old.calls.items }
     {
         self.host.out(bytes)
     }
 
-    fn err(&mut self, bytes: &[u8]) -> Result<(), Failed>
-        ensures past { GrewBy (H.past self.old.host) (H.past self.new.host)
-            (Entry.Err bytes.now result ∷ []) }
+    // Prints to standard error by the host inside. The call is in no journal.
+    pub(crate) fn pass_err(&mut self, bytes: &[u8]) -> Result<(), Failed>
+        ensures past { GrewBy (H.past self.old.host) (H.past self.new.host) (Entry.Err bytes.now result ∷ []) }
         ensures cause { HasCause (H.faults self.old.host) (H.faults self.new.host) result }
         ensures journal { self.new.journal ≡ self.old.journal }
+        ensures calls { self.new.calls.items ≡ self.old.calls.items }
     {
         self.host.err(bytes)
     }

@@ -1,6 +1,6 @@
 -- What a next and a send of a host over streams did, from the parts that did it.
 use Rattle.std.specs.Prelude.{Option, Result, Ok}
-use Rattle.std.proofs.Common.{◌≡◌, ℕ, List, [], ◌∷◌, ◌++◌, refl, sym, ◌∙◌, ap, append-nil, subst}
+use Rattle.std.proofs.Common.{◌≡◌, ℕ, List, [], ◌∷◌, ◌++◌, refl, sym, ◌∙◌, ap, inl, inr, append-nil, subst}
 use Rattle.std.specs.List.{All}
 use Rattle.booth_base.specs.declared.address.Peer.{Peer}
 use Rattle.booth_host.specs.declared.entry.Entry.{Entry}
@@ -13,12 +13,14 @@ use Rattle.booth_host.proofs.PastLemmas.{no_entry}
 use Rattle.booth_stream.specs.declared.link_call.LinkCall.{LinkCall}
 use Rattle.booth_stream.specs.declared.links.LinkEvent.{LinkEvent}
 use Rattle.booth_stream.specs.declared.stream_host.Wrote.{Wrote}
+use Rattle.booth_stream.specs.declared.stream_host.Wrote.TheVariants as wrotes
 use Rattle.booth_stream.specs.Calls.{CallsGrewBy}
 use Rattle.booth_stream.specs.Places.{OpenLink, Gives, NoneWhole, Polls, closings, unbroken}
 use Rattle.booth_stream.specs.Slots.{IsOpen, IsNotOf}
-use Rattle.booth_stream.specs.Steps.{BothGrew, IsNext, Ready, Arrived, Passed, AnswersElse, IsSend, Linked, SentOn, Writes, EndsWrites}
+use Rattle.booth_stream.specs.Steps.{BothGrew, IsNext, Ready, Arrived, Passed, AnswersElse, IsSend, Linked, SentOn, Writes, EndsWrites, StaysOrCounts, own_after, own_count}
 use Rattle.booth_stream.proofs.CallLemmas.{no_call, calls_joined}
 use Rattle.booth_stream.proofs.StepLemmas.{both_of}
+use Rattle.booth_stream.proofs.WriteLemmas.{own_counted}
 
 -- a frame was there
 pub ready_next : (old new : List (Option OpenLink)) (wait : ℕ) (peer : Peer) (bytes : List ℕ) (calls : List LinkCall)
@@ -53,18 +55,31 @@ passed_next old mid new wait answer bytes polled calls more entries grew polls l
 
 -- a link was written to
 pub linked_send : (old new : List (Option OpenLink)) (to : Peer) (bytes : List ℕ) (number : ℕ) (wrote : Wrote)
-    (writes calls : List LinkCall) (answer : Result (Unit {0}) Failed) {links linked : Option (List LinkCall)}
+    (writes calls : List LinkCall) (answer : Result (Unit {0}) Failed) (before now : ℕ) {links linked : Option (List LinkCall)}
     {host : Option (List Entry)} → IsOpen old to number → CallsGrewBy links linked calls → Writes number bytes writes wrote
-    → EndsWrites old number wrote writes calls answer new
-    → BothGrew (λ calls entries. IsSend old to bytes calls entries answer new) links linked host host
-linked_send old new to bytes number wrote writes calls answer open_to grew written ends =
-    both_of (λ made entries. IsSend old to bytes made entries answer new) grew no_entry
-    (Linked number wrote writes open_to written ends refl)
+    → EndsWrites old number wrote writes calls answer new → now ≡ own_after wrote before
+    → BothGrew (λ calls entries. IsSend old to bytes calls entries answer new × (now ≡ own_count before calls))
+    links linked host host
+linked_send old new to bytes number wrote writes calls answer before now open_to grew written ends counted =
+    both_of (λ made entries. IsSend old to bytes made entries answer new × (now ≡ own_count before made)) grew no_entry (
+      Linked number wrote writes open_to written ends refl,
+      counted ∙ sym (own_counted old new number bytes writes calls wrote answer before written ends),
+    )
+
+-- the host's own count stays, or the answer is a failure
+pub own_stays : (old new : List (Option OpenLink)) (number : ℕ) (wrote : Wrote) (writes calls : List LinkCall)
+    (answer : Result (Unit {0}) Failed) (before now : ℕ) → EndsWrites old number wrote writes calls answer new
+    → now ≡ own_after wrote before → StaysOrCounts before now answer
+own_stays old new number wrotes.All writes calls answer before now ends counted = inl counted
+own_stays old new number wrotes.Nothing writes calls answer before now ends counted = inr (ends.0, counted)
+own_stays old new number wrotes.Fault writes calls answer before now ends counted = inl counted
 
 -- the host inside sent
-pub sent_on : (places : List (Option OpenLink)) (to : Peer) (bytes : List ℕ) (answer : Result (Unit {0}) Failed)
+pub sent_on : (places : List (Option OpenLink)) (to : Peer) (bytes : List ℕ) (answer : Result (Unit {0}) Failed) (own : ℕ)
     {links : Option (List LinkCall)} {host hosted : Option (List Entry)} → All (IsNotOf to) places
     → GrewBy host hosted (Send to bytes answer ∷ [])
-    → BothGrew (λ calls entries. IsSend places to bytes calls entries answer places) links links host hosted
-sent_on places to bytes answer unreached grew =
-    both_of (λ made entries. IsSend places to bytes made entries answer places) no_call grew (SentOn unreached refl refl refl)
+    → BothGrew (λ calls entries. IsSend places to bytes calls entries answer places × (own ≡ own_count own calls))
+    links links host hosted
+sent_on places to bytes answer own unreached grew =
+    both_of (λ made entries. IsSend places to bytes made entries answer places × (own ≡ own_count own made)) no_call grew
+    (SentOn unreached refl refl refl, refl)

@@ -1,6 +1,6 @@
 -- The calls that each call of a host over streams makes to the links and to the host inside.
-use Rattle.std.specs.Prelude.{◌≡◌, ◌≤◌, ◌<◌, ◌⊎◌, ◌++◌, ◌+◌, ◌-◌, ◌^◌, min, ℕ, true, List, [], ◌∷◌, length, drop, Option, IsSome, Result, Ok, Err, is_err}
-use Rattle.std.specs.List.{All}
+use Rattle.std.specs.Prelude.{◌≡◌, ◌≤◌, ◌<◌, ◌⊎◌, ◌++◌, ◌+◌, ◌-◌, ◌^◌, min, ℕ, Bool, true, false, ◌==◌, if◌then◌else◌, List, [], ◌∷◌, length, drop, Option, IsSome, Result, Ok, Err, is_err}
+use Rattle.std.specs.List.{All, list_any}
 use Rattle.booth_base.specs.declared.address.Peer.{Peer}
 use Rattle.booth_host.specs.declared.entry.Entry.{Entry}
 use Rattle.booth_host.specs.declared.entry.Entry.TheVariants.{Next, Send}
@@ -10,7 +10,7 @@ use Rattle.booth_host.specs.declared.host.Failed.{Failed}
 use Rattle.booth_host.specs.declared.entry.Entry.TheVariants as entries
 use Rattle.booth_host.specs.declared.host.Place.{Place}
 use Rattle.booth_host.specs.Past.{grown, GrewBy}
-use Rattle.booth_host.specs.Causes.{Rose}
+use Rattle.booth_host.specs.Causes.{Rose, raised}
 use Rattle.booth_stream.specs.Calls.{with_calls, CallsGrewBy}
 use Rattle.booth_stream.specs.Places.{OpenLink, NoneWhole, Gives, Polls, closings, unbroken, without}
 use Rattle.booth_stream.specs.Slots.{IsOpen, IsNotOf}
@@ -31,6 +31,19 @@ pub record BothGrew (P : List LinkCall → List Entry → Type 0) (links linked 
 -- the sum of three counts, or the greatest value of the counter
 abbrev pub summed : ℕ → ℕ → ℕ → ℕ
 summed host links own = min (host + links + own) (2 ^ 64 - 1)
+
+-- a write to a link that wrote nothing
+abbrev pub wrote_nothing : LinkCall → Bool
+wrote_nothing (Write number bytes (Ok taken)) = taken == 0
+wrote_nothing call = false
+
+-- the host's own count after these calls of its links: it counts a write that wrote nothing, and nothing else
+abbrev pub own_count : ℕ → List LinkCall → ℕ
+own_count before calls = if list_any wrote_nothing calls then raised before else before
+
+-- the host's own count stays, or a send failed and it is one more
+abbrev pub StaysOrCounts : ℕ → ℕ → Result (Unit {0}) Failed → Type 0
+StaysOrCounts before now answer = (now ≡ before) ⊎ ((is_err answer ≡ true) × (now ≡ raised before))
 
 -- a write that failed was counted
 pub record RoseAt (wrote : Wrote) (before now : ℕ) : Type 0 where
@@ -96,6 +109,12 @@ EndsWrites old number wrotes.Nothing writes calls answer new =
     (is_err answer ≡ true) × (calls ≡ writes ++ Close number ∷ []) × (new ≡ without number old)
 EndsWrites old number wrotes.Fault writes calls answer new =
     (is_err answer ≡ true) × (calls ≡ writes ++ Close number ∷ []) × (new ≡ without number old)
+
+-- how the host's own count ends after the writes of a frame
+abbrev pub own_after : Wrote → ℕ → ℕ
+own_after wrotes.All before = before
+own_after wrotes.Nothing before = raised before
+own_after wrotes.Fault before = before
 
 -- A send to a peer with an open link writes to that link; otherwise the host inside sends.
 pub data IsSend (old : List (Option OpenLink)) (to : Peer) (bytes : List ℕ) (calls : List LinkCall)

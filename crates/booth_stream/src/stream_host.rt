@@ -6,7 +6,7 @@ ghost use Rattle.booth_host.specs.Causes.{HasCause, HasReadCause};
 ghost use Rattle.booth_host.specs.Told.{told_past};
 ghost use Rattle.booth_host.specs.declared.entry.Entry.{Entry};
 ghost use Rattle.booth_stream.specs.Calls.{CallsGrewBy};
-ghost use Rattle.booth_stream.specs.Steps.{BothGrew, EndsWrites, IsNext, IsSend, OpensBoth, RoseAt, Writes, summed};
+ghost use Rattle.booth_stream.specs.Steps.{BothGrew, EndsWrites, IsNext, IsSend, OpensBoth, RoseAt, StaysOrCounts, Writes, own_after, own_count, summed};
 ghost use Rattle.booth_stream.specs.Table.{places_of};
 ghost use Rattle.booth_stream.specs.declared.link_call.LinkCall.{LinkCall};
 ghost use Rattle.booth_stream.specs.declared.stream_host.Wrote.{Wrote};
@@ -91,6 +91,7 @@ impl<H: Host, L: Links> StreamHost<H, L> {
         ensures cause { HasCause (summed (H.faults self.old.host) (L.faults self.old.links) self.old.faults)
             (summed (H.faults self.new.host) (L.faults self.new.links) self.new.faults) result }
         ensures told { self.new.told ≡ self.old.told }
+        ensures own { self.new.faults ≡ self.old.faults }
     {
         if let Some(peer) = self.table.give_or_rest(into, &mut self.links) {
             return Ok(Arrival::Datagram(peer));
@@ -110,7 +111,8 @@ impl<H: Host, L: Links> StreamHost<H, L> {
         ensures does { (wrote : Wrote) × (writes : List LinkCall) × (calls : List LinkCall)
             × CallsGrewBy (L.past self.old.links) (L.past self.new.links) calls
             × Writes number bytes.now writes wrote
-            × EndsWrites (places_of self.old.table) number wrote writes calls result (places_of self.new.table) }
+            × EndsWrites (places_of self.old.table) number wrote writes calls result (places_of self.new.table)
+            × (self.new.faults ≡ own_after wrote self.old.faults) }
         ensures cause { HasCause (summed (H.faults self.old.host) (L.faults self.old.links) self.old.faults)
             (summed (H.faults self.new.host) (L.faults self.new.links) self.new.faults) result }
         ensures told { self.new.told ≡ self.old.told }
@@ -140,6 +142,7 @@ impl<H: Host, L: Links> Host for StreamHost<H, L> {
         ensures opens { OpensBoth place.now result (L.past self.old.links) (L.past self.new.links)
             (H.past self.old.host) (H.past self.new.host) }
         ensures table { self.new.table ≡ self.old.table }
+        ensures own { self.new.faults ≡ self.old.faults }
     {
         let first = self.host.open(place);
         let second = self.links.open(place);
@@ -162,6 +165,7 @@ impl<H: Host, L: Links> Host for StreamHost<H, L> {
             (λ calls entries. IsNext (places_of self.old.table) wait_ms calls entries result into.new
             (places_of self.new.table))
             (L.past self.old.links) (L.past self.new.links) (H.past self.old.host) (H.past self.new.host) }
+        ensures own { self.new.faults ≡ self.old.faults }
     {
         let answer = self.arrive(wait_ms, into);
         self.told.next(wait_ms, answer, into.bytes());
@@ -177,8 +181,9 @@ impl<H: Host, L: Links> Host for StreamHost<H, L> {
             (summed (H.faults self.new.host) (L.faults self.new.links) self.new.faults) result }
         ensures does { BothGrew
             (λ calls entries. IsSend (places_of self.old.table) to.now bytes.now calls entries result
-            (places_of self.new.table))
+            (places_of self.new.table) × (self.new.faults ≡ own_count self.old.faults calls))
             (L.past self.old.links) (L.past self.new.links) (H.past self.old.host) (H.past self.new.host) }
+        ensures own { StaysOrCounts self.old.faults self.new.faults result }
     {
         let answer = match self.table.reach(to) {
             Some(number) => self.write(number, bytes),
@@ -195,6 +200,7 @@ impl<H: Host, L: Links> Host for StreamHost<H, L> {
         ensures inner { GrewBy (H.past self.old.host) (H.past self.new.host) (Entry.Now result ∷ []) }
         ensures links { self.new.links ≡ self.old.links }
         ensures table { self.new.table ≡ self.old.table }
+        ensures own { self.new.faults ≡ self.old.faults }
     {
         let answer = self.host.now();
         self.told.now(answer);
@@ -208,6 +214,7 @@ impl<H: Host, L: Links> Host for StreamHost<H, L> {
         ensures inner { GrewBy (H.past self.old.host) (H.past self.new.host) (Entry.Kept ticket.now result ∷ []) }
         ensures links { self.new.links ≡ self.old.links }
         ensures table { self.new.table ≡ self.old.table }
+        ensures own { self.new.faults ≡ self.old.faults }
     {
         let answer = self.host.kept(ticket);
         self.told.kept(ticket, answer);
@@ -223,6 +230,7 @@ impl<H: Host, L: Links> Host for StreamHost<H, L> {
             (Entry.Keep ticket.now rec.now result ∷ []) }
         ensures links { self.new.links ≡ self.old.links }
         ensures table { self.new.table ≡ self.old.table }
+        ensures own { self.new.faults ≡ self.old.faults }
     {
         let answer = self.host.keep(ticket, rec);
         self.told.keep(ticket, rec, answer);
@@ -238,6 +246,7 @@ impl<H: Host, L: Links> Host for StreamHost<H, L> {
             (Entry.Start job.now.number job.now.ticket job.now.handler job.now.local job.now.expires result ∷ []) }
         ensures links { self.new.links ≡ self.old.links }
         ensures table { self.new.table ≡ self.old.table }
+        ensures own { self.new.faults ≡ self.old.faults }
     {
         let answer = self.host.start(job);
         self.told.start(job, answer);
@@ -252,6 +261,7 @@ impl<H: Host, L: Links> Host for StreamHost<H, L> {
         ensures inner { GrewBy (H.past self.old.host) (H.past self.new.host) (Entry.ReadFile path.now result ∷ []) }
         ensures links { self.new.links ≡ self.old.links }
         ensures table { self.new.table ≡ self.old.table }
+        ensures own { self.new.faults ≡ self.old.faults }
     {
         let answer = self.host.read_file(alloc, path);
         self.told.read_file(path, &answer);
@@ -265,6 +275,7 @@ impl<H: Host, L: Links> Host for StreamHost<H, L> {
         ensures inner { GrewBy (H.past self.old.host) (H.past self.new.host) (Entry.Lock path.now result ∷ []) }
         ensures links { self.new.links ≡ self.old.links }
         ensures table { self.new.table ≡ self.old.table }
+        ensures own { self.new.faults ≡ self.old.faults }
     {
         let answer = self.host.lock(path);
         self.told.lock(path, answer);
@@ -278,6 +289,7 @@ impl<H: Host, L: Links> Host for StreamHost<H, L> {
         ensures inner { GrewBy (H.past self.old.host) (H.past self.new.host) (Entry.Out bytes.now result ∷ []) }
         ensures links { self.new.links ≡ self.old.links }
         ensures table { self.new.table ≡ self.old.table }
+        ensures own { self.new.faults ≡ self.old.faults }
     {
         let answer = self.host.out(bytes);
         self.told.out(bytes, answer);
@@ -291,6 +303,7 @@ impl<H: Host, L: Links> Host for StreamHost<H, L> {
         ensures inner { GrewBy (H.past self.old.host) (H.past self.new.host) (Entry.Err bytes.now result ∷ []) }
         ensures links { self.new.links ≡ self.old.links }
         ensures table { self.new.table ≡ self.old.table }
+        ensures own { self.new.faults ≡ self.old.faults }
     {
         let answer = self.host.err(bytes);
         self.told.err(bytes, answer);

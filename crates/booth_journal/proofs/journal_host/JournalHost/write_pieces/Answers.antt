@@ -8,6 +8,7 @@ pub pieces-init : goal.pieces-init
 pieces-init g c = record {
   so_far = start_pieces g.S.Sink.held g.S.Sink.faults c.args.self.now.journal c.args.bytes.now;
   host = refl;
+  calls = refl;
 }
 
 pub pieces-preserved : goal.pieces-preserved
@@ -22,4 +23,5 @@ pieces-preserved g c =
           c.split_at.ensures.back)
           (as_text text c.write_draft.ensures.wrote);
       host = c.write_draft.ensures.host ∙ c.pieces.invariant.host;
+      calls = c.write_draft.ensures.calls ∙ c.pieces.invariant.calls;
     }

@@ -6,6 +6,7 @@ abbrev pub invariant-pieces : goal.invariant-pieces
 invariant-pieces g l = record {
   so_far : SoFar g.S.Sink.held g.S.Sink.faults l.fn.self.journal l.self.journal l.rest l.fn.bytes;
   host : l.self.host ≡ l.fn.self.host;
+  calls : l.self.calls.items ≡ l.fn.self.calls.items;
 }
 
 abbrev pub decreases-pieces : goal.decreases-pieces

@@ -9,4 +9,4 @@ returns-else-bytes-le-DATAGRAM_BYTES-clause-wrote g c =
     then_wrote
     (then_wrote c.write_draft-else-bytes-le-DATAGRAM_BYTES.ensures.wrote
     (as_text (hex_of_some c.args.bytes.now (omega (arith, more))) c.write_pieces.ensures.wrote))
-    c.write.ensures
+    c.write.ensures.wrote
