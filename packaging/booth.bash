@@ -179,7 +179,7 @@ _booth_offer_pacemaker() {
     --with) _booth_reply "$(_booth_resources)" "$word"; return ;;
   esac
   if [[ $word == -* ]]; then
-    [[ ${words[1]} == setup ]] && options+=$'--margin\n--stop\n--agent\n--address\n--records\n--with\n--shared\n'
+    [[ ${words[1]} == setup ]] && options+=$'--margin\n--stop\n--agent\n--address\n--records\n--with\n--shared\n--local\n'
     [[ ${words[1]} == remove ]] && options+=$'--all\n'
     _booth_reply "$options"$'-h\n--help\n-V\n--version' "$word"
     return
@@ -233,9 +233,9 @@ _booth_offer() {
   local word=${words[cword]} before=${words[cword - 1]} program=${1##*/}
   local command=${words[1]} commands options
   case $program in
-    boothd) commands=$'daemon\nstatus\nsim\naudit' ;;
-    geostore) commands=$'set\nget\ndelete\nlist' ;;
-    *) commands=$'list\nshow\npeers\nstatus\ngrant\nrevoke\nmove' ;;
+    boothd) commands=$'daemon\nstatus\nsim\naudit\nhelp' ;;
+    geostore) commands=$'set\nget\ndelete\nlist\nhelp' ;;
+    *) commands=$'list\nshow\npeers\nstatus\ngrant\nrevoke\nmove\nhelp' ;;
   esac
   # `booth` ignores a leading `client`
   [[ $program == booth && $command == client ]] && command=${words[2]}
@@ -252,9 +252,11 @@ _booth_offer() {
     *) options=$'-c\n-s\n--tcp\n--udp\n--help\n--version' ;;
   esac
   if ((cword == 1)); then
+    [[ $word == -* ]] && commands=$'-h\n--help\n-V\n--version'
     _booth_reply "$commands" "$word"
     return
   fi
+  [[ $command == help || $command == -* ]] && return
   case $before in
     -c) _booth_configurations "$word"; return ;;
     -s) _booth_reply "$(_booth_values site arbitrator)" "$word"; return ;;

@@ -8,7 +8,8 @@ import re
 import shlex
 import shutil
 
-from shells import need, run
+from checks import need
+from shells import run
 
 TOP = os.path.dirname(os.path.dirname(os.path.abspath(__file__)))
 # the file of bash-completion that shells source
@@ -42,7 +43,10 @@ def completion_offers(room):
     told = run(f"{TOP}/packaging/booth-status", "--help").stdout
     status_options = re.findall(r"(?:^ +|, )(--?[A-Za-z][a-z-]*)", told, re.M)
     cases = [
-        (("boothd", ""), ["daemon", "status", "sim", "audit"]),
+        (("boothd", ""), ["daemon", "status", "sim", "audit", "help"]),
+        (("boothd", "-"), ["-h", "--help", "-V", "--version"]),
+        (("booth", "--h"), ["--help"]),
+        (("booth", "help", ""), []),
         (("booth", "gr"), ["grant"]),
         (("booth", "s"), ["show", "status"]),
         (("booth", "show", "-c", conf, ""), ["db8", "mail"]),
@@ -65,7 +69,7 @@ def completion_offers(room):
         (("boothd", "sim", "-"), ["-c", "-e", "-r", "--help", "--version"]),
         (("boothd", "audit", "-"), ["-c", "--help", "--version"]),
         (("boothd", "audit", "-c", conf, f"{room}/fold"), [f"{room}/folder/"]),
-        (("geostore", ""), ["set", "get", "delete", "list"]),
+        (("geostore", ""), ["set", "get", "delete", "list", "help"]),
         (("geostore", "client", "d"), []),
         (("geostore", "get", "-c", conf, "-t", "m"), ["mail"]),
         (("geostore", "list", "-c", conf, "-s", "192.0.2.1"), ["192.0.2.10"]),

@@ -12,8 +12,9 @@ import stat
 import subprocess
 
 import frames
+from checks import need
 from gate import Station
-from room import SECONDS_TO_END, Asker, check, require
+from room import SECONDS_TO_END, Asker, check
 from serving import LOCK, TOP
 
 # a file that a daemon serves, line by line; @ stands for this machine's address
@@ -145,7 +146,7 @@ def is_read(room, text, shown=None):
 def no_command(room):
     """words without a command have a usage line and status 1"""
     good = room.words(room.file(LEAST))
-    wrong = [[], [""], ["Daemon", *good[1:]], ["client", *good], ["--help"], ["--version"]]
+    wrong = [[], [""], ["Daemon", *good[1:]], ["client", *good], ["--Help"], ["-v"], ["version"]]
     # arguments that are not valid UTF-8
     for words in (*wrong, [b"\xff"], [*good[:2], b"/\xff", *good[3:]]):
         room.refuses(words, USAGE)
@@ -166,7 +167,7 @@ def untaken_words(room):
     for words in wrong:
         status, out, err = room.ended(words)
         is_told = (status, out) == (1, b"") and err.startswith(b"error: ")
-        require(is_told, f"{words} gave status {status}, {out} and {err}")
+        need(is_told, f"{words} gave status {status}, {out} and {err}")
 
 
 def told_in_page(first):
@@ -180,6 +181,13 @@ def told_in_page(first):
 @check
 def help_and_version(room):
     """help and version are printed only on standard output, with status 0, and man/boothd.8 has that help"""
+    commands = told_in_page(b"Usage: boothd COMMAND [OPTIONS]")
+    for words in (["help"], ["--help"], ["-h"], ["--help", "daemon"]):
+        status, out, err = room.ended(words)
+        need((status, out, err) == (0, commands, b""), f"{words} gave status {status}, {out} and {err}")
+    for word in ("--version", "-V"):
+        status, out, err = room.ended([word])
+        need((status, out, err) == (0, b"boothd 0.2.0\n", b""), f"{word} gave status {status}, {out} and {err}")
     lock = b"[default: /var/run/booth.lock]"
     for command, pieces in (
         ("daemon", (b"-c", b"[default: booth]", b"-s", b"-l", lock, b"-d",
@@ -187,13 +195,13 @@ def help_and_version(room):
         ("status", (b"-l", lock, b"boothd(8)")),
     ):
         status, out, err = room.ended([command, "--help"])
-        require((status, err) == (0, b""), f"help of {command} gave status {status} and {err}")
+        need((status, err) == (0, b""), f"help of {command} gave status {status} and {err}")
         missing = [piece for piece in pieces if piece not in out]
-        require(not missing, f"help of {command} does not name {missing}")
+        need(not missing, f"help of {command} does not name {missing}")
         status, out, err = room.ended([command, "--version"])
-        require((status, out, err) == (0, b"boothd 0.2.0\n", b""), f"the version is {out}")
+        need((status, out, err) == (0, b"boothd 0.2.0\n", b""), f"the version is {out}")
     told = told_in_page(b"Runs the daemon of one member, in the foreground.")
-    require(room.ended(["daemon", "-h"])[1] == told, "man/boothd.8 tells other options")
+    need(room.ended(["daemon", "-h"])[1] == told, "man/boothd.8 tells other options")
 
 
 @check
@@ -278,7 +286,7 @@ def faulty_lines(room):
 @check
 def faulty_files(room):
     """a fault of the whole file is reported when no line has one, with the ticket's name"""
-    require(len(set(map(frames.member_id, CLASHING))) == 1, "the test's two ids differ")
+    need(len(set(map(frames.member_id, CLASHING))) == 1, "the test's two ids differ")
     for text, what in WHOLE:
         is_faulty(room, text, what)
         is_faulty(room, text + b"x", b"line %d: syntax" % (text.count(b"\n") + 1))
@@ -459,16 +467,16 @@ def status(room):
     stopped = (7, b"booth daemon is not running\n", b"")
     options = room.own_places("looked")
     look = ["status", *options[:2]]
-    require(room.ended(look) == stopped, "a daemon is said to run before it was started")
+    need(room.ended(look) == stopped, "a daemon is said to run before it was started")
     with room.serving(options=options) as daemon, Asker(daemon) as asker:
-        require(room.ended(look) == running, "a daemon that runs is not said to run")
+        need(room.ended(look) == running, "a daemon that runs is not said to run")
         # (no daemon of this test uses the default lock, but a daemon of this machine may)
         if may_open(LOCK):
             with left_as_it_was(LOCK):
                 usual = running if is_locked(LOCK) else stopped
-                require(room.ended(["status"]) == usual, "a daemon is said to hold the lock of no other")
+                need(room.ended(["status"]) == usual, "a daemon is said to hold the lock of no other")
         asker.asks("CLst")
-    require(room.ended(look) == stopped, "a daemon is said to run after its end")
+    need(room.ended(look) == stopped, "a daemon is said to run after its end")
     missing = f"{room.folder}/missing/lock"
     room.refuses(["status", "-l", missing], b"cannot lock %s" % missing.encode())
 
@@ -478,7 +486,7 @@ def counted_turns(room):
     """a daemon with a number of turns ends by itself with status 0, and prints nothing"""
     words = room.words(room.file(here(room, FILE)))
     came = room.ended([*words, *room.own_places("counted"), "-n", "2"])
-    require(came == (0, b"", b""), f"a daemon of two turns gave {came}")
+    need(came == (0, b"", b""), f"a daemon of two turns gave {came}")
 
 
 @check
@@ -506,14 +514,14 @@ def own_lock_files(room):
     paths = places[1], f"{places[3]}/booth.lock"
     with room.serving(options=places):
         for path in paths:
-            require(mode(path) == 0o600, f"{path} has the mode {mode(path):o}")
-        require(mode(places[3]) == 0o700, f"the directory of records has the mode {mode(places[3]):o}")
+            need(mode(path) == 0o600, f"{path} has the mode {mode(path):o}")
+        need(mode(places[3]) == 0o700, f"the directory of records has the mode {mode(places[3]):o}")
     # directories that exist keep their modes
     for path in (*paths, places[3]):
         os.chmod(path, 0o750)
     with room.serving(options=places):
         for path in (*paths, places[3]):
-            require(mode(path) == 0o750, f"the mode of {path} was changed to {mode(path):o}")
+            need(mode(path) == 0o750, f"the mode of {path} was changed to {mode(path):o}")
 
 
 @check
@@ -550,7 +558,7 @@ def unread_standard_error(room):
     streams = {"stdin": subprocess.DEVNULL, "stdout": subprocess.DEVNULL, "stderr": into}
     ran = subprocess.run([room.program, "stop"], timeout=SECONDS_TO_END, **streams)
     os.close(into)
-    require(ran.returncode == 1, f"the run had status {ran.returncode}")
+    need(ran.returncode == 1, f"the run had status {ran.returncode}")
 
 
 @check
@@ -562,5 +570,5 @@ def closed_standard_error(room):
         holder.bind((room.address, frames.PORT))
         words = [room.program, *room.words(path), *places]
         ran = subprocess.run(words, preexec_fn=lambda: os.close(2), **streams)
-    require(ran.returncode == 1, f"the run had status {ran.returncode}")
-    require(os.path.getsize(places[1]) == 0, "something was written into the lock file")
+    need(ran.returncode == 1, f"the run had status {ran.returncode}")
+    need(os.path.getsize(places[1]) == 0, "something was written into the lock file")

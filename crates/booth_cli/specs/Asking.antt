@@ -22,8 +22,10 @@ use Rattle.booth_talk.specs.declared.order.Order.TheVariants as orders
 use Rattle.booth_talk.specs.declared.order.Style.{Style}
 use Rattle.booth_talk.specs.declared.order.Style.TheVariants.{Line, Json}
 use Rattle.booth_cli.specs.declared.asking.Refusal.{Refusal}
-use Rattle.booth_cli.specs.declared.asking.Refusal.TheVariants.{NoCommand, Untaken, Bad}
+use Rattle.booth_cli.specs.declared.asking.Refusal.TheVariants.{NoCommand, About, Untaken, Bad}
+use Rattle.booth_cli.specs.declared.page.Page.{Page}
 use Rattle.booth_cli.specs.Commands.{app_for, verb_in}
+use Rattle.booth_cli.specs.Pages.{page_in}
 use Rattle.booth_cli.specs.Given.{found_in}
 use Rattle.booth_cli.specs.Reading.{IsFirstRefused, IsRead}
 
@@ -158,6 +160,16 @@ pub record AsksFollow (words : List (List ℕ)) (asked : FollowWords) : Type 0 w
   pub asks : AreTaken BoothFollow words verbs.Follow all
   pub same : IsFollowOf all asked
 
+-- the first argument is no command of the program, and asks for this text about it
+pub record AsksAbout (program : Program) (words : List (List ℕ)) (page : Page) : Type 0 where
+  pub no_command : verb_in program words ≡ None
+  pub named : page_in program words ≡ Some page
+
+-- the first argument is no command of the program, and asks for no text about it
+pub record AsksNothing (program : Program) (words : List (List ℕ)) : Type 0 where
+  pub no_command : verb_in program words ≡ None
+  pub no_page : page_in program words ≡ None
+
 -- the first argument is a command of the program; `booth-follow` accepts any
 pub record NamesCommand (program : Program) (words : List (List ℕ)) : Type 0 where
   pub verb : Verb
@@ -233,6 +245,7 @@ Asks program words (Ok (Audit asked)) = (program ≡ Boothd) × AsksAudit words 
 Asks program words (Ok (Client asked)) = IsClient program × AsksClient program words asked
 Asks program words (Ok (Move asked)) = (program ≡ Booth) × AsksMove words asked
 Asks program words (Ok (Follow asked)) = (program ≡ BoothFollow) × AsksFollow words asked
-Asks program words (Err NoCommand) = verb_in program words ≡ None
+Asks program words (Err NoCommand) = AsksNothing program words
+Asks program words (Err (About page)) = AsksAbout program words page
 Asks program words (Err (Untaken error)) = IsUntakenFor program words (kind_of error)
 Asks program words (Err (Bad word)) = HasBadWord program words word

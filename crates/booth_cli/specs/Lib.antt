@@ -1,4 +1,5 @@
 pub mod Commands
+pub mod Pages
 pub mod Arguments
 pub mod Given
 pub mod Reading

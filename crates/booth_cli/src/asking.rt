@@ -1,11 +1,13 @@
 //! The request of a command line, or why it has none.
-ghost use Rattle.std.specs.Prelude.{◌≡◌, true, Some, is_some, map, string_bytes};
+ghost use Rattle.std.specs.Prelude.{◌≡◌, true, Some, None, Err, is_some, map, string_bytes};
+ghost use Rattle.booth_cli.specs.Commands.{verb_in};
 ghost use Rattle.booth_cli.specs.Asking.{Asks, HasOrder, HasWords, IsAskedBy, IsAuditOf, IsDaemonOf, IsFollowOf};
 ghost use Rattle.booth_cli.specs.Asking.{IsMoveOf, IsSimulationOf, client_of, style_of};
 
 use crate::Word;
 use crate::command::{Verb, verb_in};
 use crate::given::given_words;
+use crate::page::{Page, page_in};
 use crate::program::Program;
 use crate::reading::{Read, Unread, read_words};
 use booth_base::{Address, AttrValue, Name, PathText};
@@ -116,8 +118,10 @@ pub enum Asked {
 /// Why a command line has no request.
 #[derive(Drop)]
 pub enum Refusal {
-    /// There is no first argument, or it is not a command.
+    /// There is no first argument, or it is not a command and asks for no text about the program.
     NoCommand,
+    /// The first argument asks for this text about the program.
+    About(Page),
     /// The command does not accept the others, or help was requested, or the memory ran out.
     Untaken(Error),
     /// This is the first argument that its reader refuses.
@@ -338,6 +342,17 @@ fn asked_of(verb: Verb, read: Read) -> Asked
     }
 }
 
+// Returns why arguments without a command have no request.
+fn unnamed(program: Program, words: &[String]) -> Refusal
+    requires { verb_in program (map string_bytes words.now) ≡ None }
+    ensures { Asks program (map string_bytes words.now) (Err result) }
+{
+    match page_in(program, words) {
+        Some(page) => Refusal::About(page),
+        None => Refusal::NoCommand,
+    }
+}
+
 /// Returns the request of this program's arguments. Those of `booth-follow` begin with its own name.
 ///
 /// # Errors
@@ -347,7 +362,7 @@ pub fn ask(alloc: Global, program: Program, words: &[String]) -> Result<Asked, R
     ensures { Asks program (map string_bytes words.now) result }
 {
     let Some(verb) = verb_in(program, words) else {
-        return Err(Refusal::NoCommand);
+        return Err(unnamed(program, words));
     };
     let given = match given_words(alloc, verb, words) {
         Ok(given) => given,

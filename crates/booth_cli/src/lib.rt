@@ -7,6 +7,7 @@ mod asking;
 mod command;
 mod command_texts;
 mod given;
+mod page;
 mod paths;
 mod program;
 mod reading;
@@ -17,6 +18,7 @@ pub use asking::{
     ask,
 };
 pub use command::{Verb, version};
+pub use page::Page;
 pub use program::Program;
 pub use reading::{MOST_EVENTS, MOST_TURNS};
 pub use word::Word;

@@ -7,7 +7,7 @@ use Rattle.booth_host.specs.declared.entry.Entry.{Entry}
 use Rattle.booth_host.specs.Past.{GrewSome}
 use Rattle.booth_host.proofs.PastLemmas.{no_entry, some_of, some_joined, some_weaker}
 use Rattle.booth_outcomes.specs.declared.outcome.Outcome.{Outcome}
-use Rattle.booth_outcomes.specs.declared.outcome.Outcome.TheVariants.{Done, Usage, BadWord, LockFault, NotRunning}
+use Rattle.booth_outcomes.specs.declared.outcome.Outcome.TheVariants.{Done, Usage, Shown, BadWord, LockFault, NotRunning}
 use Rattle.booth_outcomes.specs.declared.outcome.Outcome.TheVariants.{PrintFault, OutOfMemory, Report, Refused, NoReply}
 use Rattle.booth_outcomes.specs.declared.outcome.Outcome.TheVariants.{SendFault, ConfUnread, ConfBad, NotSite, NotFollowed, Stranded}
 use Rattle.booth_outcomes.specs.declared.outcome.Outcome.TheVariants.{AuditBad, JournalUnread, KeyBad, KeyUnread}
@@ -18,10 +18,12 @@ use Rattle.booth_cli.specs.declared.asking.DaemonWords.{DaemonWords}
 use Rattle.booth_cli.specs.declared.asking.SimulationWords.{SimulationWords}
 use Rattle.booth_cli.specs.declared.asking.Asked.{Asked}
 use Rattle.booth_cli.specs.declared.asking.Asked.TheVariants.{Audit, Daemon, Status, Simulation}
-use Rattle.booth_cli.specs.Asking.{Asks, AsksAudit, AsksDaemon, AsksSimulation, AsksStatus, IsUntaken, IsUntakenFor}
+use Rattle.booth_cli.specs.declared.page.Page.{Page}
+use Rattle.booth_cli.specs.Asking.{Asks, AsksAbout, AsksAudit, AsksDaemon, AsksSimulation, AsksStatus, IsUntaken, IsUntakenFor}
 use Rattle.booth_cli.proofs.AskingLemmas.{taken_named, untaken_named, untaken_of}
-use Rattle.booth_outcomes.proofs.UsageLemmas.{no_memory, unasked_of}
-use Rattle.booth_outcomes.specs.Unasked.{IsTold, IsToldOutcome, IsUnasked}
+use Rattle.booth_outcomes.proofs.UsageLemmas.{about_of, no_memory, unasked_of}
+use Rattle.booth_outcomes.specs.Pages.{IsPageOutcome, IsPageTold}
+use Rattle.booth_outcomes.specs.Unasked.{IsTold, IsToldOutcome, IsUnasked, OfCommand, OfProgram}
 use Rattle.booth_daemon.specs.Serving.{IsServing}
 use Rattle.booth_outcomes.specs.Outcomes.{IsServed}
 use Rattle.booth_daemon.specs.Status.{IsStatus, IsStatusOutcome}
@@ -31,7 +33,7 @@ use Rattle.booth_outcomes.specs.Texts.{IsText}
 use Rattle.booth_daemon.specs.Run.{AskForAudit, IsMade, Unasked, Served, Summed, Reviewed, Looked, IsRun, FitsWords}
 use Rattle.clap.specs.declared.error.Error.{Error}
 use Rattle.booth_cli.specs.declared.asking.Refusal.{Refusal}
-use Rattle.booth_cli.specs.declared.asking.Refusal.TheVariants.{Untaken}
+use Rattle.booth_cli.specs.declared.asking.Refusal.TheVariants.{About, Untaken}
 use Rattle.std.specs.Prelude.{Err}
 
 -- ---- words that ask for nothing
@@ -52,12 +54,37 @@ pub unasked_made : {a : Option (List Entry)} (words : List (List ℕ)) (outcome 
     GrewSome (IsMade words outcome said) a a
 unasked_made words outcome said is = some_of (IsMade words outcome said) no_entry (Unasked is)
 
+-- a text about the program that was asked for
+pub about_asked : {a b : Option (List Entry)} (words : List (List ℕ)) (page : Page) (refusal : Refusal) (outcome : Outcome) (said : List ℕ) →
+    Asks Boothd words (Err refusal) → refusal ≡ About page → GrewSome (IsPageTold Boothd page outcome said) a b → GrewSome (IsMade words outcome said) a b
+about_asked words page refusal outcome said asks same told =
+    some_weaker (IsPageTold Boothd page outcome said) (IsMade words outcome said)
+    (λ es is. Unasked (about_of Boothd words page outcome said es (subst (λ (x : Refusal). Asks Boothd words (Err x)) same asks) is)) told
+
+pub fits_about : (words : List (List ℕ)) (page : Page) (refusal : Refusal) (outcome : Outcome) →
+    Asks Boothd words (Err refusal) → refusal ≡ About page → IsPageOutcome page outcome → FitsWords words outcome
+fits_about words page refusal outcome asks same is = go outcome is
+  where
+    about : AsksAbout Boothd words page
+    about = subst (λ (x : Refusal). Asks Boothd words (Err x)) same asks
+
+    go : (outcome : Outcome) → IsPageOutcome page outcome → FitsWords words outcome
+    go (Shown told) is = subst (λ (p : Page). AsksAbout Boothd words p) (sym is) about
+    go PrintFault is = inr (inr (inr (OfProgram page about)))
+    go outcome is = absurd is
+
 pub fits_told : (words : List (List ℕ)) (kind : ErrorKind) (outcome : Outcome) → IsUntakenFor Boothd words kind → IsToldOutcome kind outcome → FitsWords words outcome
 fits_told words kind (Usage (Some told)) un out = subst (λ k. IsUntaken Boothd words k) (sym out.0) (untaken_of Boothd words kind out.1 un)
 fits_told words kind PrintFault un out =
-    inr (inr (inr (record { kind = kind; untaken = untaken_of Boothd words kind (no_memory kind out) un; is = out })))
+    inr (inr (inr (OfCommand kind (untaken_of Boothd words kind (no_memory kind out) un) out)))
 fits_told words kind OutOfMemory un out = untaken_named Boothd words kind un
 fits_told words kind outcome un out = absurd out
+
+-- the same of a refusal that is such an error
+pub fits_asked : (words : List (List ℕ)) (error : Error) (refusal : Refusal) (outcome : Outcome) →
+    Asks Boothd words (Err refusal) → refusal ≡ Untaken error → IsToldOutcome error.kind outcome → FitsWords words outcome
+fits_asked words error refusal outcome asks same out =
+    fits_told words error.kind outcome (subst (λ (x : Refusal). Asks Boothd words (Err x)) same asks) out
 
 -- ---- words that ask for something
 
@@ -95,6 +122,7 @@ looked_made words lock outcome said asks looked =
 
 pub fits_served : (words : List (List ℕ)) (asked : DaemonWords) (outcome : Outcome) → AsksDaemon words asked → IsServed outcome → FitsWords words outcome
 fits_served words asked (Usage kind) asks served = absurd served
+fits_served words asked (Shown page) asks served = absurd served
 fits_served words asked (BadWord word) asks served = absurd served
 fits_served words asked NotRunning asks served = absurd served
 fits_served words asked PrintFault asks served = absurd served

@@ -2,7 +2,7 @@
 use Rattle.std.specs.Prelude.{◌≡◌, ◌++◌, ◌⊎◌, ℕ, T, List, Some, None, IsSome}
 use Rattle.booth_host.specs.declared.entry.Entry.{Entry}
 use Rattle.booth_outcomes.specs.declared.outcome.Outcome.{Outcome}
-use Rattle.booth_outcomes.specs.declared.outcome.Outcome.TheVariants.{Done, Usage, BadWord, LockFault, NotRunning}
+use Rattle.booth_outcomes.specs.declared.outcome.Outcome.TheVariants.{Done, Usage, Shown, BadWord, LockFault, NotRunning}
 use Rattle.booth_outcomes.specs.declared.outcome.Outcome.TheVariants.{PrintFault, OutOfMemory, ConfUnread, ConfBad}
 use Rattle.booth_outcomes.specs.declared.outcome.Outcome.TheVariants.{KeyUnread, KeyBad, JournalUnread, AuditBad}
 use Rattle.booth_outcomes.specs.Outcomes.{is_served}
@@ -10,9 +10,8 @@ use Rattle.booth_cli.specs.declared.program.Program.TheVariants.{Boothd}
 use Rattle.booth_cli.specs.declared.asking.AuditWords.{AuditWords}
 use Rattle.booth_cli.specs.declared.asking.DaemonWords.{DaemonWords}
 use Rattle.booth_cli.specs.declared.asking.SimulationWords.{SimulationWords}
-use Rattle.booth_cli.specs.Commands.{verb_in}
 use Rattle.booth_cli.specs.Asking.{AsksAudit, AsksDaemon, AsksSimulation, AsksStatus}
-use Rattle.booth_cli.specs.Asking.{HasBadWord, IsUntaken, NamesCommand}
+use Rattle.booth_cli.specs.Asking.{AsksAbout, AsksNothing, HasBadWord, IsUntaken, NamesCommand}
 use Rattle.booth_outcomes.specs.Texts.{IsText}
 use Rattle.booth_outcomes.specs.Unasked.{IsRequest, IsUnasked}
 use Rattle.booth_daemon.specs.Serving.{IsServing}
@@ -70,11 +69,13 @@ pub record AskForNamed (words : List (List ℕ)) : Type 0 where
   pub asks : AsksSimulation words asked
   pub named : IsSome asked.conf
 
--- The outcome fits the arguments. Usage comes only for invalid arguments, and BadWord exactly if that argument is the
--- first invalid one. Out of memory comes only if there is a command.
+-- The outcome fits the arguments. Usage comes only for invalid arguments and for requests of a command's help or
+-- version, Shown only if the arguments ask for that text, and BadWord exactly if that argument is the first invalid
+-- one. Out of memory comes only if there is a command.
 abbrev pub FitsWords : List (List ℕ) → Outcome → Type 0
-FitsWords words (Usage None) = verb_in Boothd words ≡ None
+FitsWords words (Usage None) = AsksNothing Boothd words
 FitsWords words (Usage (Some kind)) = IsUntaken Boothd words kind
+FitsWords words (Shown page) = AsksAbout Boothd words page
 FitsWords words (BadWord word) = HasBadWord Boothd words word
 FitsWords words Done = AskForDaemon words ⊎ (AskForStatus words ⊎ (AskForSimulation words ⊎ AskForAudit words))
 FitsWords words LockFault = AskForDaemon words ⊎ AskForStatus words

@@ -81,7 +81,7 @@ fn open_node<H: Host>(
         }
     }
     let records = read_records(alloc, config.tickets(), host)?;
-    match Node::open(alloc, config, ring, asked.site.id(), &records, reading) {
+    match Node::open_ring(alloc, config, ring, asked.site.id(), &records, reading) {
         Ok(node) => Ok(node),
         Err(_) => Err(Ended::out_of_memory()),
     }

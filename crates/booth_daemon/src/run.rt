@@ -12,7 +12,7 @@ use crate::simulating::simulate;
 use crate::status::status;
 use booth_cli::{Asked, Program, Refusal, ask};
 use booth_host::{Host, QuietHost};
-use booth_outcomes::{Ended, Outcome, tell, tell_error, texts};
+use booth_outcomes::{Ended, Outcome, tell, tell_error, tell_page, texts};
 use booth_world::laws;
 use std::alloc::Global;
 
@@ -31,6 +31,7 @@ fn run_words<H: Host>(alloc: Global, words: &[String], host: &mut H) -> Ended
         Ok(Asked::Audit(asked)) => audit(alloc, &asked, host),
         Ok(Asked::Client(_)) | Ok(Asked::Move(_)) | Ok(Asked::Follow(_)) => unreachable!(),
         Err(Refusal::Untaken(error)) => tell_error(alloc, Program::Boothd, &error, host),
+        Err(Refusal::About(page)) => tell_page(Program::Boothd, page, host),
         Err(Refusal::NoCommand) => Ended {
             outcome: Outcome::Usage(None),
             said: texts::usage_text(Program::Boothd),
@@ -48,8 +49,8 @@ fn run_words<H: Host>(alloc: Global, words: &[String], host: &mut H) -> Ended
 /// the record of each ticket. Then it makes turns at the member's address until the host returns `Stop`, or as many
 /// turns as the arguments state. `status` prints whether a daemon holds the lock. `sim` runs a whole cluster in memory
 /// through generated events, and prints the counts. `audit` reads the journals of members. It prints which member held
-/// which ticket when, or the first place at which the journals are not true. Help and version are printed. For all
-/// other arguments the program prints what is wrong with them.
+/// which ticket when, or the first place at which the journals are not true. Help and version are printed, of the
+/// program or of a command. For all other arguments the program prints what is wrong with them.
 #[tactic(auto, using(crate::proofs::RunLemmas::run_of, crate::proofs::SessionLemmas::safe_run))]
 pub fn boothd<H: Host>(alloc: Global, words: &[String], host: &mut H) -> Outcome
     // If the host records its calls, the calls are exactly these, by how the run ended.

@@ -15,7 +15,7 @@ use Rattle.booth_cli.proofs.AskingLemmas.{taken_named, untaken_named, untaken_of
 use Rattle.booth_outcomes.specs.declared.outcome.Outcome.{Outcome}
 use Rattle.booth_outcomes.specs.declared.outcome.Outcome.TheVariants as outs
 use Rattle.booth_outcomes.specs.Texts.{IsText}
-use Rattle.booth_outcomes.specs.Unasked.{IsTold, IsToldOutcome, IsUnasked}
+use Rattle.booth_outcomes.specs.Unasked.{IsTold, IsToldOutcome, IsUnasked, OfCommand}
 use Rattle.booth_outcomes.proofs.UsageLemmas.{no_memory, unasked_of}
 use Rattle.booth_followers.specs.Run.{FitsFollowWords, IsFollowMade, IsFollowRun, Followed, Unasked}
 use Rattle.booth_followers.specs.Service.{IsFollowAnswered, IsFollowLog}
@@ -50,9 +50,15 @@ pub fits_untaken : (words : List (List ℕ)) (kind : ErrorKind) (outcome : Outco
     FitsFollowWords words outcome
 fits_untaken words kind (outs.Usage (Some told)) un out = subst (λ k. IsUntaken BoothFollow words k) (sym out.0) (untaken_of BoothFollow words kind out.1 un)
 fits_untaken words kind outs.PrintFault un out =
-    record { kind = kind; untaken = untaken_of BoothFollow words kind (no_memory kind out) un; is = out }
+    OfCommand kind (untaken_of BoothFollow words kind (no_memory kind out) un) out
 fits_untaken words kind outs.OutOfMemory un out = untaken_named BoothFollow words kind un
 fits_untaken words kind outcome un out = absurd out
+
+-- the same of a refusal that is such an error
+pub fits_asked : (words : List (List ℕ)) (error : Error) (refusal : Refusal) (outcome : Outcome) →
+    Asks BoothFollow words (Err refusal) → refusal ≡ Untaken error → IsToldOutcome error.kind outcome → FitsFollowWords words outcome
+fits_asked words error refusal outcome asks same out =
+    fits_untaken words error.kind outcome (subst (λ (x : Refusal). Asks BoothFollow words (Err x)) same asks) out
 
 pub asks_follow : (words : List (List ℕ)) (asked : FollowWords) (all : Asked) → Asks BoothFollow words (Ok all) → all ≡ Follow asked → AsksFollow words asked
 asks_follow words asked all asks same =

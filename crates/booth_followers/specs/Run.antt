@@ -3,8 +3,7 @@ use Rattle.std.specs.Prelude.{◌≡◌, ◌++◌, ℕ, List, Option, Some, None
 use Rattle.booth_host.specs.declared.entry.Entry.{Entry}
 use Rattle.booth_cli.specs.declared.asking.FollowWords.{FollowWords}
 use Rattle.booth_cli.specs.declared.program.Program.TheVariants.{BoothFollow}
-use Rattle.booth_cli.specs.Commands.{verb_in}
-use Rattle.booth_cli.specs.Asking.{AsksFollow, NamesCommand, IsUntaken, HasBadWord}
+use Rattle.booth_cli.specs.Asking.{AsksFollow, AsksNothing, NamesCommand, IsUntaken, HasBadWord}
 use Rattle.booth_outcomes.specs.declared.outcome.Outcome.{Outcome}
 use Rattle.booth_outcomes.specs.declared.outcome.Outcome.TheVariants.{Usage, BadWord, PrintFault, OutOfMemory}
 use Rattle.booth_outcomes.specs.Texts.{IsText}
@@ -37,7 +36,7 @@ pub record AskToFollow (words : List (List ℕ)) : Type 0 where
 -- Usage comes only for invalid arguments, BadWord exactly if that argument is the first invalid one, PrintFault only
 -- if help or the version was requested, and out of memory only if there is an argument.
 abbrev pub FitsFollowWords : List (List ℕ) → Outcome → Type 0
-FitsFollowWords words (Usage None) = verb_in BoothFollow words ≡ None
+FitsFollowWords words (Usage None) = AsksNothing BoothFollow words
 FitsFollowWords words (Usage (Some kind)) = IsUntaken BoothFollow words kind
 FitsFollowWords words (BadWord word) = HasBadWord BoothFollow words word
 FitsFollowWords words PrintFault = IsRequest BoothFollow words

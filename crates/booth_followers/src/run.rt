@@ -32,6 +32,7 @@ fn run_words<H: Host, W: Watch>(
         Ok(Asked::Audit(_asked)) => unreachable!(),
         Ok(Asked::Client(_)) | Ok(Asked::Move(_)) => unreachable!(),
         Err(Refusal::Untaken(error)) => tell_error(alloc, Program::BoothFollow, &error, host),
+        Err(Refusal::About(_)) => unreachable!(),
         Err(Refusal::NoCommand) => Ended {
             outcome: Outcome::Usage(None),
             said: texts::usage_text(Program::BoothFollow),

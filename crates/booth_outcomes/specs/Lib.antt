@@ -1,4 +1,5 @@
 pub mod Texts
+pub mod Pages
 pub mod Unasked
 pub mod Outcomes
 pub mod Configuration

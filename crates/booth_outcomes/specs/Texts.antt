@@ -23,7 +23,7 @@ use Rattle.booth_cli.specs.Commands.{name_of, version}
 use Rattle.booth_cli.specs.declared.word.Word.{Word}
 use Rattle.booth_cli.specs.declared.word.Word.TheVariants as words
 use Rattle.booth_outcomes.specs.declared.outcome.Outcome.{Outcome}
-use Rattle.booth_outcomes.specs.declared.outcome.Outcome.TheVariants.{Done, Report, NotRunning, Usage}
+use Rattle.booth_outcomes.specs.declared.outcome.Outcome.TheVariants.{Done, Report, NotRunning, Shown, Usage}
 
 -- a text as it is printed: after the program's name, on a line
 abbrev pub spoken : Program → List ℕ → List ℕ
@@ -160,6 +160,7 @@ audit_text paths audits.OutOfMemory = out_of_memory_text
 abbrev pub status_of : Outcome → ℕ
 status_of Done = 0
 status_of Report = 0
+status_of (Shown page) = 0
 status_of NotRunning = 7
 status_of (Usage (Some DisplayHelp)) = 0
 status_of (Usage (Some DisplayVersion)) = 0

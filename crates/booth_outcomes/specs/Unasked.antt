@@ -9,10 +9,11 @@ use Rattle.booth_host.specs.declared.host.Failed.{Failed}
 use Rattle.booth_host.specs.declared.entry.Entry.{Entry}
 use Rattle.booth_host.specs.declared.entry.Entry.TheVariants as calls
 use Rattle.booth_outcomes.specs.declared.outcome.Outcome.{Outcome}
-use Rattle.booth_outcomes.specs.declared.outcome.Outcome.TheVariants.{Usage, BadWord, PrintFault, OutOfMemory}
+use Rattle.booth_outcomes.specs.declared.outcome.Outcome.TheVariants.{Usage, Shown, BadWord, PrintFault, OutOfMemory}
 use Rattle.booth_cli.specs.declared.program.Program.{Program}
-use Rattle.booth_cli.specs.Commands.{verb_in}
-use Rattle.booth_cli.specs.Asking.{NamesCommand, IsUntaken, HasBadWord}
+use Rattle.booth_cli.specs.declared.page.Page.{Page}
+use Rattle.booth_cli.specs.Asking.{AsksAbout, AsksNothing, NamesCommand, IsUntaken, HasBadWord}
+use Rattle.booth_outcomes.specs.Pages.{page_text}
 use Rattle.booth_outcomes.specs.Texts.{usage_text, version_text, bad_word_text, unprinted_text, out_of_memory_text}
 
 -- the kind answers a request, and is no mistake
@@ -49,24 +50,29 @@ IsToldOutcome kind PrintFault = is_request kind ≡ true
 IsToldOutcome kind OutOfMemory = Unit {0}
 IsToldOutcome kind outcome = ⊥
 
--- help or the version was requested
-pub record IsRequest (program : Program) (words : List (List ℕ)) : Type 0 where
-  pub kind : ErrorKind
-  pub untaken : IsUntaken program words kind
-  pub is : is_request kind ≡ true
+-- help or the version was requested, of a command or of the program
+pub data IsRequest (program : Program) (words : List (List ℕ)) : Type 0 where
+  OfCommand : (kind : ErrorKind) → IsUntaken program words kind → is_request kind ≡ true → IsRequest program words
+  OfProgram : (page : Page) → AsksAbout program words page → IsRequest program words
+
+-- the text that answers such a request
+abbrev pub IsAnswer : {program : Program} {words : List (List ℕ)} → IsRequest program words → List ℕ → Type 0
+IsAnswer {program} (OfCommand kind untaken is) text = IsShownText program kind text
+IsAnswer {program} (OfProgram page asks) text = text ≡ page_text program page
 
 -- The arguments of this program have no request, by this outcome. Out of memory may come in place of any request, but
 -- only if there is a command: no memory is needed to see that there is none.
 abbrev pub IsUnasked : Program → List (List ℕ) → Outcome → List ℕ → List Entry → Type 0
-IsUnasked program words (Usage None) said entries = (verb_in program words ≡ None)
+IsUnasked program words (Usage None) said entries = AsksNothing program words
     × (said ≡ usage_text program) × (entries ≡ [])
+IsUnasked program words (Shown page) said entries = AsksAbout program words page × (said ≡ [])
+    × (entries ≡ calls.Out (page_text program page) (Ok tt) ∷ [])
 IsUnasked program words (Usage (Some kind)) said entries = IsUntaken program words kind × (said ≡ [])
     × IsShown program kind (is_request kind) entries
 IsUnasked program words (BadWord word) said entries = HasBadWord program words word
     × (said ≡ bad_word_text word) × (entries ≡ [])
-IsUnasked program words PrintFault said entries = (kind : ErrorKind) × IsUntaken program words kind
-    × (is_request kind ≡ true) × (said ≡ unprinted_text)
-    × (text : List ℕ) × IsShownText program kind text
+IsUnasked program words PrintFault said entries = (request : IsRequest program words) × (said ≡ unprinted_text)
+    × (text : List ℕ) × IsAnswer request text
     × (failed : Failed) × (entries ≡ calls.Out text (Err failed) ∷ [])
 IsUnasked program words OutOfMemory said entries = NamesCommand program words
     × (said ≡ out_of_memory_text) × (entries ≡ [])

@@ -4,7 +4,7 @@ ghost use Rattle.booth_outcomes.specs.Texts.{out_of_memory_text, status_of};
 
 use crate::error_line::ErrorLine;
 use crate::texts;
-use booth_cli::Word;
+use booth_cli::{Page, Word};
 use booth_conf::ConfFault;
 use booth_following::FollowFault;
 use booth_journal::AuditFault;
@@ -29,6 +29,8 @@ pub enum Outcome {
     SendFault,
     /// The arguments are invalid, or request help or the version. The kind is `None` if there is no command.
     Usage(Option<ErrorKind>),
+    /// This text about the program was requested and printed.
+    Shown(Page),
     /// The value of this argument is not valid.
     BadWord(Word),
     /// The configuration could not be read.
@@ -73,7 +75,7 @@ impl Outcome {
         ensures { result ≡ status_of self.now }
     {
         match self {
-            Outcome::Done | Outcome::Report => 0,
+            Outcome::Done | Outcome::Report | Outcome::Shown(_) => 0,
             Outcome::NotRunning => 7,
             Outcome::Usage(Some(ErrorKind::DisplayHelp | ErrorKind::DisplayVersion)) => 0,
             Outcome::Usage(_) | Outcome::BadWord(_) => 1,

@@ -239,6 +239,7 @@ impl<'a> Scene<'a> {
             Outcome::Done | Outcome::Report | Outcome::NotRunning | Outcome::Running => None,
             Outcome::NoReply => self.of_silence(),
             Outcome::SendFault | Outcome::Usage(_) | Outcome::BadWord(_) => None,
+            Outcome::Shown(_) => None,
             Outcome::ConfUnread | Outcome::KeyUnread | Outcome::JournalUnread => None,
             Outcome::AuditBad(_) | Outcome::LockFault | Outcome::OpenFault => None,
             Outcome::RecordUnread | Outcome::TurnsSpent => None,

@@ -28,18 +28,20 @@ use Rattle.booth_outcomes.specs.Keys.{IsRingRead, HasRing, IsKeylessOutcome, key
 use Rattle.booth_tools.specs.Client.{IsClusterRead, IsKeyed, IsListTold, IsTalkTold, IsTold, IsClientLog, EndsWith, ListEndsWith, Follows, Conversing, Socketless, destination}
 use Rattle.booth_tools.specs.Client.{Unread, Unkeyed, Asked}
 use Rattle.booth_tools.specs.ClientRun.{FitsClientWords, IsAnswered, IsClientMade, IsClientRun, Talked, Unasked}
-use Rattle.booth_cli.specs.Asking.{Asks, AsksClient, IsClient, IsUntaken, IsUntakenFor}
-use Rattle.booth_outcomes.specs.Unasked.{IsTold as IsTold_, IsToldOutcome, IsUnasked}
+use Rattle.booth_cli.specs.declared.page.Page.{Page}
+use Rattle.booth_cli.specs.Asking.{Asks, AsksAbout, AsksClient, IsClient, IsUntaken, IsUntakenFor}
+use Rattle.booth_outcomes.specs.Unasked.{IsTold as IsTold_, IsToldOutcome, IsUnasked, OfCommand, OfProgram}
+use Rattle.booth_outcomes.specs.Pages.{IsPageOutcome, IsPageTold}
 use Rattle.booth_outcomes.specs.Texts.{IsText, out_of_memory_text}
 use Rattle.booth_cli.specs.declared.asking.Asked.TheVariants.{Client}
 use Rattle.booth_cli.specs.declared.program.Program.{Program}
 use Rattle.booth_cli.specs.declared.program.Program.TheVariants.{Boothd, BoothFollow}
 use Rattle.clap.specs.declared.error.kind.ErrorKind.{ErrorKind}
-use Rattle.booth_outcomes.proofs.UsageLemmas.{no_memory, unasked_of}
+use Rattle.booth_outcomes.proofs.UsageLemmas.{about_of, no_memory, unasked_of}
 use Rattle.booth_cli.proofs.AskingLemmas.{taken_named, untaken_named, untaken_of}
 use Rattle.clap.specs.declared.error.Error.{Error}
 use Rattle.booth_cli.specs.declared.asking.Refusal.{Refusal}
-use Rattle.booth_cli.specs.declared.asking.Refusal.TheVariants.{Untaken}
+use Rattle.booth_cli.specs.declared.asking.Refusal.TheVariants.{About, Untaken}
 
 -- ---- outcomes
 
@@ -241,13 +243,38 @@ pub unasked_client : {a : Option (List Entry)} (program : Program) (words : List
     GrewSome (IsClientMade program words outcome said) a a
 unasked_client program words outcome said is = some_of (IsClientMade program words outcome said) no_entry (Unasked is)
 
+-- a text about the program that was asked for
+pub about_asked : {a b : Option (List Entry)} (program : Program) (words : List (List ℕ)) (page : Page) (refusal : Refusal) (outcome : Outcome) (said : List ℕ) →
+    Asks program words (Err refusal) → refusal ≡ About page → GrewSome (IsPageTold program page outcome said) a b → GrewSome (IsClientMade program words outcome said) a b
+about_asked program words page refusal outcome said asks same told =
+    some_weaker (IsPageTold program page outcome said) (IsClientMade program words outcome said)
+    (λ es is. Unasked (about_of program words page outcome said es (subst (λ (x : Refusal). Asks program words (Err x)) same asks) is)) told
+
+pub fits_about : (program : Program) (words : List (List ℕ)) (page : Page) (refusal : Refusal) (outcome : Outcome) →
+    Asks program words (Err refusal) → refusal ≡ About page → IsPageOutcome page outcome → FitsClientWords program words outcome
+fits_about program words page refusal outcome asks same is = go outcome is
+  where
+    about : AsksAbout program words page
+    about = subst (λ (x : Refusal). Asks program words (Err x)) same asks
+
+    go : (outcome : Outcome) → IsPageOutcome page outcome → FitsClientWords program words outcome
+    go (outs.Shown told) is = subst (λ (p : Page). AsksAbout program words p) (sym is) about
+    go outs.PrintFault is = inr (OfProgram page about)
+    go outcome is = absurd is
+
 pub fits_untaken : (program : Program) (words : List (List ℕ)) (kind : ErrorKind) (outcome : Outcome) → IsUntakenFor program words kind → IsToldOutcome kind outcome →
     FitsClientWords program words outcome
 fits_untaken program words kind (outs.Usage (Some told)) un out = subst (λ k. IsUntaken program words k) (sym out.0) (untaken_of program words kind out.1 un)
 fits_untaken program words kind outs.PrintFault un out =
-    inr (record { kind = kind; untaken = untaken_of program words kind (no_memory kind out) un; is = out })
+    inr (OfCommand kind (untaken_of program words kind (no_memory kind out) un) out)
 fits_untaken program words kind outs.OutOfMemory un out = untaken_named program words kind un
 fits_untaken program words kind outcome un out = absurd out
+
+-- the same of a refusal that is such an error
+pub fits_asked : (program : Program) (words : List (List ℕ)) (error : Error) (refusal : Refusal) (outcome : Outcome) →
+    Asks program words (Err refusal) → refusal ≡ Untaken error → IsToldOutcome error.kind outcome → FitsClientWords program words outcome
+fits_asked program words error refusal outcome asks same out =
+    fits_untaken program words error.kind outcome (subst (λ (x : Refusal). Asks program words (Err x)) same asks) out
 
 pub asks_client : (program : Program) (words : List (List ℕ)) (asked : ClientWords) (all : Rattle.booth_cli.specs.declared.asking.Asked.Asked) → Asks program words (Ok all) →
     all ≡ Client asked → AsksClient program words asked
@@ -256,6 +283,7 @@ asks_client program words asked all asks same =
 
 pub fits_answered : (program : Program) (words : List (List ℕ)) (asked : ClientWords) (outcome : Outcome) → AsksClient program words asked → IsAnswered outcome → FitsClientWords program words outcome
 fits_answered program words asked (outs.Usage kind) asks is = absurd is
+fits_answered program words asked (outs.Shown page) asks is = absurd is
 fits_answered program words asked (outs.BadWord word) asks is = absurd is
 fits_answered program words asked outs.PrintFault asks is = inl (inl (record { asked = asked; asks = asks }))
 fits_answered program words asked outs.OutOfMemory asks is = taken_named program words asks.verb asks.all asks.asks

@@ -276,6 +276,7 @@ asks_move program words asked all asks same =
 pub fits_moved : (program : Program) (words : List (List ℕ)) (asked : MoveWords) (outcome : Outcome) → (program ≡ Booth) × AsksMove words asked → IsMoveAnswered outcome →
     FitsClientWords program words outcome
 fits_moved program words asked (outs.Usage kind) asks is = absurd is
+fits_moved program words asked (outs.Shown page) asks is = absurd is
 fits_moved program words asked (outs.BadWord word) asks is = absurd is
 fits_moved program words asked outs.PrintFault asks is = inl (inr (record { asked = asked; own = asks.0; asks = asks.1 }))
 fits_moved program words asked outs.OutOfMemory asks is =

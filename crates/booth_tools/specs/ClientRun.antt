@@ -5,13 +5,12 @@ use Rattle.booth_host.specs.declared.entry.Entry.{Entry}
 use Rattle.booth_cli.specs.declared.program.Program.{Program}
 use Rattle.booth_cli.specs.declared.program.Program.TheVariants.{Booth}
 use Rattle.booth_outcomes.specs.declared.outcome.Outcome.{Outcome}
-use Rattle.booth_outcomes.specs.declared.outcome.Outcome.TheVariants.{Usage, BadWord, ConfUnread, ConfBad, KeyUnread, KeyBad}
+use Rattle.booth_outcomes.specs.declared.outcome.Outcome.TheVariants.{Usage, Shown, BadWord, ConfUnread, ConfBad, KeyUnread, KeyBad}
 use Rattle.booth_outcomes.specs.declared.outcome.Outcome.TheVariants.{OpenFault, SendFault, NoReply, NotRunning, Report, Refused, PrintFault, OutOfMemory}
 use Rattle.booth_outcomes.specs.declared.outcome.Outcome.TheVariants.{NotSite, Stranded}
 use Rattle.booth_cli.specs.declared.asking.ClientWords.{ClientWords}
 use Rattle.booth_cli.specs.declared.asking.MoveWords.{MoveWords}
-use Rattle.booth_cli.specs.Commands.{verb_in}
-use Rattle.booth_cli.specs.Asking.{AsksClient, AsksMove, NamesCommand, IsUntaken, HasBadWord}
+use Rattle.booth_cli.specs.Asking.{AsksAbout, AsksClient, AsksMove, AsksNothing, NamesCommand, IsUntaken, HasBadWord}
 use Rattle.booth_outcomes.specs.Unasked.{IsRequest, IsUnasked}
 use Rattle.booth_tools.specs.Client.{IsClientLog}
 use Rattle.booth_tools.specs.MoveRun.{IsMoveLog}
@@ -90,12 +89,14 @@ pub record AskForMove (program : Program) (words : List (List ℕ)) : Type 0 whe
   pub own : program ≡ Booth
   pub asks : AsksMove words asked
 
--- The outcome fits the arguments. Usage comes only for invalid arguments, and BadWord exactly if that argument is the
--- first invalid one. NotSite and Stranded come only for the arguments of a move. Out of memory comes only if there is a
--- command. Every other outcome comes only for the arguments of a client or of a move.
+-- The outcome fits the arguments. Usage comes only for invalid arguments and for requests of a command's help or
+-- version, Shown only if the arguments ask for that text, and BadWord exactly if that argument is the first invalid
+-- one. NotSite and Stranded come only for the arguments of a move. Out of memory comes only if there is a command.
+-- Every other outcome comes only for the arguments of a client or of a move.
 abbrev pub FitsClientWords : Program → List (List ℕ) → Outcome → Type 0
-FitsClientWords program words (Usage None) = verb_in program words ≡ None
+FitsClientWords program words (Usage None) = AsksNothing program words
 FitsClientWords program words (Usage (Some kind)) = IsUntaken program words kind
+FitsClientWords program words (Shown page) = AsksAbout program words page
 FitsClientWords program words (BadWord word) = HasBadWord program words word
 FitsClientWords program words PrintFault =
     (AskForClient program words ⊎ AskForMove program words) ⊎ IsRequest program words

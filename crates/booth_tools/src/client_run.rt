@@ -10,7 +10,7 @@ use crate::client::ask_daemon;
 use crate::move_run::move_ticket;
 use booth_cli::{Asked, Program, Refusal, ask};
 use booth_host::{Host, QuietHost};
-use booth_outcomes::{Ended, Outcome, tell, tell_error, texts};
+use booth_outcomes::{Ended, Outcome, tell, tell_error, tell_page, texts};
 use std::alloc::Global;
 
 /// Returns the arguments, without a leading `client`.
@@ -44,6 +44,7 @@ fn run_words<H: Host>(alloc: Global, program: Program, words: &[String], host: &
         Ok(Asked::Audit(_asked)) => unreachable!(),
         Ok(Asked::Follow(_)) => unreachable!(),
         Err(Refusal::Untaken(error)) => tell_error(alloc, program, &error, host),
+        Err(Refusal::About(page)) => tell_page(program, page, host),
         Err(Refusal::NoCommand) => Ended {
             outcome: Outcome::Usage(None),
             said: texts::usage_text(program),

@@ -20,15 +20,15 @@ returns-in_err-records-clause-past g c =
     c.now-reading.ensures.past (rw c.port.ensures at c.in-Ok.ensures.past)
     (rw c.tickets.ensures.value at c.in_err-records.ensures.past)
 
-pub returns-in-Ok-open-clause-past : goal.returns-in-Ok-open-clause-past
-returns-in-Ok-open-clause-past g c =
+pub returns-in-Ok-open_ring-clause-past : goal.returns-in-Ok-open_ring-clause-past
+returns-in-Ok-open_ring-clause-past g c =
     node_opened c.args.asked.now c.args.config c.args.ring c.now-reading.result
-    c.in_ok-records.records.items c.in-Ok-open.node
+    c.in_ok-records.records.items c.in-Ok-open_ring.node
     c.now-reading.ensures.past (rw c.port.ensures at c.in-Ok.ensures.past)
     (rw c.tickets.ensures.value at c.in_ok-records.ensures.past)
-    (c.in-Ok-open.ensures.node
+    (c.in-Ok-open_ring.ensures.node
     ∙ ap (λ (id : MemberId). record { config = c.args.config; ring = c.args.ring; me = id; second = true }) c.id.ensures)
-    (c.in-Ok-open.ensures.state
+    (c.in-Ok-open_ring.ensures.state
     ∙ ap (λ (id : MemberId). start_state (record { config = c.args.config; ring = c.args.ring; me = id; second = true })
     c.deref.result.now c.now-reading.result) c.id.ensures
     ∙ ap (λ (rs : List (Option Record)).

@@ -1,5 +1,5 @@
 use Rattle.std.proofs.Common.{map, rules, string_bytes}
-use Rattle.booth_daemon.proofs.RunLemmas.{asks_audit, asks_daemon, asks_simulation, asks_status, audited_made, fits_audited, fits_summed}
+use Rattle.booth_daemon.proofs.RunLemmas.{about_asked, asks_audit, asks_daemon, asks_simulation, asks_status, audited_made, fits_about, fits_asked, fits_audited, fits_summed}
 use Rattle.booth_daemon.proofs.RunLemmas.{looked_made, served_made, summed_made, told_asked}
 use Rattle.booth_daemon.proofs.run.run_words.Goals as goal
 
@@ -37,3 +37,18 @@ pub returns-in-Err-Untaken-clause-past : goal.returns-in-Err-Untaken-clause-past
 returns-in-Err-Untaken-clause-past g c =
     told_asked (map string_bytes c.args.words.now) c.in-Err-Untaken.error c.in-Err-Untaken.field-0 c.tell_error.result.outcome c.tell_error.result.said
     c.in-Err-Untaken.ensures (search rules) c.tell_error.ensures.outcome c.tell_error.ensures.past
+
+pub returns-in-Err-About-clause-past : goal.returns-in-Err-About-clause-past
+returns-in-Err-About-clause-past g c =
+    about_asked (map string_bytes c.args.words.now) c.in-Err-About.page c.in-Err-About.field-0 c.tell_page.result.outcome c.tell_page.result.said
+    c.in-Err-About.ensures (search rules) c.tell_page.ensures.past
+
+pub returns-in-Err-About-clause-words : goal.returns-in-Err-About-clause-words
+returns-in-Err-About-clause-words g c =
+    fits_about (map string_bytes c.args.words.now) c.in-Err-About.page c.in-Err-About.field-0 c.tell_page.result.outcome
+    c.in-Err-About.ensures (search rules) c.tell_page.ensures.outcome
+
+pub returns-in-Err-Untaken-clause-words : goal.returns-in-Err-Untaken-clause-words
+returns-in-Err-Untaken-clause-words g c =
+    fits_asked (map string_bytes c.args.words.now) c.in-Err-Untaken.error c.in-Err-Untaken.field-0 c.tell_error.result.outcome
+    c.in-Err-Untaken.ensures (search rules) c.tell_error.ensures.outcome

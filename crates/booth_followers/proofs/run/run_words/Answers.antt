@@ -2,7 +2,7 @@ use Rattle.std.proofs.Common.{map, rules, string_bytes, subst}
 use Rattle.booth_host.specs.Past.{GrewSome}
 use Rattle.booth_cli.specs.declared.asking.FollowWords.{FollowWords}
 use Rattle.booth_followers.specs.Service.{IsFollowLog}
-use Rattle.booth_followers.proofs.RunLemmas.{asks_follow, followed_made, told_asked}
+use Rattle.booth_followers.proofs.RunLemmas.{asks_follow, fits_asked, followed_made, told_asked}
 use Rattle.booth_followers.proofs.run.run_words.Goals as goal
 
 pub returns-in-Ok-Follow-clause-past : goal.returns-in-Ok-Follow-clause-past
@@ -16,3 +16,8 @@ pub returns-in-Err-Untaken-clause-past : goal.returns-in-Err-Untaken-clause-past
 returns-in-Err-Untaken-clause-past g c =
     told_asked c.args.setting.now.left (map string_bytes c.args.words.now) c.in-Err-Untaken.error c.in-Err-Untaken.field-0 c.tell_error.result.outcome c.tell_error.result.said
     c.in-Err-Untaken.ensures (search rules) c.tell_error.ensures.outcome c.tell_error.ensures.past
+
+pub returns-in-Err-Untaken-clause-words : goal.returns-in-Err-Untaken-clause-words
+returns-in-Err-Untaken-clause-words g c =
+    fits_asked (map string_bytes c.args.words.now) c.in-Err-Untaken.error c.in-Err-Untaken.field-0 c.tell_error.result.outcome
+    c.in-Err-Untaken.ensures (search rules) c.tell_error.ensures.outcome

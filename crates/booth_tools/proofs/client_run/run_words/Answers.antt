@@ -4,7 +4,7 @@ use Rattle.booth_tools.specs.Client.{IsClientLog}
 use Rattle.booth_cli.specs.declared.asking.ClientWords.{ClientWords}
 use Rattle.booth_cli.specs.declared.asking.MoveWords.{MoveWords}
 use Rattle.booth_tools.specs.MoveRun.{IsMoveLog}
-use Rattle.booth_tools.proofs.ClientLemmas.{asks_client, fits_answered, talked_made, told_asked}
+use Rattle.booth_tools.proofs.ClientLemmas.{about_asked, asks_client, fits_about, fits_answered, fits_asked, no_follow_asked, talked_made, told_asked}
 use Rattle.booth_tools.proofs.MoveLemmas.{asks_move, fits_moved, moved_made}
 use Rattle.booth_tools.proofs.client_run.run_words.Goals as goal
 
@@ -36,3 +36,21 @@ pub returns-in-Err-Untaken-clause-past : goal.returns-in-Err-Untaken-clause-past
 returns-in-Err-Untaken-clause-past g c =
     told_asked c.args.program (map string_bytes c.args.words.now) c.in-Err-Untaken.error c.in-Err-Untaken.field-0 c.tell_error.result.outcome c.tell_error.result.said
     c.in-Err-Untaken.ensures (search rules) c.tell_error.ensures.outcome c.tell_error.ensures.past
+
+pub tell_page-requires : goal.tell_page-requires
+tell_page-requires g c = no_follow_asked c.args.program c.requires.client
+
+pub returns-in-Err-About-clause-past : goal.returns-in-Err-About-clause-past
+returns-in-Err-About-clause-past g c =
+    about_asked c.args.program (map string_bytes c.args.words.now) c.in-Err-About.page c.in-Err-About.field-0 c.tell_page.result.outcome c.tell_page.result.said
+    c.in-Err-About.ensures (search rules) c.tell_page.ensures.past
+
+pub returns-in-Err-About-clause-words : goal.returns-in-Err-About-clause-words
+returns-in-Err-About-clause-words g c =
+    fits_about c.args.program (map string_bytes c.args.words.now) c.in-Err-About.page c.in-Err-About.field-0 c.tell_page.result.outcome
+    c.in-Err-About.ensures (search rules) c.tell_page.ensures.outcome
+
+pub returns-in-Err-Untaken-clause-words : goal.returns-in-Err-Untaken-clause-words
+returns-in-Err-Untaken-clause-words g c =
+    fits_asked c.args.program (map string_bytes c.args.words.now) c.in-Err-Untaken.error c.in-Err-Untaken.field-0 c.tell_error.result.outcome
+    c.in-Err-Untaken.ensures (search rules) c.tell_error.ensures.outcome
