@@ -23,11 +23,11 @@ TOOL_MODULES := changes checking configuration console_events console_http conso
   pacemaker_margin pacemaker_plan pacemaker_setup pacemaker_status pacemaker_switching \
   postgresql_finding postgresql_promotion postgresql_rebuilding postgresql_server postgresql_setup postgresql_showing \
   postgresql_watching problems record_file record_silence service_problems service_state services setup_bundle \
-  setup_cluster setup_commands setup_member setup_steps showing state_file switching takeovers timeline viewing ways wording
+  setup_cluster setup_commands setup_member setup_steps showing site_records state_file switching takeovers timeline viewing ways wording
 # what is written in the shell, for operators; and what units, followers and daemons run
 SCRIPTS := booth-keygen booth-service
-HELPERS := $(notdir $(wildcard packaging/follow-*)) handler-follow clock-wait site-keep service-runnable \
-  arbitrator-ready
+HELPERS := $(notdir $(wildcard packaging/follow-*)) handler-follow clock-wait site-keep site-records \
+  service-runnable arbitrator-ready
 SERVICES := booth@.service booth-follow@.service booth-postgresql@.service booth-lease-guard.service \
   booth-arbitrator.service booth-console.service
 # the resource agent of Pacemaker, under its own name and that of the C program's, by which pcs and crm know it

@@ -11,6 +11,7 @@ import socket
 import time
 
 import frames
+from checks import need
 from cut_ways import CannotCut, cut
 from members import MANUAL, TICKET, Cluster, Times, remember, wait_for
 from service_stories import Machine
@@ -25,7 +26,6 @@ from status_runs import (
     metrics_of,
     notice,
     record,
-    require,
     require_problems,
     require_same,
     run_apart,
@@ -105,7 +105,7 @@ def three_that_just_started(clusters):
 
     def in_a_line(words, result, line):
         ran = run_apart("booth-status", "-b", "-c", cluster.path, *words)
-        require((ran.status, ran.printed, ran.said) == (result, line, ""), str(ran))
+        need((ran.status, ran.printed, ran.said) == (result, line, ""), str(ran))
 
     def in_the_table():
         tickets = tables_of(status("-c", cluster.path).printed)[2]
@@ -126,24 +126,24 @@ def a_wrong_key_at_one_member(clusters):
     state, short = f"{cluster.folder}/state", ("-t", "0.8", "-f", NAME)
     look, silent = ("-c", cluster.path, *short), warning("silent", third.address)
     drops = lambda member: member.counts()[0][2]
-    require(wait_for(lambda: drops(one) and drops(two), SECONDS_TO_BE_SO), "no frame of it was dropped")
+    need(wait_for(lambda: drops(one) and drops(two), SECONDS_TO_BE_SO), "no frame of it was dropped")
     told = shows(look, silent, state=state)
     before = {member.address: told["members"][place]["dropped"]["badmac"] for place, member in enumerate((one, two))}
 
     def shown_in_the_table():
         least, row = drops(one), tables_of(status("-c", cluster.path, "-t", "0.8").printed)[1][1]
         lines = [f"badmac {count}" for count in range(least, drops(one) + 1)]
-        require(row[-1] == "-" and row[-2] in lines, f"{row}")
+        need(row[-1] == "-" and row[-2] in lines, f"{row}")
 
     in_time(shown_in_the_table)
     third.kill()
     third.start(cluster.program, cluster.file("other.conf", OTHER_KEY))
     rose = lambda: all(drops(member) > before[member.address] for member in (one, two))
-    require(wait_for(rose, SECONDS_TO_BE_SO), "no frame of the one that was started anew was dropped")
+    need(wait_for(rose, SECONDS_TO_BE_SO), "no frame of the one that was started anew was dropped")
     told = shows(look, silent, *(warning("dropped", member.address) for member in (one, two)), state=state)
     text = next(each["text"] for each in told["problems"] if each["kind"] == "dropped")
     more = told["members"][0]["dropped"]["badmac"] - before[one.address]
-    require(text == f"{one.address}: dropped datagrams since the last look: badmac {more}", text)
+    need(text == f"{one.address}: dropped datagrams since the last look: badmac {more}", text)
     silent = [warning("silent", member.address) for member in (one, two)]
     shows(("-c", f"{cluster.folder}/other.conf", *short), critical("no-majority"), *silent)
     third.kill()
@@ -191,9 +191,9 @@ def by_ipv6(clusters):
         asker.settimeout(SECONDS_TO_BE_SO)
         asker.recv(frames.FRAME_BYTES)
     told = shows(["-c", clusters.sixth])
-    require(told["tickets"][0]["owners"] == ["::1"] and told["members"][0]["peers"] == [], str(told))
+    need(told["tickets"][0]["owners"] == ["::1"] and told["members"][0]["peers"] == [], str(told))
     row = tables_of(status("-c", clusters.sixth).printed)[1][1]
-    require(row[:3] == ["1", "site", "::1"], f"{row}")
+    need(row[:3] == ["1", "site", "::1"], f"{row}")
     return None
 
 
@@ -213,14 +213,14 @@ def is_shown_as_held(cluster):
     ticket = told["tickets"][0]
     require_same((ticket["owners"], len(ticket["seen"])), ([one.address], 1))
     require_same(sorted(ticket["seen"][0]["members"]), sorted(addresses_of(cluster)))
-    require(ticket["seen"][0]["until"] in ends, f"{ticket['seen'][0]['until']}, and not {ends}")
+    need(ticket["seen"][0]["until"] in ends, f"{ticket['seen'][0]['until']}, and not {ends}")
     members, (_, row, _), last = tables_of(ran.printed)[1:]
     require_same((row[:3], row[5], last, ran.status), ([NAME, "auto", one.address], "all", [[HELD_LINE]], 0))
-    require(row[4] in [date(end) for end in ends] and re.fullmatch("[0-8] s", row[3]), f"{row}, and not {ends}")
+    need(row[4] in [date(end) for end in ends] and re.fullmatch("[0-8] s", row[3]), f"{row}, and not {ends}")
     for place, member in enumerate(cluster.members):
         row_of_member(place, member, members[place + 1])
         left = sample(samples, "booth_ticket_left_seconds", ticket=NAME, member=member.address, holder=one.address)
-        require(left is not None and 0 <= left <= cluster.times.expire + 1, f"{left} s left at {member.address}")
+        need(left is not None and 0 <= left <= cluster.times.expire + 1, f"{left} s left at {member.address}")
         require_same(sample(samples, "booth_member_up", member=member.address, role=member.role), 1)
         counts_between(member, told["members"][place], samples, counts[place], later[place])
 
@@ -232,9 +232,9 @@ def date(seconds):
 def row_of_member(place, member, row):
     """The row of a member without problems."""
     require_same(row[:3], [str(place + 1), member.role, member.address])
-    require(re.fullmatch(r"\d+\.\d ms", row[3]) and re.fullmatch(r"[+-]0\.[0-4] s", row[4]), f"{row}")
+    need(re.fullmatch(r"\d+\.\d ms", row[3]) and re.fullmatch(r"[+-]0\.[0-4] s", row[4]), f"{row}")
     require_same((row[5 + place], row[8:]), ("-", ["-", "-"]))
-    require(all(re.fullmatch(r"\d+ s", age) for index, age in enumerate(row[5:8]) if index != place), f"{row}")
+    need(all(re.fullmatch(r"\d+ s", age) for index, age in enumerate(row[5:8]) if index != place), f"{row}")
 
 
 def counts_between(member, found, samples, early, late):
@@ -246,7 +246,7 @@ def counts_between(member, found, samples, early, late):
             value = sample(samples, f"booth_peer_{name}_total", member=member.address, peer=other)
             low, high = early[1][other][place], late[1][other][place]
             where = f"{name} of {other} at {member.address}: {value}"
-            require(low <= peer[name] <= high and low <= value <= high, where)
+            need(low <= peer[name] <= high and low <= value <= high, where)
 
 
 def records_of_a_cluster(clusters):
@@ -260,14 +260,14 @@ def records_of_a_cluster(clusters):
 def records_are_printed(cluster, one):
     before = one.record()
     ran = record("-c", cluster.path, one.record_path(), one.record_path(MANUAL))
-    require(ran.status == 0 and not ran.said, str(ran))
+    need(ran.status == 0 and not ran.said, str(ran))
     of_one, of_manual = ran.printed.split("\n\n")
     ends = [f"{date(each.until)}.{round(each.until * 1000) % 1000:03} UTC" for each in (before, one.record())]
     form = f"^lease +of term {before.term}, until (.*)\n +by this machine's clock it runs for [0-8] s more$"
     found = re.search(form, of_one, re.M)
-    require(found and found[1] in ends and f"ticket    {NAME}\n" in of_one, f"{of_one}, and not {ends}")
+    need(found and found[1] in ends and f"ticket    {NAME}\n" in of_one, f"{of_one}, and not {ends}")
     lease = "lease     of term 1, until no end, as for a manual ticket\n          by this machine's clock it runs\n"
-    require(f"ticket    {BY_HAND}\n" in of_manual and lease in of_manual, of_manual)
+    need(f"ticket    {BY_HAND}\n" in of_manual and lease in of_manual, of_manual)
 
 
 def two_owners_of_a_manual_ticket(clusters):
@@ -304,14 +304,14 @@ def a_member_that_stopped_or_started(clusters):
 
     def is_silent():
         ran = run_apart("booth-status", "-b", *look)
-        require(ran.status == 1 and ran.took < 0.8 + SECONDS_OF_PYTHON, str(ran))
+        need(ran.status == 1 and ran.took < 0.8 + SECONDS_OF_PYTHON, str(ran))
         form = f"BOOTH WARNING: {third.address}: is silent; ({one.address}|{two.address}) heard from it \\d+ s ago\\n"
-        require(re.fullmatch(form, ran.printed), ran.printed)
+        need(re.fullmatch(form, ran.printed), ran.printed)
 
     def is_not_there():
         told = document(*look, "-s", state)
         require_problems(told, warning("no-daemon", third.address))
-        require(told["seconds"] < 0.8 and told["members"][2]["peers"] is None, f"{told['seconds']} s")
+        need(told["seconds"] < 0.8 and told["members"][2]["peers"] is None, f"{told['seconds']} s")
 
     os.kill(third.server.process.pid, signal.SIGSTOP)
     try:
@@ -323,11 +323,11 @@ def a_member_that_stopped_or_started(clusters):
     in_time(is_not_there, state)
     third.start(cluster.program, cluster.conf)
     told = shows(look, notice("restarted", third.address), state=state)
-    require(told["status"] == 0 and told["members"][2]["started_anew"] is True, str(told["members"][2]))
+    need(told["status"] == 0 and told["members"][2]["started_anew"] is True, str(told["members"][2]))
     # (a ticket without times of its own has the default ones: a promise of 600 s and 1.203 s)
     until = re.search("until (.*)$", told["problems"][0]["text"])[1]
     due = [date(told["time"] + 601.203 + more) for more in (-1, 0, 1)]
-    require(until in due, f"{until}, and not {due[1]}")
+    need(until in due, f"{until}, and not {due[1]}")
 
 
 def a_cut_link_of_a_holder(clusters):
@@ -348,11 +348,11 @@ def a_cut_link_of_a_holder(clusters):
         told = document(*deaf)
         require_problems(told, warning("one-way", one.address, third.address))
         form = f"{one.address}: receives nothing from {third.address} \\(for \\d+ s\\), which heard from it \\d s ago"
-        require(re.fullmatch(form, first_text(told)), first_text(told))
+        need(re.fullmatch(form, first_text(told)), first_text(told))
 
     def heard_long_ago():
         row = tables_of(status(*deaf).printed)[1][3]
-        require(re.fullmatch(r"\d+ s", row[5]) and int(row[5].split()[0]) > Times().expire, f"{row}")
+        need(re.fullmatch(r"\d+ s", row[5]) and int(row[5].split()[0]) > Times().expire, f"{row}")
 
     in_time(none_at_the_third)
     in_time(told_as_one_way)
@@ -375,7 +375,7 @@ def the_way_that_a_takeover_needs(clusters):
             text = first_text(told)
             form = f"{third.address}: receives nothing from {two.address} \\(since it started\\)"
             form += ", which heard from it \\d+ s ago"
-            require(re.fullmatch(form, text), text)
+            need(re.fullmatch(form, text), text)
             last = lambda: tables_of(status("-c", cluster.path).printed)[1][2][7]
             in_time(lambda: require_same(last(), "never"))
     except CannotCut as why:
@@ -411,13 +411,13 @@ def a_takeover(clusters):
     grants(cluster, 0, SECONDS_TO_BE_SO)
     # (a site that was granted it again is believed by all from its first renewal on)
     until = one.record().until
-    require(wait_for(lambda: one.record().until > until, SECONDS_TO_BE_SO), "it is not renewed")
+    need(wait_for(lambda: one.record().until > until, SECONDS_TO_BE_SO), "it is not renewed")
     shows(look, state=state)
     one.kill()
     told = document(*look, "-s", state)
     form = f"{NAME}: its holder {one.address} does not answer: free at .*, {two.address} is next.*"
     found = [each["text"] for each in told["problems"] if each["kind"] == "silent-owner"]
-    require(found and re.fullmatch(form, found[0]), told["summary"])
+    need(found and re.fullmatch(form, found[0]), told["summary"])
     takeover, severities = told["tickets"][0]["takeover"], set()
 
     def is_taken():
@@ -425,11 +425,11 @@ def a_takeover(clusters):
         severities.update(each["severity"] for each in told["problems"] if each["kind"] == "free")
         return told["tickets"][0]["owner"] == two.address
 
-    require(wait_for(is_taken, SECONDS_TO_BE_SO), "it is not taken over")
-    require(severities <= {"critical"}, f"while nobody held it: {severities}")
+    need(wait_for(is_taken, SECONDS_TO_BE_SO), "it is not taken over")
+    need(severities <= {"critical"}, f"while nobody held it: {severities}")
     # (it is free by whole seconds, rounded up)
     took = two.record().until - cluster.times.expire
-    require(takeover["free_at"] - 1 <= took, f"taken over at {took}, and {takeover}")
+    need(takeover["free_at"] - 1 <= took, f"taken over at {took}, and {takeover}")
     one.start(cluster.program, cluster.conf)
     shows(look, notice("restarted", one.address), state=state)
 

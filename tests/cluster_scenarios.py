@@ -88,7 +88,8 @@ def daemon_node_dies_service_elsewhere(run: Run) -> Optional[str]:
     return None
 
 
-@scenario(SHORT)
+# (if the end passes during the delay of the device, Pacemaker tries the start again after `failure-timeout`)
+@scenario(LONG)
 def daemon_node_dies_with_fencing(run: Run) -> Optional[str]:
     """The node of the daemon and of the service loses its power, and the cluster has a fencing device."""
     node = run.place()

@@ -1,8 +1,9 @@
 """Sets the five machines up: the two clusters, Booth's members, and a service under a ticket at each site.
 
-It is imported by tests/clusters.py, and not run by itself. `Packaged` sets a site up as the documents say. `OneNode` is
-there for comparison: daemon and follower are units of one node, and their program grants and revokes the cluster's
-ticket, with no end in the cluster. It shows that the test sees two sites that run the service.
+It is imported by tests/clusters.py, and not run by itself. `Packaged` sets a site up as the documents say, and `Local`
+with records on each node. `OneNode` is there for comparison: daemon and follower are units of one node, and their
+program grants and revokes the cluster's ticket, with no end in the cluster. It shows that the test sees two sites that
+run the service.
 """
 
 import calendar
@@ -50,6 +51,7 @@ ticket = "{ticket}"
   acquire-after = {after}
   timeout       = 1
   retries       = 3
+  steady        = yes
 """
 OPERATIONS = (
     f'<operations><op id="{{0}}-start" name="start" interval="0" timeout="15s"/>'
@@ -101,6 +103,8 @@ class SetUp:
     """How the sites are set up."""
 
     name = ""
+    # in seconds: how long the service may run nowhere, for scenarios that expect less
+    most_without = 0.0
 
     def __init__(self, package: str) -> None:
         self.package = package
@@ -277,12 +281,15 @@ class Packaged(SetUp):
 
     def begin(self, world: World) -> None:
         for site in world.sites:
-            first = site.nodes[0]
             os.makedirs(f"{world.folder}/records-{site.name}/{os.path.basename(RECORDS)}")
-            for node in site.nodes:
-                words = ["booth-pacemaker", "setup", TICKET, SERVICE, "--stop", str(SECONDS_OF_A_STOP)]
-                agent = ["--agent", "--address", f"{site.address}/24", "--records", RECORDS, "--shared"]
-                node.must(*words, *(agent if node is first else []), timeout=120)
+            self.set_site_up(site, "--records", RECORDS, "--shared")
+
+    def set_site_up(self, site: Site, *records: str) -> None:
+        """Runs the setup on each node of a site."""
+        for node in site.nodes:
+            words = ["booth-pacemaker", "setup", TICKET, SERVICE, "--stop", str(SECONDS_OF_A_STOP)]
+            agent = ["--agent", "--address", f"{site.address}/24", *records]
+            node.must(*words, *(agent if node is site.nodes[0] else []), timeout=120)
 
     def daemon_node(self, site: Site) -> Machine:
         look = site.look()
@@ -305,7 +312,23 @@ class Packaged(SetUp):
         """(Only the cluster starts these units.)"""
 
 
-SET_UPS: Dict[str, Type[SetUp]] = {each.name: each for each in (Packaged, OneNode)}
+class Local(Packaged):
+    """The same, but each node has records of its own. A daemon that moves starts without the lease, so a failure costs
+    the rest of the lease, and the other site takes over.
+    """
+
+    name = "local"
+    most_without = 2.0 * EXPIRE
+
+    def prepare(self, world: World) -> None:
+        """(No storage moves.)"""
+
+    def begin(self, world: World) -> None:
+        for site in world.sites:
+            self.set_site_up(site, "--local")
+
+
+SET_UPS: Dict[str, Type[SetUp]] = {each.name: each for each in (Packaged, Local, OneNode)}
 
 
 def start_member(machine: Machine, address: str) -> None:

@@ -6,8 +6,8 @@ Run it as root, as `python3 tests/clusters.py [--package FILE] [--set-up NAME] [
 (out/booth-proved_*.deb if none is named), and has a service at each site that notes when it runs. For each scenario it
 prints for how long the service ran at two sites, which must be 0 s, for how long it ran nowhere, and where it runs now.
 An infinity sign follows a time that lasted as long as was watched. With `--phases N` each fault comes N times, each
-time in another phase of the renewal; with `--phase PART` too, N times in this one. Its status is 1 if a scenario failed, and 77 if the machines cannot be booted
-here, which it says.
+time in another phase of the renewal; with `--phase PART` too, N times in this one. Its status is 1 if a scenario
+failed, and 77 if the machines cannot be booted here, which it says.
 
 The machines and their image are below /var/tmp/booth-machines. The image is made once, in some minutes. The limit
 fs.inotify.max_user_instances is raised to 1024 and stays so.
@@ -108,7 +108,7 @@ def run(world: World, set_up: SetUp, each: Scenario) -> Outcome:
     found = cluster_writers.figures(nodes_of(world), world.began, world.watched, time.monotonic())
     if found.at_two > 0 or at_two > 0:
         faults.append("two sites ran the service")
-    most = each.most_without * world.slowness
+    most = max(each.most_without, set_up.most_without) * world.slowness
     if found.at_none > most:
         faults.append(f"no site ran the service for more than {most:.0f} s")
     said = [f"now at {holder.name if holder else 'no site'}", *([told] if told else [])]

@@ -19,6 +19,7 @@ HERE = os.path.dirname(os.path.abspath(__file__))
 TOP = os.path.dirname(HERE)
 sys.path[:0] = [HERE, f"{TOP}/tools"]
 
+from checks import Wrong, need
 from completions import completion_joins_addresses, completion_offers
 from installed_package import (
     package_comes_and_goes,
@@ -41,11 +42,11 @@ from installed_tools import TOOLS, pages_have_all_options_of_tools, run_alone
 from installed_units import console_is_confined, unit_is_confined, unit_is_sound, unit_waits_for_an_answer
 from scratch import scratch
 from serving import built_program, end_by_signals, turn
-from shells import Wrong, need, read, run
+from shells import read, run
 
 # the programs that units, followers, daemons and resources run
 HELPERS = ("follow-service", "follow-unit", "follow-postgresql", "follow-pacemaker", "handler-follow", "clock-wait")
-HELPERS += ("site-keep", "service-runnable", "arbitrator-ready")
+HELPERS += ("site-keep", "site-records", "service-runnable", "arbitrator-ready")
 # the names of the resource agent
 AGENTS = ("booth/boothd", "pacemaker/booth-site")
 # the units without instances

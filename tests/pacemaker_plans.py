@@ -20,12 +20,13 @@ import pacemaker_fencing
 import pacemaker_margin
 import pacemaker_plan
 import pacemaker_status
+from checks import need
 from configuration import Configuration, Member, Ticket
 from lease_holding import Now
 from pacemaker_cib import CLOSED, Cib, Times
 from pacemaker_plan import AgentWish, Step, Wish
 from pacemaker_room import CLONE, GROUP, date, same
-from shells import need
+from scratch import scratch
 
 END = "2026-12-01 02:00:00Z"
 TIMES = Times(60, 10, 2)
@@ -51,28 +52,33 @@ def cib(resources: str = GROUP, constraints: str = "", config: str = "", status:
 def after(before: str, steps: List[Step]) -> Cib:
     """Returns the CIB after steps that put constraints and the times into it."""
     elements, config = [], ""
+    resources = ElementTree.fromstring(f"<resources>{before}</resources>")
     for step in steps:
-        if step.words[0] == "cibadmin":
+        if step.words[1] == "--modify":
+            changed = ElementTree.fromstring(step.words[-1])
+            (there,) = [each for each in resources.iter(changed.tag) if each.get("id") == changed.get("id")]
+            there.extend(changed)
+        elif step.words[0] == "cibadmin":
             elements.append(step.words[-1])
         else:
             name, value = step.words[step.words.index("--name") + 1], step.words[-1]
             pair = f'<nvpair id="n" name="{name}" value="{value}"/>'
             config = f'<cluster_property_set id="s">{pair}</cluster_property_set>'
-    return cib(before, "".join(elements), config)
+    return cib("".join(ElementTree.tostring(each, "unicode") for each in resources), "".join(elements), config)
 
 
 @story
 def a_setup_is_whole_and_may_be_repeated() -> None:
     """a setup writes times, rule and ticket, in this order, and a second setup changes nothing"""
     steps = pacemaker_plan.steps(cib(), WISH)
-    same([step.words[0] for step in steps], ["crm_attribute", "cibadmin", "cibadmin"], "the commands")
+    same([step.words[0] for step in steps], ["crm_attribute", *["cibadmin"] * 3], "the commands")
     whole = after(GROUP, steps)
     (lease,) = whole.leases()
     same((lease.end, lease.times, lease.resources), (CLOSED, TIMES, ("all",)), "the lease")
     same([each.id for each in lease.primitives], ["svc", "two"], "the primitives")
     same(pacemaker_plan.steps(whole, WISH), [], "a second setup")
     # the end that is in force stays, whatever else changes
-    moved = cib(GROUP, "".join(step.words[-1] for step in steps[1:]).replace(CLOSED, END))
+    moved = cib(GROUP, "".join(step.words[-1] for step in steps[2:]).replace(CLOSED, END))
     (rule,) = [step for step in pacemaker_plan.steps(moved, WISH._replace(resources=("svc",))) if "rule" in step.what]
     need(rule.words[1] == "--replace" and f'start="{END}"' in rule.words[-1], f"{rule}")
 
@@ -108,15 +114,37 @@ def a_removal_leaves_the_ticket() -> None:
     """a removal deletes rule and times, and deletes the ticket's constraint only if that is requested"""
     whole = after(GROUP, pacemaker_plan.steps(cib(), WISH))
     same([step.what for step in pacemaker_plan.removal(whole, "db8", False)],
-         ["delete booth-lease.db8", "delete the lease's times"], "a removal")  # fmt: skip
-    same(len(pacemaker_plan.removal(whole, "db8", True)), 3, "the steps of a whole one")
+         ["delete booth-lease.db8", "delete booth-retry.all", "delete the lease's times"], "a removal")  # fmt: skip
+    same(len(pacemaker_plan.removal(whole, "db8", True)), 4, "the steps of a whole one")
     same(pacemaker_plan.removal(cib(), "db8", True), [], "of nothing")
+
+
+@story
+def failed_starts_are_tried_again() -> None:
+    """Pacemaker tries a failed start again, after a time that the operator's own setting replaces"""
+    (step,) = [step for step in pacemaker_plan.steps(cib(), WISH) if "again" in step.what]
+    need("again 60 s" in step.what and 'name="failure-timeout" value="60s"' in step.words[-1], f"{step}")
+    whole = after(GROUP, pacemaker_plan.steps(cib(), WISH))
+    for expire, says in ((60, []), (90, ["90s"]), (5, ["30s"])):
+        steps = pacemaker_plan.steps(whole, WISH._replace(times=Times(expire, 3, 1)))
+        found = [step.words[-1] for step in steps if "again" in step.what]
+        same([ElementTree.fromstring(each).find(".//nvpair").get("value") for each in found], says, f"{expire} s")
+    for name in ("failure-timeout", "migration-threshold"):
+        own = f'<meta_attributes id="own"><nvpair id="own-{name}" name="{name}" value="3"/></meta_attributes>'
+        inside = GROUP.replace('<group id="all">', f'<group id="all">{own}')
+        defaults = f"</crm_config><rsc_defaults>{own}</rsc_defaults><crm_config>"
+        for known in (cib(inside), cib(config=defaults)):
+            need(known.root.find(".//nvpair") is not None, "the setting is there")
+            same([step.what for step in pacemaker_plan.steps(known, WISH) if "again" in step.what], [], name)
+    # (another ticket's lease over the same resource keeps the time)
+    both = after(GROUP, [*pacemaker_plan.steps(cib(), WISH), *pacemaker_plan.steps(cib(), WISH._replace(ticket="b"))[2:]])
+    need(not any("retry" in step.what for step in pacemaker_plan.removal(both, "b", True)), "the other ticket's time")
 
 
 @story
 def an_agent_is_made_as_pcs_names_it() -> None:
     """the agent and its address are a group after its storage, named as by pcs; a known agent gets its tickets"""
-    wish = AgentWish("/etc/booth/booth.conf", "booth", "192.0.2.10/24", "/srv/booth", ("fs",))
+    wish = AgentWish("/etc/booth/booth.conf", "booth", "192.0.2.10/24", "/srv/booth", ("fs",), False)
     steps = pacemaker_plan.agent_steps(cib(), wish, ["db8"])
     group = ElementTree.fromstring(steps[0].words[-1])
     same([each.get("id") for each in group.iter("primitive")], ["booth-booth-ip", "booth-booth-service"], "the group")
@@ -130,6 +158,29 @@ def an_agent_is_made_as_pcs_names_it() -> None:
     # (an agent that pcs made starts at once when it has records, so it has its tickets before)
     moved = pacemaker_plan.agent_steps(known, wish._replace(records="/srv/other"), ["db8", "mail"])
     same([step.words[-1] for step in moved], ["db8 mail", "/srv/other"], "another ticket and other records")
+    own = wish._replace(behind=(), is_local=True)
+    same([step.words[-1] for step in pacemaker_plan.agent_steps(known, own, ["db8"])], ["local"], "records of each node")
+    (made,) = pacemaker_plan.agent_steps(cib(), own, ["db8"])
+    fresh = cib(GROUP + made.words[-1])
+    need(pacemaker_plan.is_local(pacemaker_plan.agents(fresh, wish.path, "booth")[0]), "a new agent")
+    same(pacemaker_plan.agent_steps(fresh, own._replace(is_local=False), ["db8"]), [], "a setup on another node")
+
+
+@story
+def a_node_without_records_is_told() -> None:
+    """with records on each node, a node that was not set up is reported, and no other one"""
+    with scratch("booth-records-") as folder:
+        wish = AgentWish(CONF.path, "booth", None, folder, (), True)
+        for is_local, marked, says in ((True, False, 1), (True, True, 0), (False, False, 0)):
+            (made,) = pacemaker_plan.agent_steps(cib(), wish._replace(is_local=is_local), ["db8"])
+            if marked:
+                with open(f"{folder}/.booth-site", "w", encoding="ascii") as file:
+                    file.write("0 none\n")
+            whole = after(GROUP + made.words[-1], pacemaker_plan.steps(cib(), WISH))
+            found = [each for each in pacemaker_checks.of_agents(CONF, whole) if each.kind == "no-records"]
+            same(len(found), says, f"local {is_local}, set up {marked}: {found}")
+            if marked:
+                os.remove(f"{folder}/.booth-site")
 
 
 @story
@@ -217,7 +268,7 @@ WELL = {"fencing": "true", "agent": "Started", "up": "true", "role": "Started", 
 
 def said(is_held: bool, lease_left: float, **more: str) -> List[str]:
     """Returns the problems if crm_mon prints this, and this site holds the ticket or does not."""
-    wish = AgentWish("/etc/booth/booth.conf", "booth", "192.0.2.10/24", None, ())
+    wish = AgentWish("/etc/booth/booth.conf", "booth", "192.0.2.10/24", None, (), False)
     agent = pacemaker_plan.agent_steps(cib(), wish, ["db8"])[0].words[-1]
     whole = after(GROUP + agent, pacemaker_plan.steps(cib(), WISH._replace(end=date(30))))
     seen = pacemaker_asking.seen_in(MON.format(**{"standby": "false", **WELL, **more}))

@@ -9,6 +9,7 @@ room. It takes less than a minute, prints a line for each story, and has the sta
 import concurrent.futures
 import os
 import stat
+import struct
 import subprocess
 import sys
 import time
@@ -18,8 +19,9 @@ HERE = os.path.dirname(os.path.abspath(__file__))
 TOP = os.path.dirname(HERE)
 sys.path[:0] = [HERE, f"{HERE}/../tools"]
 
+import record_file
+from checks import need
 from scratch import scratch
-from shells import need
 
 CONF = 'site = "192.0.2.10"\nsite = 198.51.100.10 # b\narbitrator = 203.0.113.9\n'
 CONF += 'authfile = "{room}/key"\nticket = db8\n'
@@ -103,6 +105,7 @@ class Room:
             note = f"""cd {folder} || exit 9\nprintf '%s\\n' "{name} $*" >>calls\n"""
             self.executable(f"bin/{name}", f"#!/bin/sh\n{note}{text}")
         self.executable("share/follow-pacemaker", CLOCK.replace("{room}", folder))
+        self.executable("share/site-records", f"#!/bin/sh\nexec {sys.executable} {TOP}/packaging/site-records \"$@\"\n")
         for source, target in (("boothd.ocf", "agent"), ("site-keep", "share/site-keep")):
             with open(f"{TOP}/packaging/{source}", encoding="utf-8") as file:
                 text = file.read()
@@ -282,6 +285,106 @@ def stale_records_are_refused(room: Room) -> None:
     need(room.text("cib/booth-generation.booth") == "5 a1\n", room.text("cib/booth-generation.booth"))
 
 
+class Node:
+    """A node of a site whose nodes have records of their own, in a room that all nodes share."""
+
+    def __init__(self, room: Room, name: str) -> None:
+        self.room, self.name = room, name
+        os.makedirs(f"{room.folder}/{name}")
+        room.put(f"{name}/.booth-site", "0 none\n")
+
+    def run(self, status: int = SUCCESS, text: str = "") -> str:
+        """Starts the daemon on this node, looks at it once, and stops it."""
+        own = {"records": f"{self.room.folder}/{self.name}", "records_mode": "local"}
+        self.room.put("node", f"{self.name}\n")
+        printed = self.room.ends("start", status, text, **own)
+        if status == SUCCESS:
+            self.room.ends("monitor", SUCCESS, **own)
+            self.room.ends("stop", SUCCESS, **own)
+        return printed
+
+    def path(self, ticket: str = "db8") -> str:
+        """Returns the path of a record."""
+        return f"{self.room.folder}/{self.name}/{ticket.encode().hex()}.rec"
+
+    def write(self, term: int, ticket: str = "db8") -> None:
+        """Writes a record with a promise, as a daemon does."""
+        kept = record_file.SECOND_FORM.pack(2, term, 4, 0, 0, 0, 7, term, 0, 9_000, 0, 0)
+        with open(self.path(ticket), "wb") as file:
+            file.write(bytes(128) + bytes([1]) + bytes(7) + struct.pack(">Q", 4) + kept)
+
+    def record(self, ticket: str = "db8") -> record_file.Record:
+        """Returns the record in force."""
+        with open(self.path(ticket), "rb") as file:
+            return record_file.in_force(record_file.slots_in(file.read())).record
+
+
+@story
+def records_of_each_node_are_silent_elsewhere(room: Room) -> None:
+    """with records on each node a daemon keeps its own, and one at another node starts silent with a greater term"""
+    one, two = Node(room, "a1"), Node(room, "a2")
+    begun = int(time.time())
+    need("starts silent" in one.run(), "the first daemon of the site")
+    first = one.record()
+    need(first == record_file.Record(1, first.term, None) and begun <= first.term <= time.time(), f"{first}")
+    need(room.text("cib/booth-term.booth") == f"{first.term}\n", room.text("cib/booth-term.booth"))
+    one.write(first.term + 5)
+    need("silent" not in one.run(), "the same node")
+    need((one.record().term, one.record().promise.to) == (first.term + 5, 7), f"{one.record()}")
+    need(room.text("cib/booth-term.booth") == f"{first.term + 5}\n", "the monitor notes the term")
+    # the clock of the first node was ahead by a year
+    ahead = int(time.time()) + 31_536_000
+    one.write(ahead)
+    one.run()
+    need("the last daemon ran at a1: this one starts silent" in two.run(), "another node")
+    need(two.record() == record_file.Record(1, ahead + 1_000_000, None), f"{two.record()}")
+    two.write(ahead + 1_000_003)
+    two.write(9, "mail")
+    two.run()
+    need(two.record().promise is not None and two.record("mail").term == 9, "the records of the second node")
+    # back at the first one, whose records are old
+    need("the last daemon ran at a2: this one starts silent" in one.run(), "back at the first node")
+    need(one.record() == record_file.Record(1, ahead + 2_000_003, None), f"{one.record()}")
+    need(room.text("a1/.booth-site") == room.text("cib/booth-generation.booth") == "6 a1\n", room.text("a1/.booth-site"))
+
+
+@story
+def a_ticket_without_a_record_is_silent(room: Room) -> None:
+    """a ticket that has no record on a node gets a silent one, and records of other tickets do not stay elsewhere"""
+    one, two = Node(room, "a1"), Node(room, "a2")
+    one.run()
+    room.put("booth.conf", f"{CONF.format(room=room.folder)}ticket = mail\n")
+    one.write(3, "old")
+    one.write(7)
+    one.run()
+    need(one.record().term == 7 and one.record("mail").version == 1, "the records of the first node")
+    need(one.record("old").term == 3, "a ticket that the file lacks")
+    two.run()
+    one.run()
+    need(one.record().version == 1 and not os.path.exists(one.path("old")), "back at the first node")
+    need(os.path.exists(f"{one.path('old')}.last"), "the old record is kept aside")
+
+
+@story
+def silent_records_that_fail_start_nothing(room: Room) -> None:
+    """no daemon starts if the records cannot be made silent, or the CIB does not take their term"""
+    one = Node(room, "a1")
+    room.put("cib/booth-term.booth", "x\n")
+    one.run(GENERIC, "the greatest term in the CIB (x) is not a number")
+    room.put("cib/booth-term.booth", "3999999999\n")
+    one.run(GENERIC, "cannot write silent records: the term is 4000999999: it must be 1 to 4000000000")
+    room.drop("cib/booth-term.booth")
+    room.put("cib.full")
+    one.run(GENERIC, "cannot write the greatest term into the CIB")
+    room.drop("cib.full")
+    os.makedirs(one.path("mail"))
+    one.run(GENERIC, "cannot write silent records: ")
+    os.rmdir(one.path("mail"))
+    os.remove(f"{room.folder}/a1/.booth-site")
+    one.run(GENERIC, "not set up here")
+    need("start booth@booth" not in room.text("calls"), "a daemon was started")
+
+
 @story
 def a_late_clock_starts_nothing(room: Room) -> None:
     """a node whose wall clock is behind that of the last daemon starts no daemon, and does not raise the generation"""
@@ -315,9 +418,8 @@ def what_cannot_be_told_starts_nothing(room: Room) -> None:
 
 @story
 def parameters_are_looked_at(room: Room) -> None:
-    """other modes of records, addresses that this node lacks, and tickets without a lease are refused with a reason"""
-    room.ends("start", CONFIGURED, "records_mode=local is not supported", records_mode="local")
-    room.ends("start", CONFIGURED, "records_mode must be shared, and is other", records_mode="other")
+    """unknown modes of records, addresses that this node lacks, and tickets without a lease are refused with a reason"""
+    room.ends("start", CONFIGURED, "records_mode must be shared or local, and is other", records_mode="other")
     room.ends("start", CONFIGURED, "mail has no lease in the CIB", tickets="db8 mail")
     room.ends("start", INSTALLED, "is missing or cannot be read", config="/nowhere/booth.conf")
     room.put("addresses", "2: eth0 inet 192.0.2.10/24\n2: eth0 inet 198.51.100.10/24\n")

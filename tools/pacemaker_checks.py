@@ -5,6 +5,7 @@ It is imported by booth-pacemaker and booth-status, and not run by itself. It ch
 
 import os
 from typing import Iterator, List
+from xml.etree.ElementTree import Element
 
 import configuration
 import lease_holding
@@ -60,6 +61,7 @@ def of_agents(conf: Configuration, cib: Cib) -> Iterator[Problem]:
         text = "the daemon is not a resource of this cluster: if its node dies, it does not start at another node"
         yield Problem(WARNING, "no-agent", f"{text}: booth-pacemaker setup TICKET RESOURCE.. --agent")
         return
+    yield from of_records(agents[0], name)
     followed = pacemaker_plan.parameter(agents[0], "tickets").split()
     for ticket in sorted(set(followed) - leases):
         text = f"{ticket}: {agents[0].get('id')} follows it, but the CIB has no lease"
@@ -68,6 +70,14 @@ def of_agents(conf: Configuration, cib: Cib) -> Iterator[Problem]:
     for ticket in sorted((leases & known) - set(followed)):
         text = f"{ticket}: it has a lease, but the parameter tickets of {agents[0].get('id')} lacks it"
         yield Problem(CRITICAL, "no-follower", text, ticket=ticket)
+
+
+def of_records(agent: Element, name: str) -> Iterator[Problem]:
+    """Yields a problem if each node has records of its own, and this one was not set up."""
+    folder = pacemaker_plan.parameter(agent, "records") or f"/var/lib/booth/{name}"
+    if pacemaker_plan.is_local(agent) and not os.path.exists(f"{folder}/{pacemaker_setup.MARK}"):
+        text = f"this node has no records in {folder}, so no daemon starts here"
+        yield Problem(CRITICAL, "no-records", f"{text}: booth-pacemaker setup TICKET RESOURCE..")
 
 
 def of_clocks(cib: Cib, clocks: lease_holding.Now, folder: str = lease_holding.FOLDER) -> Iterator[Problem]:

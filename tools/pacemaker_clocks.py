@@ -19,7 +19,8 @@ from lease_holding import Now
 from pacemaker_cib import CLOSED, Lease
 
 NOTE = ".booth-clock"
-# in seconds: how far the clocks of nodes may differ, and the least change of the difference that is written again
+# in seconds: how far the clocks of nodes may differ, and by how much a difference must change before it is written
+# again
 MOST, CHANGED = 1.0, 0.5
 # in seconds: how long after a lease's end a daemon may have renewed it without setting an end, until its guard stops
 # the daemon (lease_daemons). This includes a second for the rounding of ends to whole seconds.

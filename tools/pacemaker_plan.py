@@ -13,6 +13,9 @@ from pacemaker_cib import CLOSED, LEASE, PROMOTED, Cib, Times
 TICKET, PROMOTED_TICKET = "booth-ticket", "booth-ticket-promoted"
 ROLE = "Promoted"
 ENDS = ("stop", "fence", "demote")
+# the meta attributes that let Pacemaker try a failed start again, and the least time before it does, in seconds
+RETRY, LEAST_RETRY = "booth-retry", 30
+RETRIES = ("failure-timeout", "migration-threshold")
 
 
 class Step(NamedTuple):
@@ -129,9 +132,42 @@ def tickets(cib: Cib, wish: Wish, is_promoted: bool, resources: List[str]) -> It
     yield from put(cib, "constraints", constraint, f"make {', '.join(left)} depend on the ticket, loss-policy={policy}")
 
 
+def has_own_retry(cib: Cib, resource: str) -> bool:
+    """Returns whether the operator has said when Pacemaker tries this resource again after a failure."""
+    places = list(cib.root.iter("rsc_defaults"))
+    element = cib.named.get(resource)
+    places += [] if element is None else element.iter()
+    while element is not None:
+        places.append(element)
+        element = cib.parents.get(element)
+    sets = {each.get("id"): each for place in places for each in place.findall("meta_attributes")}
+    pairs = (pair for name, each in sets.items() if name != f"{RETRY}.{resource}" for pair in each.findall("nvpair"))
+    return any(pair.get("name") in RETRIES for pair in pairs)
+
+
+def retries(cib: Cib, wish: Wish) -> Iterator[Step]:
+    """Yields the steps that have Pacemaker try a failed start again.
+
+    A guard may end a resource in the middle of a start. Pacemaker takes that for a failed start, and without a time
+    tries no other one on this node.
+    """
+    seconds = max(LEAST_RETRY, wish.times.expire)
+    for resource in wish.resources:
+        element = cib.named.get(resource)
+        if element is None or has_own_retry(cib, resource):
+            continue
+        name, said = f"{RETRY}.{resource}", {"name": "failure-timeout", "value": f"{seconds}s"}
+        outer = ElementTree.Element(element.tag, {"id": resource})
+        inside = ElementTree.SubElement(outer, "meta_attributes", {"id": name})
+        ElementTree.SubElement(inside, "nvpair", {"id": f"{RETRY}-time.{resource}", **said})
+        if not is_same(found(cib, "meta_attributes", name), inside):
+            text = f"have Pacemaker try {resource} again {seconds} s after a failed start"
+            yield Step(text, ("cibadmin", "--modify", "--scope", "resources", "--xml-text", spelled(outer)))
+
+
 def steps(cib: Cib, wish: Wish) -> List[Step]:
-    """Returns all steps for the times, the rule and the ticket, in this order."""
-    changes = list(times(cib, wish))
+    """Returns all steps for the times, failed starts, the rule and the ticket, in this order."""
+    changes = [*times(cib, wish), *retries(cib, wish)]
     for is_promoted, resources in kinds(cib, wish.resources).items():
         if not resources:
             continue
@@ -151,6 +187,12 @@ def removal(cib: Cib, ticket: str, with_ticket: bool) -> List[Step]:
         if found(cib, tag, f"{kind}.{ticket}") is not None:
             text = f'<{tag} id="{kind}.{ticket}"/>'
             changes.append(Step(f"delete {kind}.{ticket}", ("cibadmin", "--delete", "--xml-text", text)))
+    others = {each for lease in cib.leases() if lease.ticket != ticket for each in lease.resources}
+    own = {each: None for lease in cib.leases() if lease.ticket == ticket for each in lease.resources}
+    for resource in own:
+        if resource not in others and found(cib, "meta_attributes", f"{RETRY}.{resource}") is not None:
+            text = f'<meta_attributes id="{RETRY}.{resource}"/>'
+            changes.append(Step(f"delete {RETRY}.{resource}", ("cibadmin", "--delete", "--xml-text", text)))
     if cib.times(ticket) is not None:
         words = ("crm_attribute", "--type", "crm_config", "--set-name", pacemaker_cib.SET)
         name = f"{pacemaker_cib.TIMES}{ticket}"
@@ -169,6 +211,8 @@ class AgentWish(NamedTuple):
     address: Optional[str]
     records: Optional[str]
     behind: Tuple[str, ...]
+    # whether each node has records of its own
+    is_local: bool
 
 
 def agents(cib: Cib, path: str, name: str) -> List[ElementTree.Element]:
@@ -212,7 +256,7 @@ def agent_steps(cib: Cib, wish: AgentWish, tickets_of: List[str]) -> List[Step]:
     known = agents(cib, wish.path, wish.name)
     if known:
         # (records, without which the daemon does not start, come last: so its first start has its tickets)
-        return [*retold(known[0], tickets_of), *moved(known[0], wish.records)]
+        return [*retold(known[0], tickets_of), *moved(known[0], wish.records), *made_local(known[0], wish.is_local)]
     group = ElementTree.Element("group", {"id": f"booth-{wish.name}-group"})
     if wish.address:
         said = {"id": f"booth-{wish.name}-ip", "class": "ocf", "provider": "heartbeat", "type": "IPaddr2"}
@@ -223,7 +267,8 @@ def agent_steps(cib: Cib, wish: AgentWish, tickets_of: List[str]) -> List[Step]:
     said = {"id": f"booth-{wish.name}-service", "class": "ocf", "provider": "pacemaker", "type": "booth-site"}
     primitive = ElementTree.SubElement(group, "primitive", said)
     records = {"records": wish.records} if wish.records else {}
-    attributes(primitive, {"config": wish.path, "records_mode": "shared", **records, "tickets": " ".join(tickets_of)})
+    mode = "local" if wish.is_local else "shared"
+    attributes(primitive, {"config": wish.path, "records_mode": mode, **records, "tickets": " ".join(tickets_of)})
     operations(primitive, {"start": ("0s", "90s"), "stop": ("0s", "90s"), "monitor": ("10s", "20s")})
     # (this has Pacemaker try again later if the start failed at each node)
     meta = ElementTree.SubElement(primitive, "meta_attributes", {"id": f"booth-{wish.name}-service-meta"})
@@ -273,6 +318,19 @@ def moved(primitive: ElementTree.Element, records: Optional[str]) -> Iterator[St
     name = primitive.get("id", "")
     words = ("crm_resource", "--resource", name, "--set-parameter", "records", "--parameter-value", records)
     yield Step(f"set the directory of {name}'s records to {records}", words)
+
+
+def is_local(primitive: ElementTree.Element) -> bool:
+    """Returns whether an agent has records of its own on each node."""
+    return parameter(primitive, "records_mode") == "local"
+
+
+def made_local(primitive: ElementTree.Element, is_wanted: bool) -> Iterator[Step]:
+    """Yields the step that gives each node records of its own, if that was requested and the agent has shared ones."""
+    if is_wanted and not is_local(primitive):
+        name = primitive.get("id", "")
+        words = ("crm_resource", "--resource", name, "--set-parameter", "records_mode", "--parameter-value", "local")
+        yield Step(f"give each node of {name} records of its own", words)
 
 
 def retold(primitive: ElementTree.Element, tickets_of: List[str]) -> Iterator[Step]:

@@ -39,6 +39,7 @@ class Choices(NamedTuple):
     records: Optional[str]
     behind: Tuple[str, ...]
     is_shared: bool
+    is_local: bool
     dry_run: bool
 
 
@@ -165,7 +166,7 @@ class Setup:
             self.leave_to_agent(unit)
 
     def leave_to_agent(self, unit: str) -> None:
-        """Has only the agent start a unit on this node."""
+        """Makes the agent the only program that starts a unit on this node."""
         text = f"# only the resource agent starts this unit\n[Unit]\nConditionPathExists={RUN}/{self.name}/env\n"
         path = f"{UNITS}/{unit}.d/{DROP_IN}"
         runs = ran(QUESTION, "systemctl", "is-active", unit).status == 0 and not self.is_run_by_agent()
@@ -192,14 +193,18 @@ class Setup:
             say(f"note: {text}")
             return
         choices = self.choices
+        is_local = choices.is_local or bool(known) and pacemaker_plan.is_local(known[0])
         before = pacemaker_plan.parameter(known[0], "tickets").split() if known else []
         tickets = before if self.ticket.name in before else [*before, self.ticket.name]
-        self.see_to_records(bool(known))
+        if is_local:
+            self.see_to_own_records(pacemaker_plan.parameter(known[0], "records") if known else "")
+        else:
+            self.see_to_records(bool(known))
         if choices.behind:
             missing = [name for name in choices.behind if name not in self.cib.named]
             if missing:
                 raise Unreadable(f"the cluster has no resource {missing[0]}")
-        wish = AgentWish(self.path, self.name, choices.address, choices.records, choices.behind)
+        wish = AgentWish(self.path, self.name, choices.address, choices.records, choices.behind, is_local)
         carry_out(pacemaker_plan.agent_steps(self.cib, wish, tickets), choices.dry_run)
 
     def see_to_records(self, is_known: bool) -> None:
@@ -212,6 +217,21 @@ class Setup:
         if not self.choices.is_shared and os.stat(folder).st_dev == os.stat("/").st_dev:
             text = f"{folder} is on this node's own disk, and records that do not move with the daemon become stale"
             raise Unreadable(f"{text}: mount storage there that moves with the resource, or add --shared")
+        self.mark(folder)
+
+    def see_to_own_records(self, known: str) -> None:
+        """Makes and marks this node's own directory of the records, if it has no mark."""
+        folder = self.choices.records or known or f"/var/lib/booth/{self.name}"
+        if os.path.exists(f"{folder}/{MARK}"):
+            return
+        if not os.path.isdir(folder):
+            say(f"{'would ' if self.choices.dry_run else ''}make {folder}")
+            if not self.choices.dry_run:
+                os.makedirs(folder, mode=0o700)
+        self.mark(folder)
+
+    def mark(self, folder: str) -> None:
+        """Marks a directory as that of the records, and gives it to the daemon's user."""
         say(f"{'would ' if self.choices.dry_run else ''}mark {folder} as the place of the records")
         if self.choices.dry_run:
             return
