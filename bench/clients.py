@@ -22,7 +22,7 @@ sys.path[:0] = [HERE, f"{HERE}/../tools"]
 import frames
 from members import TICKET, Cluster
 from rows import Row, told
-from run import cpu_seconds, one_run, status_field
+from run import cpu_seconds, one_run, require, status_field
 from serving import NotServing, built_program, end_by_signals, own_addresses
 
 TRIES = 20
@@ -37,12 +37,6 @@ NAME_BYTES, VALUE_BYTES = 63, 127
 GETS = 2_000
 
 ADDRESSES = own_addresses()
-
-
-def require(holds, what):
-    """Raises `NotServing` with this text if a condition is false."""
-    if not holds:
-        raise NotServing(what)
 
 
 @contextlib.contextmanager

@@ -20,7 +20,7 @@ sys.path[:0] = [HERE, f"{HERE}/../tools"]
 from following import Services
 from members import Cluster, Times, now, wait_for
 from rows import Row, told
-from run import cpu_seconds, status_field
+from run import cpu_seconds, require, status_field
 from serving import NotServing, built_program, end_by_signals, own_addresses
 
 TRIES = 4
@@ -28,12 +28,6 @@ TRIES = 4
 SECONDS_AT_REST = 60
 SECONDS_OF_A_DAY = 86_400
 PATIENCE = 60
-
-
-def require(holds, what):
-    """Raises `NotServing` with this text if a condition is false."""
-    if not holds:
-        raise NotServing(what)
 
 
 def at_rest(services, member):

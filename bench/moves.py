@@ -22,7 +22,7 @@ sys.path[:0] = [HERE, f"{HERE}/../tools"]
 
 from members import TICKET, Cluster, now
 from rows import Row, below, told
-from run import one_run
+from run import one_run, require
 from serving import NotServing, built_program, end_by_signals, own_addresses
 
 TRIES = 40
@@ -32,12 +32,6 @@ MARK = 50
 SECONDS_OF_A_LOOK = 20
 
 ADDRESSES = own_addresses()
-
-
-def require(holds, what):
-    """Raises `NotServing` with this text if a condition is false."""
-    if not holds:
-        raise NotServing(what)
 
 
 class Looks(threading.Thread):

@@ -27,7 +27,7 @@ import record_file
 from members import TICKET, Cluster, Times, now, wait_for
 from records import TRIALS, host_round
 from rows import Row, at_least, below, print_table
-from run import cpu_seconds
+from run import cpu_seconds, require
 from serving import NotServing, built_program, end_by_signals, own_addresses
 from slow_disk import SlowDisk
 
@@ -44,12 +44,6 @@ SLOW_SYNC = 0.01
 LAST_TERM = 4_294_967_294
 
 ADDRESSES = own_addresses()
-
-
-def require(holds, what):
-    """Raises `NotServing` with this text if a condition is false."""
-    if not holds:
-        raise NotServing(what)
 
 
 def made(program, folder, tickets):

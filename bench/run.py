@@ -119,6 +119,12 @@ class Bench:
         return list(map(int, first.split()[1:])), sum(int(line.split()[3]) for line in others)
 
 
+def require(holds, what):
+    """Raises `NotServing` with this text if a condition is false."""
+    if not holds:
+        raise NotServing(what)
+
+
 def cpu_seconds(process):
     """Returns the CPU time of a process since its start, in seconds."""
     with open(f"/proc/{process.pid}/schedstat") as file:

@@ -21,7 +21,7 @@ sys.path[:0] = [HERE, f"{HERE}/../tools"]
 
 from members import Cluster, Times, now, wait_for
 from rows import Row, all_of, below, told
-from run import KEY, cpu_seconds, lost_datagrams, status_field
+from run import KEY, cpu_seconds, lost_datagrams, require, status_field
 from serving import NotServing, boothd, built_program, end_by_signals, own_addresses
 from texts import long_text
 
@@ -35,12 +35,6 @@ MOST_TEXT = 16 << 20
 MEGABYTE = 1_000_000
 
 ADDRESSES = own_addresses()
-
-
-def require(holds, what):
-    """Raises `NotServing` with this text if a condition is false."""
-    if not holds:
-        raise NotServing(what)
 
 
 def names(count, length=20):

@@ -20,7 +20,7 @@ sys.path[:0] = [HERE, f"{HERE}/../tools"]
 import frames
 from members import TICKET, Cluster, Times, now, wait_for
 from rows import Row, below, told
-from run import cpu_seconds, status_field
+from run import cpu_seconds, require, status_field
 from serving import NotServing, built_program, end_by_signals, own_addresses
 
 MANY = tuple(b"ticket-%02d" % number for number in range(64))
@@ -36,12 +36,6 @@ def cluster(program, folder, **settings):
     """Returns a cluster of three members at free addresses."""
     addresses = list(itertools.islice(ADDRESSES, 3))
     return Cluster(program, folder, addresses, **settings)
-
-
-def require(holds, what):
-    """Raises `NotServing` with this text if a condition is false."""
-    if not holds:
-        raise NotServing(what)
 
 
 def started(cluster):

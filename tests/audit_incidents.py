@@ -136,7 +136,7 @@ def first_read(path):
 
 
 def silent_starts_are_told(boothd, folder):
-    """an arbitrator without its record passes and is told, and a site with a silent one; a site without is found"""
+    """an arbitrator without its record, or a site with a silent one, is reported; a site without a record is a fault"""
     with cluster_in(boothd, folder) as (cluster, forward):
         one, two, arbitrator = cluster.members
         cluster.start()

@@ -171,7 +171,7 @@ def live_through(cluster):
 
 
 class AuditedCluster(Cluster):
-    """A cluster whose members write journals. If its program can audit, the audit must let these journals pass. In
+    """A cluster whose members write journals. If its program can audit, the audit must accept these journals. In
     other clusters `remember` writes records that no journal has. So the members of this cluster go through their first
     start, if they can.
     """

@@ -10,10 +10,11 @@ import socket
 
 import follow_checks
 import key_file
+from checks import need
 from look_stories import KEY, PORT, Three, all_of, well
 from service_stories import Machine
 from serving import built_program
-from status_runs import TOP, document, first_text, problems_of, require, require_same, run_apart, story
+from status_runs import TOP, document, first_text, problems_of, require_same, run_apart, story
 
 ROOT = 0
 # the members of a file without faults; most stories add a key
@@ -64,12 +65,12 @@ def a_file_without_faults(folder):
     """a file without faults has status 0 in each form, and a file that cannot be read has status 3"""
     checked = Checked(folder)
     text = f"{PLAIN}authfile = {key_in(folder)}\n{TICKET}"
-    require(checked.kinds(text) == set(), f"{checked.of(text)}")
+    need(checked.kinds(text) == set(), f"{checked.of(text)}")
     env = {**os.environ, "PATH": f"{checked.programs}:/usr/bin:/bin"}
     line = f"OK: {checked.path}: 3 members, 1 ticket\n"
     for words, printed in ((["-b"], f"BOOTH {line}"), ([], line)):
         ran = run_apart("booth-status", "--check", checked.path, *words, env=env)
-        require(ran.status == 0 and ran.printed.endswith(printed) and not ran.said, str(ran))
+        need(ran.status == 0 and ran.printed.endswith(printed) and not ran.said, str(ran))
     ran = run_apart("booth-status", "--check", f"{folder}/none.conf", env=env)
     said = f"booth-status: cannot read {folder}/none.conf: No such file or directory\n"
     require_same((ran.status, ran.printed, ran.said), (3, "", said))
@@ -90,7 +91,7 @@ def the_verdict_of_the_program(folder):
     if boothd is None:
         return
     real, checked = os.path.dirname(boothd), Checked(folder)
-    require(checked.kinds(text, programs=real) == set(), "the real one refuses a good file")
+    need(checked.kinds(text, programs=real) == set(), "the real one refuses a good file")
     for more, said in (
         ("expire = 0\n", f"{checked.path}: line 6: bad value for expire"),
         ("expire = 7\nexpire = 8\n", f"{checked.path}: line 7: repeated"),
@@ -124,7 +125,8 @@ def what_is_in_the_file(folder):
         (PLAIN + key + "port = 929\n" + TICKET, {("warning", "port", None)}),
         (PLAIN + key + TICKET + "expire = 62\nrenewal-freq = 57\n", {("warning", "tries", "db8"), late}),
         (PLAIN + key + TICKET + "expire = 63\nrenewal-freq = 57\n", {late}),
-        # (from a renewal 10 s and 9 s of a lease are left; half of that is the margin, and a restart takes 5 s)
+        # (a lease has 10 s left at its renewal, and 9 s in the next row; half of that is the margin; a restart takes 5
+        # s)
         (PLAIN + key + TICKET + "expire = 70\nrenewal-freq = 60\n", set()),
         (PLAIN + key + TICKET + "expire = 69\nrenewal-freq = 60\n", {late}),
         (PLAIN + key + TICKET + short + "expire = 11\nrenewal-freq = 8\n", {late}),
@@ -194,15 +196,15 @@ def the_file_of_the_key(folder):
             # (the group is not that of the daemon's user)
             os.chown(path, daemon.pw_uid, ROOT)
         found = {(severity, kind) for severity, kind, _ in checked.kinds(f"{PLAIN}authfile = {path}\n{TICKET}")}
-        require(found == wanted, f"{content} with mode {mode:o}: {found}")
+        need(found == wanted, f"{content} with mode {mode:o}: {found}")
     for path in (f"{folder}/no-key", folder):
         found = checked.kinds(f"{PLAIN}authfile = {path}\n{TICKET}")
-        require(found == {("critical", "key", None)}, f"{path}: {found}")
+        need(found == {("critical", "key", None)}, f"{path}: {found}")
     told = problems_of(checked.of(f"{PLAIN}authfile = {key_in(folder)}\n{TICKET}"))
     owner = {(severity, kind) for severity, kind, *_ in told}
     # (the user booth cannot read a key of root; without this user the check cannot know)
     due = ("critical", "key-owner") if daemon and os.geteuid() == ROOT else ("notice", "key-owner")
-    require(owner == {due} or daemon and os.geteuid() != ROOT, f"{owner}")
+    need(owner == {due} or daemon and os.geteuid() != ROOT, f"{owner}")
 
 
 @story

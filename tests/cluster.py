@@ -36,6 +36,7 @@ import lost_stories  # (its stories are taken into the list)
 import move_stories  # (its stories are taken into the list)
 import show_stories  # (its story comes into the list)
 from auditing import AuditedCluster
+from checks import need
 from handler_stories import handler_in
 from members import MANUAL, TICKET, Times, now, wait_for
 from promise_stories import MANY
@@ -51,7 +52,6 @@ from stories import (
     keeps,
     lists,
     passed,
-    require,
     says,
     slack,
     stands,
@@ -76,14 +76,14 @@ def two_sites_and_an_arbitrator(cluster):
     started = now()
     says(one, ("grant", NAME), 0, f"grant of {NAME} requested\n")
     while now() < started + times.abstention() - 0.2:
-        require(not any(r and r.until for r in map(type(one).record, cluster.members)), "a lease in that time")
+        need(not any(r and r.until for r in map(type(one).record, cluster.members)), "a lease in that time")
         time.sleep(0.05)
     passed("nobody is granted the ticket before each member has abstained")
 
     abstains(cluster, started)
     # (the first grant must end before)
     record = grants(cluster, 0)
-    require(now() < record.until <= now() + times.expire, f"a lease until {record.until}")
+    need(now() < record.until <= now() + times.expire, f"a lease until {record.until}")
     passed("a grant is held, kept on disk, and listed by every member")
     lists(cluster, one)
     for member in cluster.members:
@@ -97,57 +97,57 @@ def two_sites_and_an_arbitrator(cluster):
     says(one, ("grant", "no-such-ticket"), 1, "booth: invalid argument\n")
     says(one, ("grant", "no ticket"), 1, "booth: bad ticket\n")
     passed("booth tells why a grant is refused")
-    require(one.about("CGnt") == "ok", "a grant at the holder is not granted")
-    require(two.about("CGnt") == "Over", "a grant elsewhere is not refused")
-    require(two.about("CRvk") == "Redr", "a revocation elsewhere is not redirected")
-    require(cluster.members[2].about("CGnt") == "IArg", "an arbitrator takes a grant")
+    need(one.about("CGnt") == "ok", "a grant at the holder is not granted")
+    need(two.about("CGnt") == "Over", "a grant elsewhere is not refused")
+    need(two.about("CRvk") == "Redr", "a revocation elsewhere is not redirected")
+    need(cluster.members[2].about("CGnt") == "IArg", "an arbitrator takes a grant")
     passed("a grant or a revocation at another member is refused, with the reason")
 
     until, end, renewals = record.until, now() + 3 * times.expire, 0
     while now() < end:
         record = one.record()
-        require(record is not None and record.holds(now()), "the lease ended though its holder runs")
+        need(record is not None and record.holds(now()), "the lease ended though its holder runs")
         renewals += record.until != until
         until = record.until
         time.sleep(0.02)
-    require(renewals >= 3, f"{renewals} renewals in three leases")
-    require(cluster.shown_by_all() == one.address, "a member lists another owner")
+    need(renewals >= 3, f"{renewals} renewals in three leases")
+    need(cluster.shown_by_all() == one.address, "a member lists another owner")
     passed("the holder renews its lease over three leases, without a gap")
 
     one.kill()
     until = one.record().until
     took_over = lambda: (two.record() or record).until != record.until and two.record().until
-    require(wait_for(took_over, until - now() + PATIENCE), "nobody took over")
+    need(wait_for(took_over, until - now() + PATIENCE), "nobody took over")
     taken, latest = now(), until + times.guard() + times.timeout + slack()
-    require(until <= taken <= latest, f"taken over {taken - until:.3f} s after the lease's end")
-    require(wait_for(lambda: cluster.shown_by_all() == two.address, PATIENCE), "the new owner is not listed")
+    need(until <= taken <= latest, f"taken over {taken - until:.3f} s after the lease's end")
+    need(wait_for(lambda: cluster.shown_by_all() == two.address, PATIENCE), "the new owner is not listed")
     passed(f"another site takes over after the lease's end and within its failover time ({taken - until:.3f} s)")
     later = stands(cluster, two)
-    require(later > term, f"the new owner tells the term {later}, and the old one told {term}")
+    need(later > term, f"the new owner tells the term {later}, and the old one told {term}")
     passed("the new owner tells a greater term than the old one did")
 
     one.start(cluster.program, cluster.conf)
-    require(not one.record().holds(now()), "the killed member holds")
-    require(wait_for(lambda: one.shown() == two.address, PATIENCE), "it hears of no owner")
+    need(not one.record().holds(now()), "the killed member holds")
+    need(wait_for(lambda: one.shown() == two.address, PATIENCE), "it hears of no owner")
     stands(cluster, two)
     passed("the killed member comes back, holds nothing, and hears who does")
 
     before = two.counts()[1]
     lists(cluster, two)
     says(one, ("revoke", NAME), 0, f"ticket {NAME} revoked\n")
-    require(two.record().until is None, "the revoked lease is kept")
+    need(two.record().until is None, "the revoked lease is kept")
     passed("a revocation that is asked of another member is sent on to the holder, and answered once the lease is off the disk")
-    require(wait_for(lambda: cluster.shown_by_all() is None and one.shown() is None, PATIENCE), "an owner is listed")
+    need(wait_for(lambda: cluster.shown_by_all() is None and one.shown() is None, PATIENCE), "an owner is listed")
     lists(cluster, None)
     stands(cluster, None)
     says(two, ("revoke", NAME), 1, "booth: ticket is not granted\n")
     said = lambda: {address: counts[1] - before[address][1] for address, counts in two.counts()[1].items()}
-    require(wait_for(lambda: min(said().values()) >= 3, PATIENCE), f"the revocation was said {said()} times")
+    need(wait_for(lambda: min(said().values()) >= 3, PATIENCE), f"the revocation was said {said()} times")
     time.sleep(slack())
     after = two.counts()[1]
     time.sleep(2 * times.timeout)
-    require(two.counts()[1] == after, "the revocation is said again and again")
-    require(all(r.until is None or not r.holds(now()) for r in (one.record(), two.record())), "a lease is kept")
+    need(two.counts()[1] == after, "the revocation is said again and again")
+    need(all(r.until is None or not r.holds(now()) for r in (one.record(), two.record())), "a lease is kept")
     passed("every member hears of it, and it is said twice more")
 
 
@@ -161,11 +161,11 @@ def clients_that_wait(cluster):
     says(one, ("grant", "-w", NAME), 1, "booth: failed\n")
     took = now() - asked
     due = cluster.times.timeout * (cluster.times.retries + 1)
-    require(due - 0.5 < took < due + 2 * slack(), f"a grant without a majority failed after {took:.2f} s")
+    need(due - 0.5 < took < due + 2 * slack(), f"a grant without a majority failed after {took:.2f} s")
     passed("who waits for a grant is told where no majority answers")
     cluster.start(1, 2)
     says(one, ("grant", "-C", NAME), 0, f"ticket {NAME} granted\n")
-    require(one.record().holds(now()), "who waits for the record is told before it is kept")
+    need(one.record().holds(now()), "who waits for the record is told before it is kept")
     lists(cluster, one)
     says(one, ("grant", "-w", NAME), 0, f"ticket {NAME} granted\n")
     passed("who waits for a grant is told once the ticket is held, with its record on the disk")
@@ -179,12 +179,12 @@ def a_directory_that_is_gone(cluster):
     cluster.start()
     shutil.move(one.records, one.records + ".gone")
     says(one, ("grant", NAME), 1, "booth: failed\n")
-    require(one.record() is None and one.is_running(), "the member keeps a record, or ended")
+    need(one.record() is None and one.is_running(), "the member keeps a record, or ended")
     passed("a grant whose record cannot be written is refused, and the daemon runs on")
     grants(cluster, 1)
     passed("another site is granted the ticket meanwhile")
     said = one.printed().decode()
-    require(said == f"boothd: cannot keep the record of ticket {NAME}: {os.strerror(2)} (os error 2)\n", f"it said {said}")
+    need(said == f"boothd: cannot keep the record of ticket {NAME}: {os.strerror(2)} (os error 2)\n", f"it said {said}")
     # (programs that still run at the end of a story must have printed nothing)
     one.kill()
     passed("and the first one said why, once")
@@ -205,9 +205,9 @@ def a_member_with_another_key(cluster):
     one.conf = right
     says(one, ("list",), 0, f"ticket: {NAME}, leader: none\n")
     passed("booth asks with the key of its configuration, and with another it gets no answer")
-    require(not wait_for(lambda: one.record().until, 2), "a member with another key gave its vote")
+    need(not wait_for(lambda: one.record().until, 2), "a member with another key gave its vote")
     passed("a member with another key never counts for a majority")
-    require(one.counts()[0][BADMAC] > 0, "its frames are not counted as such")
+    need(one.counts()[0][BADMAC] > 0, "its frames are not counted as such")
     passed("its frames are dropped, and counted with their fault")
 
 
@@ -245,13 +245,13 @@ def attributes_that_are_waited_for(cluster):
     passed("a ticket has up to 64 attributes of up to 127 bytes, which geostore takes away again")
 
     says(one, ("grant", "-w", NAME), 1, "booth: prerequisite not met\n")
-    require(one.record() is None or one.record().until is None, "it holds though a prerequisite fails")
+    need(one.record() is None or one.record().until is None, "it holds though a prerequisite fails")
     keeps(one, ("delete", "maintenance"), 0, "")
     says(one, ("grant", "-w", NAME), 0, f"ticket {NAME} granted\n")
     passed("a grant is refused while a prerequisite of kind manual fails, and granted when it holds")
 
     until = one.record().until
-    require(wait_for(lambda: one.record().until != until, 2 * times.renewal), "it is not renewed")
+    need(wait_for(lambda: one.record().until != until, 2 * times.renewal), "it is not renewed")
     passed("the holder renews, whether or not a prerequisite of kind auto holds there")
     one.kill()
     until = one.record().until
@@ -259,15 +259,15 @@ def attributes_that_are_waited_for(cluster):
     held_back = until + times.guard() + times.timeout + 2 * times.renewal
     while now() < held_back:
         record = two.record()
-        require(record is None or not record.holds(now()), "it acquires though a prerequisite of kind auto fails")
+        need(record is None or not record.holds(now()), "it acquires though a prerequisite of kind auto fails")
         time.sleep(0.05)
     passed("the other site does not take over while a prerequisite of kind auto fails there")
     keeps(two, ("set", "ready", "yes"), 0, "")
     said = now()
     # (its election takes less than a timeout on one machine)
-    require(wait_for(lambda: is_held_by(cluster, two), PATIENCE), "nobody took over")
+    need(wait_for(lambda: is_held_by(cluster, two), PATIENCE), "nobody took over")
     took = now() - said
-    require(took < times.renewal + times.timeout + slack(), f"taken over after {took:.3f} s")
+    need(took < times.renewal + times.timeout + slack(), f"taken over after {took:.3f} s")
     passed(f"and takes over at its next look when it holds ({took:.3f} s)")
     two.kill()
     two.start(cluster.program, cluster.conf)
@@ -297,7 +297,7 @@ def a_site_by_ipv6(cluster):
     one.start(cluster.program, cluster.conf)
     says(one, ("list",), 0, f"ticket: {NAME}, leader: none\n")
     ran = one.booth("peers")
-    require(ran.status == 0 and ran.printed.count("last: never, received: 0") == 2, f"booth peers left {ran}")
+    need(ran.status == 0 and ran.printed.count("last: never, received: 0") == 2, f"booth peers left {ran}")
     cluster.start(1, 2)
     grants(cluster, 0)
     lists(cluster, one)
@@ -308,11 +308,11 @@ def a_site_by_ipv6(cluster):
     why = f"{one.address} refuses links over TCP too: does the daemon run there?"
     says(one, ("list",), 1, f"booth: no reply\nbooth: {why}\n")
     passed("booth asks by IPv6, and says where no daemon answers")
-    require(wait_for(lambda: is_held_by(cluster, two), PATIENCE), "nobody took over")
+    need(wait_for(lambda: is_held_by(cluster, two), PATIENCE), "nobody took over")
     one.start(cluster.program, cluster.conf)
-    require(wait_for(lambda: one.shown() == two.address, PATIENCE), "the site by IPv6 hears of no owner")
+    need(wait_for(lambda: one.shown() == two.address, PATIENCE), "the site by IPv6 hears of no owner")
     says(one, ("revoke", NAME), 0, f"ticket {NAME} revoked\n")
-    require(wait_for(lambda: cluster.shown_by_all() is None and one.shown() is None, PATIENCE), "an owner is listed")
+    need(wait_for(lambda: cluster.shown_by_all() is None and one.shown() is None, PATIENCE), "an owner is listed")
     grants(cluster, 0)
     passed("a site by IPv4 takes over, and booth is sent on to it from the one by IPv6, which is granted the ticket again")
 
@@ -344,10 +344,10 @@ def tell(function, cluster):
     """Runs a story, and prints its lines."""
     function(cluster)
     wrong = cluster.watch.wrong
-    require(not wrong, f"two held at one moment: {wrong[:3]}")
-    require(cluster.watch.is_looking(), f"nobody looked on after {cluster.watch.looks} looks")
+    need(not wrong, f"two held at one moment: {wrong[:3]}")
+    need(cluster.watch.is_looking(), f"nobody looked on after {cluster.watch.looks} looks")
     printed = [member.printed() for member in cluster.members]
-    require(not any(printed), f"a daemon printed {printed}")
+    need(not any(printed), f"a daemon printed {printed}")
     passed(f"no two held at one moment of {cluster.watch.looks} ({function.__doc__})")
 
 

@@ -8,11 +8,12 @@ import os
 import configuration
 import frames
 import refusals
-from status_runs import require, require_same, story
+from checks import need
+from status_runs import require_same, story
 
 MEMBERS = "site = 192.0.2.10\narbitrator = 192.0.2.11\n"
-# the values of a ticket without keys: expire, acquire-after, timeout, retries, renewal-freq, no handler
-TABLE = (600, 0, 5, 10, 300, None, ())
+# the values of a ticket without keys: expire, acquire-after, timeout, retries, renewal-freq, no handler, not steady
+TABLE = (600, 0, 5, 10, 300, None, (), False)
 FIRST, OLD = b"the-first-key", b"the-key-before"
 
 
@@ -29,7 +30,7 @@ def read(folder, text):
 
 def tickets_of(folder, text):
     found = read(folder, MEMBERS + text)
-    require(not isinstance(found, str), f"{text!r}: {found}")
+    need(not isinstance(found, str), f"{text!r}: {found}")
     return [(ticket.name, ticket.is_manual, *ticket[2:]) for ticket in found.tickets]
 
 
@@ -51,15 +52,15 @@ def lines_and_quotes_are_read(folder):
 @story
 def defaults_are_inherited(folder):
     """a ticket has its own values, otherwise those of __default__, otherwise those of booth.conf(5)"""
-    defaults = "ticket = __default__\nexpire = 120\nretries = 5\nmode = manual\n"
-    text = f"{defaults}ticket = one\nticket = two\nexpire = 60\nmode = auto\nrenewal-freq = 45\n"
+    defaults = "ticket = __default__\nexpire = 120\nretries = 5\nmode = manual\nsteady = yes\n"
+    text = f"{defaults}ticket = one\nticket = two\nexpire = 60\nmode = auto\nsteady = no\nrenewal-freq = 45\n"
     text += "acquire-after = 9\ntimeout = 2\nbefore-acquire-handler = /bin/true x\nweights = 1,2\nattr-prereq = 'auto a eq b'\n"
-    of_two = ("two", False, 60, 9, 2, 5, 45, "/bin/true x", (1, 2))
-    require_same(tickets_of(folder, text), [("one", True, 120, 0, 5, 5, 60, None, ()), of_two])
-    require_same(tickets_of(folder, "ticket = one\nexpire = 7"), [("one", False, 7, 0, 5, 10, 3.5, None, ())])
+    of_two = ("two", False, 60, 9, 2, 5, 45, "/bin/true x", (1, 2), False)
+    require_same(tickets_of(folder, text), [("one", True, 120, 0, 5, 5, 60, None, (), True), of_two])
+    require_same(tickets_of(folder, "ticket = one\nexpire = 7"), [("one", False, 7, 0, 5, 10, 3.5, None, (), False)])
     # expire and acquire-after, and a guard of 2 ms and 2/999 of expire, rounded down: 1203 ms of 600 s
     promise = read(folder, MEMBERS + "ticket = one\nacquire-after = 15").tickets[0].promise()
-    require(abs(promise - 616.203) < 1e-9, f"a promise of {promise} s")
+    need(abs(promise - 616.203) < 1e-9, f"a promise of {promise} s")
 
 
 # (this reader checks the values of these keys only; boothd alone judges the others)

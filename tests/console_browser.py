@@ -10,7 +10,8 @@ import subprocess
 import zlib
 from typing import List, Optional, Set, Tuple
 
-from status_runs import require
+from checks import need
+
 
 NAMES = ("chromium", "chromium-browser", "google-chrome")
 SECONDS_OF_A_PICTURE = 60
@@ -39,14 +40,14 @@ def picture(url: str, path: str, width: int = 1180, height: int = 900, dark: boo
     )  # fmt: skip
     shutil.rmtree(f"{path}.profile", ignore_errors=True)
     wrong = [line for line in done.stdout.splitlines() if any(each in line for each in COMPLAINTS)]
-    require(not wrong, f"Chromium says: {wrong}")
+    need(not wrong, f"Chromium says: {wrong}")
     is_drawn = done.returncode == 0 and os.path.exists(path)
-    require(is_drawn, f"Chromium ended with {done.returncode}: {done.stdout[-600:]}")
+    need(is_drawn, f"Chromium ended with {done.returncode}: {done.stdout[-600:]}")
 
 
 def chunks(data: bytes) -> List[Tuple[bytes, bytes]]:
     """Returns the chunks of a PNG file."""
-    require(data.startswith(b"\x89PNG\r\n\x1a\n"), "no PNG")
+    need(data.startswith(b"\x89PNG\r\n\x1a\n"), "no PNG")
     found, at = [], 8
     while at < len(data):
         size, kind = struct.unpack(">I4s", data[at : at + 8])
@@ -60,7 +61,7 @@ def colours(path: str) -> Set[Tuple[int, int, int]]:
     with open(path, "rb") as file:
         parts = chunks(file.read())
     width, height, depth, kind, *_ = struct.unpack(">IIBBBBB", parts[0][1])
-    require(depth == 8 and kind in PIXEL, f"a PNG of depth {depth} and colour type {kind}")
+    need(depth == 8 and kind in PIXEL, f"a PNG of depth {depth} and colour type {kind}")
     step, data = PIXEL[kind], zlib.decompress(b"".join(body for name, body in parts if name == b"IDAT"))
     length, before, found = width * step, bytearray(width * step), set()
     for row in range(height):

@@ -9,13 +9,14 @@ import os
 import time
 from typing import Iterator, Optional, Sequence
 
+from checks import need
 from console_browser import browser, colours, picture, rgb
 from console_runs import Logged, Page, Served, served
 from cut_ways import CannotCut, cut
 from members import TICKET, Cluster, Times
 from serving import own_addresses
 from service_stories import LIVE
-from status_runs import in_time, metrics_of, require, require_same, sample, status
+from status_runs import in_time, metrics_of, require_same, sample, status
 from stories import grants
 
 KEY = b"a-key-of-the-cluster"
@@ -86,7 +87,7 @@ def shows_a_good_cluster(site: Site) -> None:
     require_same(sample(samples, "booth_ticket_held", ticket=NAME), 1)
     require_same(site.console.ask("/healthz").status, 200)
     events = [row[2] for row in site.page().rows("Last events")]
-    require(any("gains the lease of term" in each for each in events), str(events))
+    need(any("gains the lease of term" in each for each in events), str(events))
 
 
 @contextlib.contextmanager
@@ -97,7 +98,7 @@ def cut_off(site: Site) -> Iterator[None]:
         wait = site.cluster.times.expire + 4
         began = time.monotonic()
         while "no-way" not in site.kinds():
-            require(time.monotonic() < began + wait + 30, f"no path is missing: {site.kinds()}")
+            need(time.monotonic() < began + wait + 30, f"no path is missing: {site.kinds()}")
             time.sleep(0.2)
         yield
 
@@ -105,8 +106,8 @@ def cut_off(site: Site) -> Iterator[None]:
 def shows_a_cut(site: Site) -> None:
     """Each of the two is marked in the row of the other one."""
     rows = site.page().rows("Members")
-    require(rows[0][5].startswith("✖") and rows[2][3].startswith("✖"), str(rows))
-    require(not rows[1][3].startswith("✖") and not rows[0][4].startswith("✖"), str(rows))
+    need(rows[0][5].startswith("✖") and rows[2][3].startswith("✖"), str(rows))
+    need(not rows[1][3].startswith("✖") and not rows[0][4].startswith("✖"), str(rows))
 
 
 def shows_a_service_that_is_down(site: Site) -> None:
@@ -138,7 +139,7 @@ def is_drawn(site: Site, folder: str, dark: bool) -> None:
     picture(site.url(), path, 700, 420, dark)
     found = colours(path)
     ground, bar = ("#14171a", "#3f8a5e") if dark else ("#fbfbfa", "#4c9a6c")
-    require({rgb(ground), rgb(bar)} <= found, f"dark: {dark}: the style is not applied")
+    need({rgb(ground), rgb(bar)} <= found, f"dark: {dark}: the style is not applied")
     os.remove(path)
 
 
@@ -179,5 +180,5 @@ def pictures(program: str, scratch: str, folder: str) -> None:
         shows_a_service_that_is_down(site)
         picture(site.url(), paths[2], WIDTH, HEIGHT)
     for path in paths:
-        require(os.path.getsize(path) <= MOST_BYTES, f"{path} has {os.path.getsize(path)} bytes")
+        need(os.path.getsize(path) <= MOST_BYTES, f"{path} has {os.path.getsize(path)} bytes")
         print(f"{path}: {os.path.getsize(path)} bytes")

@@ -10,11 +10,12 @@ import shutil
 import subprocess
 from typing import Dict, Iterator, List, Set, Tuple
 
+from checks import need
 from console_runs import Logged, served, story
 from exporting import HELP
 from look_stories import Three, all_of
 from service_stories import GONE, LIVE
-from status_runs import TOP, metrics_of, require, require_same, status
+from status_runs import TOP, metrics_of, require_same, status
 
 EXAMPLES = f"{TOP}/examples"
 RULES, DASHBOARD = f"{EXAMPLES}/prometheus-rules.yml", f"{EXAMPLES}/grafana-dashboard.json"
@@ -77,17 +78,17 @@ def names_of_the_examples(folder):
     for place, text in expressions():
         names = set()
         for name, matchers in SELECTOR.findall(text):
-            require(name in labels or name in OWN_METRICS, f"{place}: {name} is not exported")
+            need(name in labels or name in OWN_METRICS, f"{place}: {name} is not exported")
             names |= labels.get(name, set())
             used.add(name)
             for label, value in re.findall(r'(\w+)\s*[=!]=?~?\s*"([^"]*)"', matchers):
-                require(label in labels.get(name, set()) | ADDED_LABELS, f"{place}: {name} has no label {label}")
+                need(label in labels.get(name, set()) | ADDED_LABELS, f"{place}: {name} has no label {label}")
                 wrong = set(value.split("|")) - known if label == "kind" else set()
-                require(not wrong, f"{place}: booth-status(8) has no kind {wrong}")
+                need(not wrong, f"{place}: booth-status(8) has no kind {wrong}")
         for group in GROUPED.findall(text):
             wrong = {each.strip() for each in group.split(",")} - names - ADDED_LABELS
-            require(not wrong, f"{place}: no metric there has the labels {wrong}")
-    require(len(used) > 20, f"only {sorted(used)} are used")
+            need(not wrong, f"{place}: no metric there has the labels {wrong}")
+    need(len(used) > 20, f"only {sorted(used)} are used")
 
 
 @story
@@ -98,16 +99,16 @@ def each_alert_names_its_labels(folder):
     wanted = {"BoothNoMajority", "BoothTwoOwners", "BoothTicketFree", "BoothServiceDown", "BoothNoFollower"}
     wanted |= {"BoothClocksApart", "BoothDiskFailing", "BoothMemberSilent"}
     names = [each.split("\n")[0] for each in alerts]
-    require(wanted <= set(names) and len(names) == len(set(names)), str(names))
+    need(wanted <= set(names) and len(names) == len(set(names)), str(names))
     for text in alerts:
         name = text.split("\n")[0]
-        require(re.search(r"labels: \{ severity: (critical|warning) \}", text), f"{name} has no severity")
-        require("summary: " in text and "action: " in text, f"{name} does not say what to do")
+        need(re.search(r"labels: \{ severity: (critical|warning) \}", text), f"{name} has no severity")
+        need("summary: " in text and "action: " in text, f"{name} does not say what to do")
         expression = re.search(r"expr: (.*)", text)[1]
         left = {label.strip() for group in GROUPED.findall(expression) for label in group.split(",")}
         left |= ADDED_LABELS if "up{" in expression else set()
         missing = set(re.findall(r"\$labels\.(\w+)", text)) - left
-        require(not missing, f"{name} names {missing}, which its expression has not")
+        need(not missing, f"{name} names {missing}, which its expression has not")
 
 
 @story
@@ -151,7 +152,7 @@ def commands_of_the_examples(folder):
         with all_of([three.fake(address) for address in three.addresses]):
             ran = status("-c", three.path, *words)
         require_same((ran.status, ran.said), (0, ""), f"{command}: ")
-    require(os.path.exists(f"{folder}/booth.prom") and os.path.exists(f"{folder}/booth.state"), str(os.listdir(folder)))
+    need(os.path.exists(f"{folder}/booth.prom") and os.path.exists(f"{folder}/booth.state"), str(os.listdir(folder)))
     # what check_http asks for is what the console answers
     with all_of([three.fake(address) for address in three.addresses]), served(three.path) as site:
         path = re.search(r"check_http .* -u (\S+)", nagios)[1]

@@ -6,10 +6,11 @@ It is imported by tests/console.py, and not run by itself.
 import json
 import os
 
+from checks import need
 from console_runs import Logged, served, story
 from look_stories import PORT, Three, all_of
 from service_stories import LIVE
-from status_runs import metrics_of, require, require_same
+from status_runs import metrics_of, require_same
 
 MARKUP = '<script>alert(1)</script><img/src="x"onerror=alert(2)>&lt;"\'`'
 LINES = 'x"} 1\nbooth_status 0\n# HELP'
@@ -22,13 +23,13 @@ def is_harmless(page) -> None:
     allowed = set("html head meta title style body main header h1 h2 small p a span section div footer".split())
     allowed |= set("table thead tbody tr th td svg rect line".split())
     found = {name for name, _ in page.elements}
-    require(found <= allowed, f"elements: {sorted(found - allowed)}")
+    need(found <= allowed, f"elements: {sorted(found - allowed)}")
     known = {"lang", "charset", "name", "content", "http-equiv", "class", "href", "scope", "data-label", "aria-hidden"}
     known |= {"viewbox", "preserveaspectratio", "width", "height", "x1", "x2", "y1", "y2"}
     names = {key for _, attributes in page.elements for key in attributes}
-    require(names <= known, f"attributes: {sorted(names - known)}")
+    need(names <= known, f"attributes: {sorted(names - known)}")
     links = {each["href"] for each in page.named("a")}
-    require(links <= {"/", "/?refresh=0", "/metrics", "/status.json", "/healthz"}, str(links))
+    need(links <= {"/", "/?refresh=0", "/metrics", "/status.json", "/healthz"}, str(links))
 
 
 @story
@@ -44,7 +45,7 @@ def a_hostile_member(folder):
         {"held": [each.replace(" ", "\x00") for each in wrong]},
         {"peers": ["dropped 0 0 0 0 0 0 0 0", f"site {MARKUP} 0 0 0 0"]},
         {"peers": ["dropped <b>1</b> 0 0 0 0 0 0 0"]},
-        # (Prometheus refuses all of a text that has a sample twice)
+        # (if a sample occurs twice in a text, Prometheus refuses the whole text)
         {"held": [f"web {one} {three.now + 50}", f"web {one} {three.now + 51}", "db none 0"]},
         {"peers": ["dropped 0 0 0 0 0 0 0 0", *[f"site {one} {three.now} 1 2 3"] * 3]},
     ]
@@ -53,15 +54,15 @@ def a_hostile_member(folder):
         with all_of([three.fake(one), three.fake(two, **case), three.fake(third)]), served(three.path) as site:
             page, text, told = site.page(), site.get("/metrics"), site.document()
         is_harmless(page)
-        require("alert(1)" not in text and MARKUP not in text, text)
+        need("alert(1)" not in text and MARKUP not in text, text)
         names = {name for name, _ in metrics_of(text)}
         before = before or names
-        require(names <= before | {"booth_ticket_problem"}, str(names - before))
+        need(names <= before | {"booth_ticket_problem"}, str(names - before))
         kinds = {each["kind"] for each in told["problems"]}
-        require(kinds & {"bad", "partly", "other-file"}, str(kinds))
-    # (what it said is shown, as a text)
+        need(kinds & {"bad", "partly", "other-file"}, str(kinds))
+    # (the page shows the member's answer as a text)
     with all_of([three.fake(one), three.fake(two, held=listed), three.fake(third)]), served(three.path) as site:
-        require(NAME in site.page().words, site.page().words)
+        need(NAME in site.page().words, site.page().words)
 
 
 @story
@@ -87,8 +88,8 @@ def hostile_names_and_logs(folder):
         page, text = site.page(), site.get("/metrics")
         told = json.loads(site.get("/status.json"))
     is_harmless(page)
-    require(name in page.words and MARKUP in page.words and 'x"} 1\\nbooth_status 0' in page.words, page.words)
+    need(name in page.words and MARKUP in page.words and 'x"} 1\\nbooth_status 0' in page.words, page.words)
     samples = metrics_of(text)
     require_same([each for each in samples if each[0] == "booth_status"], [("booth_status", frozenset())])
-    require(any(("ticket", name) in labels for _, labels in samples), "the name is no label")
+    need(any(("ticket", name) in labels for _, labels in samples), "the name is no label")
     require_same(told["tickets"][0]["name"], name)

@@ -14,8 +14,9 @@ from typing import Any, Dict, Iterator, List, NamedTuple, Optional, Tuple
 
 import console_serving
 import console_http
+from checks import need
 from service_stories import Machine
-from status_runs import require, require_same
+from status_runs import require_same
 
 stories = []
 # what an answer may take, in seconds, on a busy machine
@@ -112,7 +113,7 @@ class Page(HTMLParser):
         self.heading, self.words, self.style = "", "", ""
         self.feed(text)
         self.close()
-        require(not self.open, f"the page does not close {self.open}")
+        need(not self.open, f"the page does not close {self.open}")
 
     def handle_starttag(self, tag: str, attrs: List[Tuple[str, Optional[str]]]) -> None:
         self.elements.append((tag, dict(attrs)))
@@ -129,7 +130,7 @@ class Page(HTMLParser):
         self.elements.append((tag, dict(attrs)))
 
     def handle_endtag(self, tag: str) -> None:
-        require(self.open and self.open[-1] == tag, f"the page closes {tag} in {self.open}")
+        need(self.open and self.open[-1] == tag, f"the page closes {tag} in {self.open}")
         self.open.pop()
 
     def handle_data(self, data: str) -> None:

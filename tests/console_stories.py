@@ -14,11 +14,12 @@ import threading
 import time
 
 import console_http
+from checks import need
 from console_runs import Logged, Page, served, story
 from look_stories import Three, all_of, date, well
 from serving import own_addresses
 from service_stories import LIVE
-from status_runs import TOP, document, in_time, metrics_of, refuses, require, require_same, sample
+from status_runs import TOP, document, in_time, metrics_of, refuses, require_same, sample
 
 # 2026-11-27 11:59:48 and 12:14:50 UTC
 FIRST, SECOND = 1_795_780_788, 1_795_781_690
@@ -36,7 +37,7 @@ def every_path_answers(folder):
     types = {"/": "text/html", "/metrics": "text/plain; version=0.0.4", "/status.json": "application/json"}
     for path, answer in answers.items():
         require_same(answer.status, 200, f"{path}: ")
-        require(answer.headers["content-type"].startswith(types.get(path, "text/plain")), f"{path}: {answer.headers}")
+        need(answer.headers["content-type"].startswith(types.get(path, "text/plain")), f"{path}: {answer.headers}")
         require_same(answer.headers["content-length"], str(len(answer.text.encode())), f"{path}: ")
         require_same(answer.headers["cache-control"], "no-store", f"{path}: ")
         require_same(answer.headers["x-content-type-options"], "nosniff", f"{path}: ")
@@ -71,21 +72,21 @@ def what_the_page_shows(folder):
     web, by_hand = page.rows("Tickets")
     require_same(web[:3] + web[4:], ["web", "auto", one, date(three.now + 45), "all",
                                      f"if not renewed, after {free}: {two}", "running here"])
-    require(web[3] in ("45 s of 60 s", "44 s of 60 s", "43 s of 60 s"), web[3])
+    need(web[3] in ("45 s of 60 s", "44 s of 60 s", "43 s of 60 s"), web[3])
     require_same(by_hand, ["db", "manual", two, "no end", "-", "all", "by an operator", "-"])
     # the bar is a hundred wide: the part of the lease that is left, and the renewal that is due at the half of it
     rest, left, line = page.named("rect")[0], page.named("rect")[1], page.named("line")[0]
     require_same((rest["width"], line["x1"], line["x2"]), ("100", "50.0", "50.0"))
-    require(100 * 42 / 60 <= float(str(left["width"])) <= 100 * 45 / 60, str(left))
+    need(100 * 42 / 60 <= float(str(left["width"])) <= 100 * 45 / 60, str(left))
     service, = page.rows("Services of this site")
     require_same(service[:2] + service[3:5], ["web", "● running here", "runs", "0"])
-    require(service[2] in ("42 s", "43 s", "44 s") and service[5] in ("30 s", "29 s", "28 s"), str(service))
+    need(service[2] in ("42 s", "43 s", "44 s") and service[5] in ("30 s", "29 s", "28 s"), str(service))
     members = page.rows("Members")
     require_same([row[0] for row in members], [f"1 site {one}", f"2 site {two}", f"3 arbitrator {third}"])
     require_same([row[3] for row in members][0], "-")
-    require(all(cell.endswith(" s") for cell in (members[0][4], members[1][3], members[2][3])), str(members))
-    require(f"cluster booth, at the site {one}" in page.words, page.words)
-    require("● none" in page.words and "3 of 3 members answer, 2 of 2 tickets are held" in page.words, page.words)
+    need(all(cell.endswith(" s") for cell in (members[0][4], members[1][3], members[2][3])), str(members))
+    need(f"cluster booth, at the site {one}" in page.words, page.words)
+    need("● none" in page.words and "3 of 3 members answer, 2 of 2 tickets are held" in page.words, page.words)
     # nothing is loaded from anywhere, nothing runs, and it loads itself again if one wants that
     require_same([name for name in ("script", "link", "img", "iframe", "form", "object") if page.named(name)], [])
     links = {attributes["href"] for attributes in page.named("a")}
@@ -110,13 +111,13 @@ def what_is_wrong_is_shown(folder):
         page, health = site.page(), site.ask("/healthz")
     found = page.rows("Problems")
     require_same([row[:2] for row in found], [["✖ critical", "service-down"], ["▲ warning", "one-way"]])
-    require(found[0][2].startswith("web: this site holds it, but its service ended by itself"), found[0][2])
+    need(found[0][2].startswith("web: this site holds it, but its service ended by itself"), found[0][2])
     require_same(page.rows("Tickets")[0][-1], "ended")
     require_same(page.rows("Services of this site")[0][1], "✖ ended")
     # the second member never heard from the third one
     require_same([row[4] for row in page.rows("Members")][2], "✖ never")
     require_same(health.status, 503)
-    require(health.text.startswith("BOOTH CRITICAL: web: this site holds it"), health.text)
+    need(health.text.startswith("BOOTH CRITICAL: web: this site holds it"), health.text)
     with all_of([three.fake(one, three.held(None, None)), three.fake(two, three.held(None, None))]):
         with served(three.path) as site:
             page, health = site.page(), site.ask("/healthz")
@@ -170,7 +171,7 @@ def a_crowd_makes_one_look(folder):
             thread.join()
         require_same([member.asked for member in members], asked)
     # (some may have been refused at once, since only a limited number is served at the same time)
-    require(set(answers) <= {200, 503} and answers.count(200) >= console_http.MOST_REQUESTS, str(answers))
+    need(set(answers) <= {200, 503} and answers.count(200) >= console_http.MOST_REQUESTS, str(answers))
 
 
 def raw(site, data, seconds=5.0, pause=0.0):
@@ -199,14 +200,14 @@ def no_client_holds_it_up(folder):
             site.get("/healthz")
             began = time.monotonic()
             drop = raw(site, b"GET /healthz HTTP/1.1\r\nHost: localhost\r\nX: " + b"y" * 100, pause=0.05)
-            require(time.monotonic() - began < 5, "a slow client is not ended")
-            require(b" 408 " in drop or b"Error" in drop, str(drop))
-            require(raw(site, b"").startswith(b"") and time.monotonic() - began < 6, "a silent client is not ended")
+            need(time.monotonic() - began < 5, "a slow client is not ended")
+            need(b" 408 " in drop or b"Error" in drop, str(drop))
+            need(raw(site, b"").startswith(b"") and time.monotonic() - began < 6, "a silent client is not ended")
             large = raw(site, b"GET / HTTP/1.1\r\n" + b"X: " + b"y" * 9000 + b"\r\n\r\n")
-            require(b" 431 " in large.split(b"\n")[0] or b"Error" in large, str(large[:80]))
-            require(b" 400 " in raw(site, b"GET / nonsense more\r\n\r\n").split(b"\n")[0], "nonsense")
+            need(b" 431 " in large.split(b"\n")[0] or b"Error" in large, str(large[:80]))
+            need(b" 400 " in raw(site, b"GET / nonsense more\r\n\r\n").split(b"\n")[0], "nonsense")
             idle = [socket.create_connection(site.place) for _ in range(console_http.MOST_REQUESTS + 4)]
-            in_time(lambda: require(b"too many requests" in raw(site, b""), "one too many is served"))
+            in_time(lambda: need(b"too many requests" in raw(site, b""), "one too many is served"))
             for each in idle:
                 each.close()
             in_time(lambda: site.get("/healthz"))
@@ -253,8 +254,8 @@ def the_log_of_the_daemon(folder):
         require_same(sample(metrics_of(site.get("/metrics")), "booth_records_unwritten"), 0)
         with open(f"{folder}/log.asked", encoding="utf-8") as file:
             asked = file.read().splitlines()
-    require("--unit=booth@booth.service" in asked[0] and "--after-cursor" not in asked[0], asked[0])
-    require("--after-cursor=8" in asked[-1] or "--after-cursor=7" in asked[-1], asked[-1])
+    need("--unit=booth@booth.service" in asked[0] and "--after-cursor" not in asked[0], asked[0])
+    need("--after-cursor=8" in asked[-1] or "--after-cursor=7" in asked[-1], asked[-1])
 
 
 @story
@@ -264,15 +265,15 @@ def a_log_that_cannot_be_read(folder):
     with machine.here(), well(three), served(three.path) as site:
         machine.put("log.fails")
         why = "journalctl ended with status 1: No journal files were opened due to insufficient permissions."
-        require(f"The log of the daemon here is not shown: {why}" in site.page().words, site.page().words)
+        need(f"The log of the daemon here is not shown: {why}" in site.page().words, site.page().words)
         require_same(site.document()["no_log"], why)
         require_same(sample(metrics_of(site.get("/metrics")), "booth_records_unwritten"), None)
         machine.drop("log.fails")
         machine.put("log.hangs")
         site.looks_anew()
         began = time.monotonic()
-        require("journalctl ended with status -9" in site.page().words, site.page().words)
-        require(time.monotonic() - began < 10, "it waited too long")
+        need("journalctl ended with status -9" in site.page().words, site.page().words)
+        need(time.monotonic() - began < 10, "it waited too long")
 
 
 @story
@@ -291,7 +292,7 @@ def what_changes_between_looks(folder):
             site.looks_anew()
             found = {row[2] for row in site.page().rows("Last events")}
             more = {f"member {third}: answers", "ticket web: nobody holds it"}
-            require(more < found, str(found))
+            need(more < found, str(found))
             # (it was held when the page looked before)
             free = [each["severity"] for each in site.document()["problems"] if each["kind"] == "free"]
             require_same(free, ["critical"])
@@ -310,7 +311,7 @@ def counters_of_a_minute(folder):
                 site.looks_anew()
                 require_same([each["kind"] for each in site.document()["problems"]], ["dropped"])
     with well(three, held=three.held(None, three.two)), served(three.path, state=state) as site:
-        require("free" in {each["kind"] for each in site.document()["problems"]}, "the holder is forgotten")
+        need("free" in {each["kind"] for each in site.document()["problems"]}, "the holder is forgotten")
         require_same(site.document()["status"], 2)
     # (a full disk does not end it)
     nowhere = f"{folder}/none/state"
@@ -331,7 +332,7 @@ def a_file_that_is_changed(folder):
         why = f"cannot read {three.path}: No such file or directory"
         for path in ("/", "/metrics", "/status.json", "/healthz"):
             answer = site.ask(path)
-            require(answer.status == 503 and why in answer.text, f"{path}: {answer.text}")
+            need(answer.status == 503 and why in answer.text, f"{path}: {answer.text}")
         os.rename(f"{three.path}.old", three.path)
         site.looks_anew()
         site.get("/healthz")
@@ -347,7 +348,7 @@ def the_program_serves_and_ends(folder):
         try:
             line = process.stdout.readline()
             require_same(line, f"booth-status: serves http://{address}:9930/ about {three.path}\n")
-            in_time(lambda: require(os.path.exists(state), "it has not looked yet"))
+            in_time(lambda: need(os.path.exists(state), "it has not looked yet"))
             # another one finds the port in use
             again = [*words, "--serve", f"{address}:9930"]
             done = subprocess.run(again, timeout=SECONDS_OF_A_START, check=False, **streams)

@@ -20,6 +20,7 @@ HERE = os.path.dirname(os.path.abspath(__file__))
 TOP = os.path.dirname(HERE)
 sys.path[:0] = [HERE, f"{TOP}/tools"]
 
+from checks import Wrong, need
 from members import Cluster, Member, Times, now, remember, wait_for
 from scratch import scratch
 from serving import NotServing, built_program, end_by_signals, own_addresses
@@ -84,17 +85,8 @@ int statx(int folder, const char *restrict path, int flags, unsigned mask, struc
 """
 
 
-class Wrong(Exception):
-    """The host did not do what it must."""
-
-
 class LeftOut(Exception):
     """This machine does not allow what a check needs."""
-
-
-def require(holds, why):
-    if not holds:
-        raise Wrong(why)
 
 
 def run_keeps(keeps, directory, count=0):
@@ -111,7 +103,7 @@ def what_is_no_regular_file_is_refused(folder, keeps, **_):
     delays nothing.
     """
     directory, away = os.path.join(folder, "kinds"), os.path.join(folder, "away")
-    require(run_keeps(keeps, directory, 1)[0] == 0, "a run in a new directory")
+    need(run_keeps(keeps, directory, 1)[0] == 0, "a run in a new directory")
     makers = {"pipe": os.mkfifo, "directory": os.mkdir, "link": lambda path: os.symlink(away, path)}
     for name, refusal in ((RECORD, "cannot read the record of ticket"), (CLOCK, "cannot read the clock of the records")):
         path = os.path.join(directory, name)
@@ -120,10 +112,10 @@ def what_is_no_regular_file_is_refused(folder, keeps, **_):
             make(path)
             status, _, said = run_keeps(keeps, directory, 1)
             is_refused = status == 1 and refusal in said and "it is no regular file" in said
-            require(is_refused, f"a {kind} as {name}: {status}, {said}")
+            need(is_refused, f"a {kind} as {name}: {status}, {said}")
             os.rename(path, os.path.join(folder, f"{name}-{kind}"))
         os.rename(away, path)
-    require(run_keeps(keeps, directory)[:2] == (0, "read 1\n"), "the record is read again")
+    need(run_keeps(keeps, directory)[:2] == (0, "read 1\n"), "the record is read again")
     return "a pipe, a directory and a link, as a record and as the clock"
 
 
@@ -136,7 +128,7 @@ def a_boot_takes_the_wall_clock_anew(folder, keeps, **_):
     """
     directory = os.path.join(folder, "boots")
     path = os.path.join(directory, CLOCK)
-    require(run_keeps(keeps, directory)[0] == 0, "a run in a new directory")
+    need(run_keeps(keeps, directory)[0] == 0, "a run in a new directory")
 
     def run_with(clock):
         with open(path, "wb") as file:
@@ -148,20 +140,20 @@ def a_boot_takes_the_wall_clock_anew(folder, keeps, **_):
     with open(path, "rb") as file:
         first = file.read()
     off = number_at(first, 8) + int(time.clock_gettime(time.CLOCK_BOOTTIME) * 1000) - int(now() * 1000)
-    require(len(first) == 60 and abs(off) <= 5, f"{len(first)} bytes, {off} ms off the wall clock")
+    need(len(first) == 60 and abs(off) <= 5, f"{len(first)} bytes, {off} ms off the wall clock")
     ahead = first[:8] + (number_at(first, 8) + HOUR_MS).to_bytes(8, "big") + first[16:]
     status, _, kept = run_with(ahead)
-    require(status == 0 and kept[8:16] == ahead[8:16], "the offset of this boot stays")
+    need(status == 0 and kept[8:16] == ahead[8:16], "the offset of this boot stays")
     other = kept[:24] + kept[24:].replace(kept[24:25], b"x")
     status, said, _ = run_with(other)
-    require(status == 1 and "behind a reading that was reached before" in said, f"a reading ahead: {status}, {said}")
+    need(status == 1 and "behind a reading that was reached before" in said, f"a reading ahead: {status}, {said}")
     status, _, anew = run_with(other[:16] + first[16:24] + other[24:])
-    require(status == 0 and abs(number_at(anew, 8) - number_at(first, 8)) <= 5, "it is taken anew")
-    require(anew[24:] == first[24:], "by the id of this boot")
+    need(status == 0 and abs(number_at(anew, 8) - number_at(first, 8)) <= 5, "it is taken anew")
+    need(anew[24:] == first[24:], "by the id of this boot")
     for name, clock in (("short", first[:59]), ("long", first + b"\0"), ("of another version", b"\1" + first[1:])):
         status, said, left = run_with(clock)
         is_refused = status == 1 and "booth.clock has no valid content" in said and left == clock
-        require(is_refused, f"a file that is {name}: {said}")
+        need(is_refused, f"a file that is {name}: {said}")
     return "its own boot keeps it, and a file that is no clock is refused and stays"
 
 
@@ -178,7 +170,7 @@ def built_library(folder, name, text):
 
 def a_pipe_in_the_place_of_a_lock_holds_up_nobody(folder, boothd, **_):
     """A pipe that takes the lock's place between the check of the lock and its opening delays nobody. (As root, a
-    status command waited for ever.)
+    status command waited without end.)
     """
     if boothd is None:
         raise LeftOut("boothd is not built")
@@ -188,10 +180,10 @@ def a_pipe_in_the_place_of_a_lock_holds_up_nobody(folder, boothd, **_):
     environ = {"LD_PRELOAD": built_library(folder, "swap", SWAP), "BOOTH_LOCK": lock, "BOOTH_PIPE": pipe}
     how = {"stdin": subprocess.DEVNULL, "capture_output": True, "text": True, "timeout": SECONDS_OF_A_RUN}
     done = subprocess.run([boothd, "status", "-l", lock], env={**os.environ, **environ}, **how)
-    require(not os.path.exists(pipe), "the pipe was not put in its place")
+    need(not os.path.exists(pipe), "the pipe was not put in its place")
     said = f"boothd: {lock}: it is no regular file\nboothd: cannot lock {lock}\n"
     found = (done.returncode, done.stdout, done.stderr)
-    require(found == (1, "", said), f"status, printed, said: {found}")
+    need(found == (1, "", said), f"status, printed, said: {found}")
     return "the lock is refused"
 
 
@@ -236,25 +228,25 @@ def steps_of_the_wall_clock_do_not_touch_a_lease(folder, boothd, **_):
         one = cluster.members[0]
         granted = one.about("CGnt")
         shown = wait_for(lambda: cluster.shown_by_all() == one.address, 10)
-        require(shown, f"a grant is told {granted}: {one.printed()}")
+        need(shown, f"a grant is told {granted}: {one.printed()}")
         for seconds, words, looks in STEPS:
             step(seconds)
             end = time.monotonic() + looks
             told = wait_for(lambda: said_of(one, words), 3)
-            require(told and is_told(told[0], seconds), f"a step to {seconds} s: {one.printed()}")
+            need(told and is_told(told[0], seconds), f"a step to {seconds} s: {one.printed()}")
             while time.monotonic() < end:
-                require(one.record().holds(now()), f"after a step to {seconds} s it renews no more")
+                need(one.record().holds(now()), f"after a step to {seconds} s it renews no more")
                 time.sleep(0.1)
-            require(cluster.shown_by_all() == one.address, f"after a step to {seconds} s others list another")
-            require(len(said_of(one, words)) == 1, f"it is told again: {one.printed()}")
+            need(cluster.shown_by_all() == one.address, f"after a step to {seconds} s others list another")
+            need(len(said_of(one, words)) == 1, f"it is told again: {one.printed()}")
         step(-60)
         one.kill()
         one.start(boothd, cluster.conf)
-        require(wait_for(lambda: said_of(one, "ms behind"), 3), f"a start tells nothing: {one.printed()}")
+        need(wait_for(lambda: said_of(one, "ms behind"), 3), f"a start tells nothing: {one.printed()}")
         until = one.record().until
         renewed = wait_for(lambda: one.record().until > until, TIMES.expire)
-        require(renewed and one.record().holds(now()), f"a start with a wall clock that was set: {one.printed()}")
-        require(not cluster.watch.wrong and cluster.watch.is_looking(), f"two held: {cluster.watch.wrong[:3]}")
+        need(renewed and one.record().holds(now()), f"a start with a wall clock that was set: {one.printed()}")
+        need(not cluster.watch.wrong and cluster.watch.is_looking(), f"two held: {cluster.watch.wrong[:3]}")
     return "it renews through steps of -60 s, +90 s and -30 s, each told once, and through a start behind one"
 
 
@@ -327,7 +319,7 @@ def within_a_network(boothd, folder):
     to_silent, failed = (sum(each[place] for each in silent) for place in (1, 2))
     told = f"{sent} sent to the live one, {errors} failed; {to_silent} to {len(silent)} silent ones, {failed} failed; "
     told += f"the slowest answer took {max(waits) * 1000:.0f} ms"
-    require(sent > TICKETS and errors == 0, f"{told}; {said}")
+    need(sent > TICKETS and errors == 0, f"{told}; {said}")
     return told
 
 
@@ -339,7 +331,7 @@ def silent_neighbours_cost_a_live_one_nothing(folder, boothd, **_):
     done = subprocess.run(words, capture_output=True, text=True, check=False)
     if done.returncode == NOT_CHECKED or "unshare" in done.stderr:
         raise LeftOut((done.stdout + done.stderr).strip())
-    require(done.returncode == 0, (done.stdout + done.stderr).strip())
+    need(done.returncode == 0, (done.stdout + done.stderr).strip())
     return done.stdout.strip()
 
 

@@ -13,10 +13,11 @@ from typing import Callable, Dict, Iterator, List, Tuple
 
 import doctor_machine
 import pacemaker_status
+from checks import need
 from fake_members import FakeMember
 from look_stories import PORT, Three, all_of, well
 from service_stories import GONE, LIVE, Machine
-from status_runs import refuses, require, require_same, status, story
+from status_runs import refuses, require_same, status, story
 
 KEY = b"a-key-of-the-cluster"
 NOBODY = 65_534
@@ -115,7 +116,7 @@ def keyed(folder: str) -> Tuple[Three, str]:
 def answers(path: str, *words: str) -> Tuple[int, Dict[str, List[Tuple[str, str]]]]:
     """The status of the doctor, and its answers to each question: the word, and the text with what to do."""
     ran = status("--doctor", "-c", path, "-j", *words)
-    require(not ran.said, ran.said)
+    need(not ran.said, ran.said)
     told = json.loads(ran.printed)
     require_same((told["version"], told["status"]), (1, ran.status))
     found: Dict[str, List[Tuple[str, str]]] = {}
@@ -152,13 +153,13 @@ def a_machine_on_which_all_is_well(folder):
     require_same(worst(found, "clock"), ("ok", clock))
     require_same(worst(found, "followers"), ("ok", "web: running here, and its follower runs"))
     require_same(worst(found, "watchdog"), ("ok", "systemd uses the hardware watchdog, 10 s"))
-    require(worst(found, "fragments")[0] == "unknown" and "--members" in worst(found, "fragments")[1], str(found))
+    need(worst(found, "fragments")[0] == "unknown" and "--members" in worst(found, "fragments")[1], str(found))
     lines = [line.split() for line in ran.printed.splitlines()]
     require_same([line[1] for line in lines if line and line[0] in ("ok", "unknown")][:5], names[:5])
-    require(lines[-1][0] in ("OK:", "WARNING:") and brief.printed.startswith("BOOTH "), str(lines[-1]))
+    need(lines[-1][0] in ("OK:", "WARNING:") and brief.printed.startswith("BOOTH "), str(lines[-1]))
     # (without the user booth here, it is unknown too whether the daemon can read the key)
     counts = ": 14 questions, 0 problems, [01] warnings?, (1 answer|2 answers) unknown$"
-    require(re.search(counts, ran.printed.rstrip()), ran.printed)
+    need(re.search(counts, ran.printed.rstrip()), ran.printed)
     require_same(brief.printed.count("\n"), 1)
 
 
@@ -210,8 +211,8 @@ def what_the_doctor_finds(folder):
             with machine.seen():
                 result, found = answers(three.path)
             said = worst(found, question)
-            require(said[0] == word and text in said[1], f"{question}: {said}, and not {word} with {text!r}")
-            require(result >= {"problem": 2, "warning": 1}.get(word, 0), f"{question}: the status is {result}")
+            need(said[0] == word and text in said[1], f"{question}: {said}, and not {word} with {text!r}")
+            need(result >= {"problem": 2, "warning": 1}.get(word, 0), f"{question}: the status is {result}")
 
 
 @story
@@ -226,15 +227,15 @@ def what_the_doctor_finds_at_members(folder):
         require_same(result, 2)
         require_same(worst(found, "members"), ("warning", f"{three.third}: no daemon listens at port {PORT}"))
         refused = f"no connection to port {PORT} at {three.two} (Connection refused)"
-        require(worst(found, "tcp")[1].startswith(refused), str(found["tcp"]))
+        need(worst(found, "tcp")[1].startswith(refused), str(found["tcp"]))
         require_same(worst(found, "key")[0], "warning")
-        require(f"{folder}/handler: the user booth may not run it" in worst(found, "handler")[1], str(found["handler"]))
+        need(f"{folder}/handler: the user booth may not run it" in worst(found, "handler")[1], str(found["handler"]))
         os.chmod(f"{folder}/handler", 0o755)
         require_same(worst(answers(three.path)[1], "handler"), ("ok", f"web: its handler {folder}/handler can be run"))
         os.remove(f"{folder}/handler")
         os.makedirs(f"{folder}/handler/inner")
         text = worst(answers(three.path)[1], "handler")[1]
-        require("inner: is no regular file" in text, text)
+        need("inner: is no regular file" in text, text)
     missing = os.path.join(folder, "none.conf")
     ran = status("--doctor", "-c", missing)
     require_same((ran.status, ran.printed.splitlines()[0].split()[:2]), (2, ["problem", "configuration"]))
@@ -276,20 +277,20 @@ def a_disk_that_is_full_or_slow(folder):
     with machine.seen(), well(three):
         with instead("LEAST_BYTES", 10**30):
             word, text = worst(answers(three.path)[1], "disk")
-            require(word == "warning" and text.endswith("make room: df") and " MB are free (" in text, text)
+            need(word == "warning" and text.endswith("make room: df") and " MB are free (" in text, text)
         with instead("LEAST_BYTES", 10**30), instead("LEAST_RECORDS", 10**30):
             require_same(worst(answers(three.path)[1], "disk")[0], "problem")
         # of a lease of 60 s, 30 s are left at its renewal, so a write may take 10 s: three syncs of 3.33 s each
         with instead("syncs_in", lambda _: [0.01] * 19 + [3.4]):
             word, text = worst(answers(three.path)[1], "sync")
             longest = "the longest of 20 took 3400.00 ms, and a write of three may take 10000 ms"
-            require(word == "warning" and longest in text, text)
+            need(word == "warning" and longest in text, text)
         with instead("syncs_in", lambda _: [0.01] * 19 + [3.3]):
             require_same(worst(answers(three.path)[1], "sync")[0], "ok")
         # a renewal takes six syncs: with 5 s each these are the 30 s that are left
         with instead("syncs_in", lambda _: [5.0] * 20):
             word, text = worst(answers(three.path)[1], "sync")
-            require(word == "problem" and "the renewals of all tickets take 30.0 s on the disk" in text, text)
+            need(word == "problem" and "the renewals of all tickets take 30.0 s on the disk" in text, text)
 
 
 class Walled(FakeMember):

@@ -13,7 +13,7 @@ from typing import Dict, Iterator, List, Set
 TOP = os.path.dirname(os.path.dirname(os.path.abspath(__file__)))
 MOST_LINES_OF_README = 100
 MOST_BYTES_OF_OPERATING = 20_000
-# (the folders of builds; and the text with entries about earlier files)
+# (folders that builds write; `OLD_TEXTS` has a text that names files of earlier versions)
 SKIPPED_FOLDERS = {"out", "__pycache__"}
 # the folders of the tree; a checkout may have others too
 FOLDERS = [".ci", "bench", "crates", "docs", "examples", "man", "packaging", "tests", "tools"]

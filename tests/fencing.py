@@ -1,5 +1,5 @@
 #!/usr/bin/env python3
-"""Holds the fences in examples/ to docs/HANDLERS.md: what a paused holder writes late is refused by its lease's term.
+"""Holds the fences in examples/ to docs/HANDLERS.md: by the lease's term they refuse late writes of a paused holder.
 
 Run it as `python3 tests/fencing.py [BOOTHD BOOTH BOOTH-FOLLOW]`, by default those that `make build` leaves. It
 takes a minute, prints a line for each check, ends all that it started, and has the status 1 if a check failed. If a
@@ -7,7 +7,7 @@ program is not built it checks no cluster; if PostgreSQL is missing, only the st
 
 The last story has two sites, whose services write to each store twice: once with the term of the lease, and once
 without it. The holder's daemon, follower and service are stopped by SIGSTOP until the other site has taken over. Then
-the service goes on first. Without the term the store takes what it writes late; with the term it takes nothing of it.
+the service continues first. Without the term the store accepts its late writes; with the term it accepts none.
 """
 
 import contextlib
@@ -20,12 +20,12 @@ from typing import Callable, Dict, Iterator, List, NamedTuple, Optional
 HERE = os.path.dirname(os.path.abspath(__file__))
 sys.path[:0] = [HERE, f"{HERE}/../tools"]
 
+from checks import need
 from fencing_stores import Postgres, Store, postgres_lacks
 from following import Services
 from members import TICKET, Cluster, Member, Times, now, wait_for
 from scratch import scratch
 from serving import built_program, end_by_signals, own_addresses
-from shells import Wrong, need
 from stories import PATIENCE, grants, passed
 
 TIMES = Times(expire=10)
@@ -187,7 +187,7 @@ def judge(scene: Scene, target: str) -> None:
     need(not lost, f"{target}: writes of the new holder are refused: {lost[:2]}")
     if target.startswith("!"):
         need(late > 0 and not refused, f"{target}: no late write is taken without the term, so this shows nothing")
-        passed(f"{target[1:]} without the term takes {late} writes of the old holder behind the new one's first")
+        passed(f"{target[1:]} without the term takes {late} writes of the old holder after the new one's first write")
         return
     need(late == 0, f"{target}: {late} writes of the old holder behind the new one's first")
     need(refused and all("a later holder has shown" in line.text for line in refused), f"{target}: {refused}")

@@ -11,8 +11,8 @@ import subprocess
 import sys
 from typing import Dict, List, NamedTuple, Optional, Tuple
 
+from checks import Wrong, need
 from postgresql_sites import OWNER, programs
-from shells import Wrong, need
 
 TOP = os.path.dirname(os.path.dirname(os.path.abspath(__file__)))
 STORE = f"{TOP}/examples/fenced_store.py"

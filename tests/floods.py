@@ -32,7 +32,8 @@ TOP = os.path.dirname(HERE)
 sys.path[:0] = [HERE, f"{TOP}/tools"]
 
 import frames
-from devices import LeftOut, Wrong, require
+from checks import Wrong, need
+from devices import LeftOut
 from members import Cluster, Member, Times, now, wait_for
 from scratch import scratch
 from serving import NotServing, built_program, end_by_signals, own_addresses
@@ -110,8 +111,8 @@ class Renewals(threading.Thread):
         """Returns what was seen in this many seconds. Raises an error for what must not happen."""
         due = len(TICKETS) * int(seconds // TIMES.renewal)
         told = f"{len(self.renewals)} renewals; it printed {self.member.printed().decode()!r}"
-        require(not self.lapsed, f"leases have lapsed: {sorted(set(self.lapsed))}; {told}")
-        require(len(self.renewals) >= due, f"{len(self.renewals)} renewals, and {due} were due")
+        need(not self.lapsed, f"leases have lapsed: {sorted(set(self.lapsed))}; {told}")
+        need(len(self.renewals) >= due, f"{len(self.renewals)} renewals, and {due} were due")
         late = sum(renewal.seconds >= TIMES.timeout for renewal in self.renewals)
         slowest = max(renewal.seconds for renewal in self.renewals)
         return f"{len(self.renewals)} renewals, {late} by a second round, the slowest in {slowest * 1000:.0f} ms"
@@ -168,7 +169,7 @@ class Commands:
 
     def told(self) -> str:
         """Returns the results of the commands. Raises an error for what must not happen."""
-        require(not self.wrong, f"{len(self.wrong)} of {len(self.took)} commands: {self.wrong[:3]}")
+        need(not self.wrong, f"{len(self.wrong)} of {len(self.took)} commands: {self.wrong[:3]}")
         told = f"{len(self.took)} commands over TCP, the slowest in {max(self.took):.2f} s"
         return f"{told}; {self.answered} of {self.asked} lists over UDP"
 
@@ -237,9 +238,9 @@ def begin(cluster: Cluster) -> Member:
     cluster.start()
     one = cluster.members[0]
     for ticket in TICKETS:
-        require(one.about("CGnt", ticket) in ("ok", "Asyn"), "a grant is not taken")
+        need(one.about("CGnt", ticket) in ("ok", "Asyn"), "a grant is not taken")
     is_held = wait_for(lambda: all(one.record(ticket).holds(now()) for ticket in TICKETS), SLACK)
-    require(is_held, "the granted tickets are not held")
+    need(is_held, "the granted tickets are not held")
     return one
 
 
@@ -256,7 +257,7 @@ def through_a_flood(cluster: Cluster, booth: str, sender: str, flood: Flood) -> 
     told = f"{sum(sent) / took:,.0f} a second sent, {used * 100:.0f} % of a processor"
     drops = ", ".join(f"{count:,} from {peer}" for peer, count in dropped_by_source(one.address).items())
     print(f"   {flood.kind}: {told}; dropped by the system: {drops}", flush=True)
-    require(not cluster.watch.wrong, f"two held: {cluster.watch.wrong[:3]}")
+    need(not cluster.watch.wrong, f"two held: {cluster.watch.wrong[:3]}")
     return f"{renewals.told(took)}; {commands.told()}"
 
 

@@ -1,5 +1,5 @@
 #!/usr/bin/env python3
-"""Holds services that follow their ticket on three real boothd to it: started if it is held, stopped before it ends.
+"""Checks services that follow a ticket of three real boothd: they start if it is held, and stop before its lease ends.
 
 Run it as `python3 tests/follow.py [BOOTHD BOOTH BOOTH-FOLLOW]`, by default those that `make build` leaves. It takes
 less than a minute, prints a line for each check, ends all that it started, and has the status 1 if a check failed.
@@ -24,11 +24,12 @@ TOP = os.path.dirname(HERE)
 sys.path[:0] = [HERE, f"{TOP}/tools"]
 
 import frames
+from checks import Wrong, need
 from following import Services
 from members import TICKET, Cluster, Times, now, wait_for
 from scratch import scratch
 from serving import built_program, end_by_signals, own_addresses
-from stories import PATIENCE, Wrong, grants, passed, require, slack
+from stories import PATIENCE, grants, passed, slack
 
 TIMES = Times(expire=10)
 # (the times leave room between the margin and a renewal for the time in which the key is read again)
@@ -65,20 +66,20 @@ def begun(cluster, services):
     for site in (one, two):
         services.follow(site)
     grants(cluster, 0)
-    require(services.await_up(one, PAUSE + PATIENCE), "the service does not start where the ticket is held")
-    require(not services.is_up(two), "the service starts where the ticket is not held")
+    need(services.await_up(one, PAUSE + PATIENCE), "the service does not start where the ticket is held")
+    need(not services.is_up(two), "the service starts where the ticket is not held")
     return one, two
 
 
 def stops_in_time(services, site, until, margin=MARGIN):
     """Checks that the site's service stops by itself before the end of its lease, and not before the margin begins."""
-    require(services.await_down(site, until - now() + PATIENCE), "the service runs on")
+    need(services.await_down(site, until - now() + PATIENCE), "the service runs on")
     last = max(spell.last for spell in services.spells() if spell.site == site.address)
     _, listed = services.runs(site)[-1]
-    require(last < until, f"the service wrote {last - until:.3f} s after the lease's end")
-    require(listed <= until, f"a list told an end {listed - until:.3f} s after the lease's")
+    need(last < until, f"the service wrote {last - until:.3f} s after the lease's end")
+    need(listed <= until, f"a list told an end {listed - until:.3f} s after the lease's")
     # (the last line may be as old as the interval between lines, and late on a busy machine)
-    require(listed - margin - 0.5 < last, f"the service stopped {listed - last:.3f} s before the end that was listed")
+    need(listed - margin - 0.5 < last, f"the service stopped {listed - last:.3f} s before the end that was listed")
     return until - last
 
 
@@ -86,22 +87,22 @@ def stops_in_time(services, site, until, margin=MARGIN):
 def key_and_a_holder_that_is_killed(cluster, services):
     """a holder's daemon that is killed"""
     one, two = begun(cluster, services)
-    passed("a service is started where its ticket is held, and nowhere else; each answer is signed")
+    passed("a service starts only at the site that holds its ticket; each answer is signed")
     first = one.record().term
-    require(services.started_with(one) == first, f"term {first} is started with {services.started_with(one)}")
+    need(services.started_with(one) == first, f"term {first} is started with {services.started_with(one)}")
     one.kill()
     killed, until = now(), one.record().until
     left = stops_in_time(services, one, until)
-    passed(f"it is stopped {left:.2f} s before the lease's end, though nobody answers")
-    require(services.await_up(two, until - now() + PATIENCE), "the other site's service does not start")
+    passed(f"if no member answers, it is stopped {left:.2f} s before the lease's end")
+    need(services.await_up(two, until - now() + PATIENCE), "the other site's service does not start")
     died, ended = now() - killed, now() - until
     passed(f"the other site's service is up {died:.2f} s after the holder's death, {ended:.2f} s after the lease's end")
     term = services.started_with(two)
-    require(first < term == two.record().term, f"after term {first} term {two.record().term} is started with {term}")
-    passed(f"each program is handed the term of its site's lease: {first}, and then {term}")
+    need(first < term == two.record().term, f"after term {first} term {two.record().term} is started with {term}")
+    passed(f"each program gets the term of its site's lease: {first}, and then {term}")
     one.start(cluster.program, cluster.conf)
     time.sleep(2)
-    require(not services.is_up(one), "it is started where the ticket is not held any more")
+    need(not services.is_up(one), "it is started where the ticket is not held any more")
     passed("the first site's service stays stopped when its daemon is back")
 
 
@@ -112,9 +113,9 @@ def ends_of_a_lease(cluster, services):
     armed = lambda: sum(word == "renew" for word, _ in services.runs(one))
     before, renewals = armed(), 4
     time.sleep(renewals * TIMES.renewal)
-    # (from answer to answer the end of one lease seems to be a millisecond later, and now and then a run is made for that)
+    # (each answer shows an end that is a millisecond or so later, so there may be one run more now and then)
     runs = armed() - before
-    require(renewals - 1 <= runs <= renewals + 2, f"{runs} ends were armed in the time of {renewals} renewals")
+    need(renewals - 1 <= runs <= renewals + 2, f"{runs} ends were armed in the time of {renewals} renewals")
     passed(f"an end is armed for each renewal of the lease, and not for each answer: {runs} in the time of {renewals}")
 
 
@@ -127,12 +128,12 @@ def a_way_that_is_cut(cluster, services):
         member.server.process.send_signal(signal.SIGSTOP)
     until = one.record().until
     left = stops_in_time(services, one, until)
-    require(one.shown() == one.address or now() > until, "the holder lists another")
-    passed(f"where no lease is renewed the service is stopped {left:.2f} s before its end, though this site is listed")
+    need(one.shown() == one.address or now() > until, "the holder lists another")
+    passed(f"without renewals the service is stopped {left:.2f} s before the lease's end, although this site is listed")
     for member in others:
         member.server.process.send_signal(signal.SIGCONT)
     up = wait_for(lambda: services.is_up(one) or services.is_up(two), PATIENCE)
-    require(up, "no service starts once the way is back")
+    need(up, "no service starts once the way is back")
     passed("a service is started again once the others are back")
 
 
@@ -146,13 +147,13 @@ def a_daemon_that_stands_still_and_a_slow_stop(cluster, services):
     left = stops_in_time(services, one, until)
     # (if the machine has no processor for it, no stop is done in time)
     is_killed = "kill" in services.words(one)
-    require(not is_killed or slack() > KILL, f"it was run with {services.words(one)}")
-    require(services.await_up(two, until - now() + PATIENCE), "the other site's service does not start")
-    passed(f"a stop that takes 0.4 s is waited for, and is over {left:.2f} s before the lease's end")
+    need(not is_killed or slack() > KILL, f"it was run with {services.words(one)}")
+    need(services.await_up(two, until - now() + PATIENCE), "the other site's service does not start")
+    passed(f"the follower waits for a stop of 0.4 s, which is over {left:.2f} s before the lease's end")
     one.server.process.send_signal(signal.SIGCONT)
     time.sleep(2)
-    require(not services.is_up(one), "the service is started by what the daemon listed before it heard the others")
-    passed("a daemon that goes on after its lease starts no service")
+    need(not services.is_up(one), "the service is started by what the daemon listed before it heard the others")
+    passed("if a daemon continues after its lease has ended, no service starts")
 
 
 @story
@@ -164,9 +165,9 @@ def a_stop_that_hangs(cluster, services):
     until = one.record().until
     left = stops_in_time(services, one, until, KILL)
     words = services.words(one)
-    require(words[-2:] == ["stop", "kill"], f"it was run with {words}")
-    require(services.await_up(two, until - now() + PATIENCE), "the other site's service does not start")
-    passed(f"where a stop hangs the service is killed {left:.2f} s before the lease's end")
+    need(words[-2:] == ["stop", "kill"], f"it was run with {words}")
+    need(services.await_up(two, until - now() + PATIENCE), "the other site's service does not start")
+    passed(f"if a stop hangs, the service is killed {left:.2f} s before the lease's end")
 
 
 @story
@@ -176,19 +177,19 @@ def a_follower_that_is_killed(cluster, services):
     first = services.process(one)
     services.kill(one)
     time.sleep(1)
-    require(services.process(one) == first, "the service ended with its follower")
-    passed("a follower that is killed leaves its service running, which is why an end is armed for it")
+    need(services.process(one) == first, "the service ended with its follower")
+    passed("if a follower is killed, its service runs on, and its end is armed")
     runs = len(services.words(one))
     services.follow(one)
-    require(wait_for(lambda: len(services.words(one)) > runs, PATIENCE), "the program is not run")
-    require(services.words(one)[runs] == "stop", f"the next one begins with {services.words(one)[runs]}")
+    need(wait_for(lambda: len(services.words(one)) > runs, PATIENCE), "the program is not run")
+    need(services.words(one)[runs] == "stop", f"the next one begins with {services.words(one)[runs]}")
     is_new = lambda: services.process(one) not in (None, first)
-    require(wait_for(is_new, PAUSE + PATIENCE), "the service is not started anew")
+    need(wait_for(is_new, PAUSE + PATIENCE), "the service is not started anew")
     at_one = lambda: [spell for spell in services.spells() if spell.site == one.address]
-    require(wait_for(lambda: len(at_one()) > 1, PATIENCE), "the service writes nothing")
+    need(wait_for(lambda: len(at_one()) > 1, PATIENCE), "the service writes nothing")
     one_by_one = at_one()
-    require(len(one_by_one) == 2 and one_by_one[1].first - one_by_one[0].last >= PAUSE, f"the service ran {one_by_one}")
-    passed("the next follower finds it running, stops it first, and starts it anew after the pause")
+    need(len(one_by_one) == 2 and one_by_one[1].first - one_by_one[0].last >= PAUSE, f"the service ran {one_by_one}")
+    passed("the next follower finds it running, stops it first, and starts it again after the pause")
 
 
 @story
@@ -199,20 +200,20 @@ def a_service_that_is_taken_over(cluster, services):
     services.kill(one)
     ends = lambda: [end for _, end in services.runs(one)]
     services.follow(one, takes_over=True)
-    require(wait_for(lambda: "check" in services.words(one), PATIENCE), "the service is not looked for")
+    need(wait_for(lambda: "check" in services.words(one), PATIENCE), "the service is not looked for")
     last = max(ends())
-    require(wait_for(lambda: max(ends()) > last, TIMES.expire), "no later end is armed")
+    need(wait_for(lambda: max(ends()) > last, TIMES.expire), "no later end is armed")
     time.sleep(TIMES.expire)
-    require(services.process(one) == first, "the service was not left running")
-    require(services.words(one) == ["stop", "start", "check"], f"it was run with {services.words(one)}")
+    need(services.process(one) == first, "the service was not left running")
+    need(services.words(one) == ["stop", "start", "check"], f"it was run with {services.words(one)}")
     passed("the next follower finds it running, and takes it over without a stop")
     services.kill(one)
     one.kill()
     until = one.record().until
     services.follow(one, takes_over=True)
     left = stops_in_time(services, one, until)
-    passed(f"one that hears no list stops what it has taken over {left:.2f} s before the lease's end")
-    require(services.await_up(two, until - now() + PATIENCE), "the other site's service does not start")
+    passed(f"a follower that receives no list stops the adopted service {left:.2f} s before the lease's end")
+    need(services.await_up(two, until - now() + PATIENCE), "the other site's service does not start")
 
 
 def restarted(cluster, services, member):
@@ -221,7 +222,7 @@ def restarted(cluster, services, member):
     member.kill()
     member.start(cluster.program, cluster.conf)
     later = wait_for(lambda: member.record().term > first and member.record().term, TIMES.expire)
-    require(later, f"after a restart the lease has term {member.record().term}, and it had {first}")
+    need(later, f"after a restart the lease has term {member.record().term}, and it had {first}")
     return first, later
 
 
@@ -232,11 +233,11 @@ def a_daemon_that_is_restarted(cluster, services):
     process = services.process(one)
     first, later = restarted(cluster, services, one)
     is_handed = lambda: any(int(term) >= later for _, _, _, term in services.run_lines(one))
-    require(wait_for(is_handed, TIMES.expire), f"no run is handed term {later}: {services.run_lines(one)}")
+    need(wait_for(is_handed, TIMES.expire), f"no run is handed term {later}: {services.run_lines(one)}")
     time.sleep(PAUSE)
-    require(services.process(one) == process, f"the service was not left running: {services.said()}")
-    require(services.words(one) == ["stop", "start"], f"it was run with {services.words(one)}")
-    passed(f"a service runs on with term {first} when its daemon is restarted, though its lease has term {later} then")
+    need(services.process(one) == process, f"the service was not left running: {services.said()}")
+    need(services.words(one) == ["stop", "start"], f"it was run with {services.words(one)}")
+    passed(f"a service runs on with term {first} after its daemon restarts, although its lease then has term {later}")
 
 
 @story
@@ -247,25 +248,25 @@ def a_service_that_is_restarted_for_a_term(cluster, services):
     first, later = restarted(cluster, services, one)
     restarts = ["stop", "start", "stop", "start"]
     is_restarted = wait_for(lambda: services.words(one)[:4] == restarts, PAUSE + PATIENCE)
-    require(is_restarted, f"it was run with {services.words(one)}")
-    require(services.started_with(one) >= later, f"term {later} is started with {services.started_with(one)}")
-    require(services.await_up(one, PATIENCE), "the service is not up")
+    need(is_restarted, f"it was run with {services.words(one)}")
+    need(services.started_with(one) >= later, f"term {later} is started with {services.started_with(one)}")
+    need(services.await_up(one, PATIENCE), "the service is not up")
     time.sleep(TIMES.expire)
     # (on a loaded machine a renewal may fail, and then the lease has one more term)
     terms = services.terms(one)
-    require(terms == sorted(set(terms)), f"it was started with the terms {terms}")
+    need(terms == sorted(set(terms)), f"it was started with the terms {terms}")
     restarts = services.words(one)
     passed(f"a service that was started with term {first} is restarted for each later term: {terms[1:]}")
-    require(b"its lease has another term than at its start" in services.said(), f"no line tells why: {services.said()}")
+    need(b"its lease has another term than at its start" in services.said(), f"no line tells why: {services.said()}")
     services.kill(one)
     services.follow(one, takes_over=True)
     # (the answer with the term may arrive before the check has written its line, and then the check is ended)
     adopted = [*restarts, "stop", "start"]
     without_checks = lambda: [word for word in services.words(one) if word != "check"]
     is_restarted = wait_for(lambda: without_checks()[: len(adopted)] == adopted, PAUSE + PATIENCE)
-    require(is_restarted, f"it was run with {services.words(one)}")
+    need(is_restarted, f"it was run with {services.words(one)}")
     adopts = b"checks whether the service, which an earlier follower left running"
-    require(adopts in services.said(), f"it was not adopted: {services.said()}")
+    need(adopts in services.said(), f"it was not adopted: {services.said()}")
     passed("the next follower does not know the term of its start, and restarts it too")
 
 
@@ -275,13 +276,13 @@ def an_end_that_cannot_be_armed(cluster, services):
     one, two = begun(cluster, services)
     services.set("unarmed", one)
     until = services.runs(one)[-1][1]
-    require(services.await_down(one, TIMES.expire + PATIENCE), "the service runs on")
+    need(services.await_down(one, TIMES.expire + PATIENCE), "the service runs on")
     last = max(spell.last for spell in services.spells() if spell.site == one.address)
-    require(last < until, f"the service wrote {last - until:.3f} s after the end that was armed")
-    passed(f"a service whose lease is renewed, and for which no end can be armed, is stopped {until - last:.2f} s before the last one")
-    require(not services.is_up(two), "the other site's service starts while the lease is renewed")
+    need(last < until, f"the service wrote {last - until:.3f} s after the end that was armed")
+    passed(f"if no end can be armed for a renewal, the service is stopped {until - last:.2f} s before the last end")
+    need(not services.is_up(two), "the other site's service starts while the lease is renewed")
     os.remove(services.path("unarmed", one))
-    require(services.await_up(one, PAUSE + PATIENCE), "it is not started once an end can be armed")
+    need(services.await_up(one, PAUSE + PATIENCE), "it is not started once an end can be armed")
 
 
 @story
@@ -293,14 +294,14 @@ def a_renewal_that_fails_once(cluster, services):
     before = len(renewals())
     services.set("once", one)
     failed = wait_for(lambda: not os.path.exists(services.path("once", one)), HALF_TIMES.renewal + PATIENCE)
-    require(failed, "no later end is to be armed")
+    need(failed, "no later end is to be armed")
     failed_at = now()
-    require(wait_for(lambda: len(renewals()) > before + 1, PATIENCE), f"it is not tried again: {services.runs(one)}")
+    need(wait_for(lambda: len(renewals()) > before + 1, PATIENCE), f"it is not tried again: {services.runs(one)}")
     again = now() - failed_at
     time.sleep(max(0.0, until - now()) + 1)
-    require(services.process(one) == first, f"the service was not left running: {services.said()}")
-    require(services.words(one) == ["stop", "start"], f"it was run with {services.words(one)}")
-    passed(f"a renewal that failed is run again {again:.2f} s later, and the service runs on beyond the end before")
+    need(services.process(one) == first, f"the service was not left running: {services.said()}")
+    need(services.words(one) == ["stop", "start"], f"it was run with {services.words(one)}")
+    passed(f"a failed renewal is run again {again:.2f} s later, and the service runs on beyond the earlier end")
 
 
 @story
@@ -308,15 +309,15 @@ def a_ticket_that_is_moved(cluster, services):
     """a move, with the service stopped first"""
     one, two = begun(cluster, services)
     services.kill(one)
-    require(services.run(one, "stop") == 0 and not services.is_up(one), "the service is not stopped")
+    need(services.run(one, "stop") == 0 and not services.is_up(one), "the service is not stopped")
     ran = one.booth("move", "-w", NAME, two.address)
-    require((ran.status, ran.said) == (0, ""), f"the move: {ran}")
-    require(services.await_up(two, PAUSE + PATIENCE), "the service does not start where the ticket is moved to")
+    need((ran.status, ran.said) == (0, ""), f"the move: {ran}")
+    need(services.await_up(two, PAUSE + PATIENCE), "the service does not start where the ticket is moved to")
     services.follow(one)
     ran = two.booth("revoke", NAME)
-    require(ran.status == 0, f"the revoke: {ran}")
+    need(ran.status == 0, f"the revoke: {ran}")
     revoked = now()
-    require(services.await_down(two, PATIENCE), "the service runs on after a revoke")
+    need(services.await_down(two, PATIENCE), "the service runs on after a revoke")
     passed(f"the service follows a move, and is stopped {now() - revoked:.2f} s after a revoke")
 
 
@@ -329,25 +330,25 @@ def a_move_beside_a_follower(cluster, services):
         before = one.record()
         for words in ((NAME, two.address), ("-w", NAME, two.address)):
             ran = one.booth("move", *words)
-            require(ran.status == 1 and ran.said.startswith(told), f"the move: {ran}")
-        require(one.record().term == before.term and services.is_up(one), "it changed something")
+            need(ran.status == 1 and ran.said.startswith(told), f"the move: {ran}")
+        need(one.record().term == before.term and services.is_up(one), "it changed something")
         passed("it does nothing, and names booth-switchover")
         services.kill(one)
-        require(services.run(one, "stop") == 0 and not services.is_up(one), "the service is not stopped")
+        need(services.run(one, "stop") == 0 and not services.is_up(one), "the service is not stopped")
         ran = one.booth("move", "--force", "-w", NAME, two.address)
-        require((ran.status, ran.said) == (0, ""), f"the move: {ran}")
-        require(services.await_up(two, PAUSE + PATIENCE), "the service does not start where the ticket is moved to")
-        passed("it goes on where it is forced")
+        need((ran.status, ran.said) == (0, ""), f"the move: {ran}")
+        need(services.await_up(two, PAUSE + PATIENCE), "the service does not start where the ticket is moved to")
+        passed("with -f the move is made")
         before = two.record()
         with open(f"{folder}/{NAME}.paused", "w", encoding="ascii"):
             ran = one.booth("move", NAME, two.address)
-        require((ran.status, ran.said) == (0, "") and two.record().term == before.term, f"the move: {ran}")
+        need((ran.status, ran.said) == (0, "") and two.record().term == before.term, f"the move: {ran}")
         os.remove(f"{folder}/{NAME}.paused")
         services.kill(two)
         ran = one.booth("move", NAME, two.address)
-        require((ran.status, ran.said) == (0, "") and services.is_up(two), f"the move: {ran}")
-        passed("it goes on beside one that is paused or was ended, and changes nothing where the site has the ticket")
-    require(services.run(two, "stop") == 0, "the service is not stopped")
+        need((ran.status, ran.said) == (0, "") and services.is_up(two), f"the move: {ran}")
+        passed("it does not refuse if the follower is paused or ended, and changes nothing if the site has the ticket")
+    need(services.run(two, "stop") == 0, "the service is not stopped")
 
 
 @contextlib.contextmanager
@@ -377,10 +378,10 @@ def a_key_that_is_changed(cluster, services):
         time.sleep(2)
     time.sleep(LONG_TIMES.expire)
     said = services.said()
-    require(services.process(one) == first, f"the service was not left running: {said}")
-    require(services.words(one) == ["stop", "start"], f"it was run with {services.words(one)}")
-    require(b"the keys are read again" in said, f"no line tells of the keys: {said}")
-    passed("a follower reads its keys again when its daemon has others, and its service runs on through the steps of a change")
+    need(services.process(one) == first, f"the service was not left running: {said}")
+    need(services.words(one) == ["stop", "start"], f"it was run with {services.words(one)}")
+    need(b"the keys are read again" in said, f"no line tells of the keys: {said}")
+    passed("a follower reads its keys again if its daemon has others; its service runs on in each step of the change")
 
 
 # ---- what is refused
@@ -407,7 +408,7 @@ def words_are_refused(program, folder):
             done = subprocess.run([*base, *words], capture_output=True, text=True, timeout=PATIENCE)
             # (tests/causes.py looks at the line with the cause behind it)
             want = (1, "", f"booth-follow: {text}")
-            require((done.returncode, done.stdout, done.stderr.split("\n")[0]) == want, f"{words}: {done}")
+            need((done.returncode, done.stdout, done.stderr.split("\n")[0]) == want, f"{words}: {done}")
 
         keep_clock(records)
         for words, text in REFUSALS:
@@ -445,11 +446,11 @@ def outcome(place, programs):
             with Cluster(programs[0], folder, own_addresses(), times=times_of(function), client=programs[1], key=key) as cluster:
                 with Services(programs[2], cluster) as services:
                     function(cluster, services)
-                    require(not services.overlaps(), f"two services overlapped: {services.overlaps()}")
-                    require(not cluster.watch.wrong, f"two held at one moment: {cluster.watch.wrong[:3]}")
+                    need(not services.overlaps(), f"two services overlapped: {services.overlaps()}")
+                    need(not cluster.watch.wrong, f"two held at one moment: {cluster.watch.wrong[:3]}")
                     said = services.said().splitlines()
                 strange = [line for line in said if not line.startswith(b"booth-follow: ")]
-                require(said and not strange, f"the followers said {strange or said}")
+                need(said and not strange, f"the followers said {strange or said}")
             passed(f"no two services overlapped ({function.__doc__})")
             passes = True
         except Exception as why:  # (whatever it is, the other stories are told)

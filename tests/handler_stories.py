@@ -7,9 +7,10 @@ import os
 import subprocess
 import time
 
+from checks import need
 from members import MANUAL, SECONDS_OF_BOOTH, Ran, now, wait_for
 from show_stories import shown_by
-from stories import BY_HAND, NAME, PATIENCE, grants, is_held_by, passed, require, says, slack, story
+from stories import BY_HAND, NAME, PATIENCE, grants, is_held_by, passed, says, slack, story
 
 # the handler of a site: it records each run and its descriptors, and then prints, sleeps or fails if a file says so
 HANDLER = """#!/bin/sh
@@ -81,8 +82,8 @@ def answered_meanwhile(member, asker):
     longest, end = 0, time.monotonic() + SECONDS_OF_BOOTH
     while asker.poll() is None:
         asked = time.monotonic()
-        require(asked < end, "a grant that waits does not end")
-        require(member.ask("CLst") is not None, "a list is not answered while the handler runs")
+        need(asked < end, "a grant that waits does not end")
+        need(member.ask("CLst") is not None, "a list is not answered while the handler runs")
         longest = max(longest, time.monotonic() - asked)
         time.sleep(0.01)
     return longest
@@ -103,8 +104,8 @@ def sites_with_a_handler(cluster):
     second.set("prints")
     says(one, ("grant", "-w", NAME), 1, "booth: handler failed\n")
     found = first.runs(), one.record()
-    require(found == ([[NAME, "0", "db8"]], before), f"ran {found[0]}, kept {found[1]}")
-    passed("a grant is refused where the handler fails, and nothing is kept or asked for")
+    need(found == ([[NAME, "0", "db8"]], before), f"ran {found[0]}, kept {found[1]}")
+    passed("if the handler fails, a grant is refused, no record is written and no vote is requested")
     first.clear("fails")
 
     first.set("sleeps", "2")
@@ -116,77 +117,77 @@ def sites_with_a_handler(cluster):
             printed = asker.communicate(timeout=SECONDS_OF_BOOTH)[0]
         finally:
             asker.kill()
-    require((asker.returncode, printed) == (0, f"ticket {NAME} granted\n"), "the grant failed")
-    require(now() - asked > 2, "the grant did not wait for its handler")
-    require(longest < slack(), f"a list took {longest:.2f} s")
+    need((asker.returncode, printed) == (0, f"ticket {NAME} granted\n"), "the grant failed")
+    need(now() - asked > 2, "the grant did not wait for its handler")
+    need(longest < slack(), f"a list took {longest:.2f} s")
     first.clear("sleeps")
     passed(f"a handler that runs delays the grant, and no list ({longest * 1000:.0f} ms at most)")
 
     end, ends = now() + 2 * times.expire, set()
     while now() < end:
         record = one.record()
-        require(record is not None and record.holds(now()), "the lease ended though its handler does not fail")
+        need(record is not None and record.holds(now()), "the lease ended though its handler does not fail")
         ends.add(int(record.until))
         time.sleep(0.02)
     told = {int(run[1]) for run in first.runs()[2:]}
-    require(told and told <= ends, f"the handler was told {told}, and leases ended at {ends}")
-    passed(f"each renewal waits for the handler, which is told the end of the lease ({len(told)} of them)")
+    need(told and told <= ends, f"the handler was told {told}, and leases ended at {ends}")
+    passed(f"each renewal waits for the handler, which gets the end of the lease ({len(told)} renewals)")
 
     held = one.record()
     first.set("fails")
     in_a_renewal = times.renewal + times.timeout + slack()
-    require(wait_for(lambda: one.record().until is None, in_a_renewal), "the lease is kept")
+    need(wait_for(lambda: one.record().until is None, in_a_renewal), "the lease is kept")
     given_back = now()
-    require(wait_for(lambda: is_held_by(cluster, two), PATIENCE), "the other site did not take over")
+    need(wait_for(lambda: is_held_by(cluster, two), PATIENCE), "the other site did not take over")
     took = now() - given_back
-    require(took < 3 * times.timeout + slack(), f"the other site took over after {took:.1f} s")
-    require(not second.runs()[0][1].strip("0"), f"{second.runs()}")
-    passed(f"a handler that begins to fail gives the lease back, and the other site takes over ({took:.1f} s)")
+    need(took < 3 * times.timeout + slack(), f"the other site took over after {took:.1f} s")
+    need(not second.runs()[0][1].strip("0"), f"{second.runs()}")
+    passed(f"if the handler begins to fail, the site releases the lease, and the other site takes over ({took:.1f} s)")
     for handler in (first, second):
         kept_out = handler.read("descriptors")
-        require(kept_out and not any(word in kept_out for word in ("socket", "records", "lock", "journal")), kept_out)
-    passed("no file and no socket of a daemon reaches its handler, which may print, also where its standard streams are closed")
+        need(kept_out and not any(word in kept_out for word in ("socket", "records", "lock", "journal")), kept_out)
+    passed("a handler gets no file or socket of its daemon, and can print even if the daemon's streams are closed")
 
     second.set("sleeps", "30")
-    require(wait_for(lambda: len(second.runs()) > 1, times.renewal + slack()), "no renewal started the handler")
+    need(wait_for(lambda: len(second.runs()) > 1, times.renewal + slack()), "no renewal started the handler")
     last = two.record()
     time.sleep(max(0, last.until + 0.1 - now()))
-    require(two.record() == last and two.shown() != two.address, "a lease is renewed whose handler runs on")
-    require(second.is_running(), "the handler was ended before it was started again")
+    need(two.record() == last and two.shown() != two.address, "a lease is renewed whose handler runs on")
+    need(second.is_running(), "the handler was ended before it was started again")
     second.clear("sleeps")
     pid = second.read("pid")
     says(two, ("grant", "-w", NAME), 0, f"ticket {NAME} granted\n")
-    require(not os.path.exists(f"/proc/{pid.strip()}"), "the handler that ran on runs still")
-    passed("a lease ends whose handler runs on, and that one is ended before the next start")
+    need(not os.path.exists(f"/proc/{pid.strip()}"), "the handler that ran on runs still")
+    passed("if the handler runs on, the lease ends, and the handler is ended before its next start")
 
 
 @story
 def a_handler_and_the_term_of_its_lease(cluster):
-    """a cluster whose handler is told the term of the lease"""
+    """a cluster whose handler gets the term of the lease"""
     one, handler = cluster.members[0], Handler(cluster, cluster.members[0])
     in_a_renewal = cluster.times.renewal + slack()
     cluster.remember()
     cluster.start()
     grants(cluster, 0)
     first = shown_by(one)["term"]
-    require(wait_for(lambda: handler.terms()[1], in_a_renewal), "no renewal started the handler")
+    need(wait_for(lambda: handler.terms()[1], in_a_renewal), "no renewal started the handler")
     # (on a loaded machine the first round may fail, and then the handler is asked again)
     acquired, renewed = handler.terms()
     told = set(acquired) == {"0"} and renewed == [f"{first}"]
-    require(told, f"the lease of term {first}, and told {acquired}, {renewed}")
-    passed("a handler is told the term 0 before an acquisition, and before a renewal the one that booth shows")
+    need(told, f"the lease of term {first}, and told {acquired}, {renewed}")
+    passed("a handler gets the term 0 before an acquisition, and before a renewal the term that booth shows")
 
     one.kill()
     one.start(cluster.program, cluster.conf)
     # (a daemon that was restarted renews first with a new term)
     shown = wait_for(lambda: (term := shown_by(one)["term"]) not in (None, first) and term, in_a_renewal)
-    require(shown, "the lease has no new term")
+    need(shown, "the lease has no new term")
     before = handler.terms()[1]
-    require(wait_for(lambda: len(handler.terms()[1]) > len(before), in_a_renewal), "no renewal started the handler")
-    require(len(before) > 1 and set(before) == {f"{first}"}, f"the lease of term {first}, and told {before}")
+    need(wait_for(lambda: len(handler.terms()[1]) > len(before), in_a_renewal), "no renewal started the handler")
+    need(len(before) > 1 and set(before) == {f"{first}"}, f"the lease of term {first}, and told {before}")
     last = handler.terms()
-    require(last == (acquired, [*before, f"{shown}"]), f"the lease of term {shown}, and told {last}")
-    passed(f"after a restart it is told the term of the lease on the disk, {first}, and then that of the new one, {shown}")
+    need(last == (acquired, [*before, f"{shown}"]), f"the lease of term {shown}, and told {last}")
+    passed(f"after a restart it gets the term of the lease on the disk, {first}, and then that of the new one, {shown}")
 
 
 def lists_by_hand(cluster, owner):
@@ -196,7 +197,7 @@ def lists_by_hand(cluster, owner):
     text = f"ticket: {NAME}, leader: none\nticket: {BY_HAND}, leader: {address}\n"
     for member in cluster.members:
         heard = lambda: member.booth("list") == Ran(0, text, "")
-        require(wait_for(heard, PATIENCE), f"{member.address} lists {member.booth('list')}, and not {address}")
+        need(wait_for(heard, PATIENCE), f"{member.address} lists {member.booth('list')}, and not {address}")
 
 
 @story
@@ -207,7 +208,7 @@ def a_manual_ticket(cluster):
     says(one, ("revoke", BY_HAND), 1, "booth: ticket is not granted\n")
     says(one, ("grant", BY_HAND), 0, f"ticket {BY_HAND} granted\n")
     record = one.record(MANUAL)
-    require(record.term == 1 and record.holds(now()), f"the record is {record}")
+    need(record.term == 1 and record.holds(now()), f"the record is {record}")
     lists_by_hand(cluster, one)
     passed("a manual ticket is granted at once, with its record on the disk, and listed by every member")
     says(one, ("grant", "-C", BY_HAND), 0, f"ticket {BY_HAND} granted\n")
@@ -221,22 +222,22 @@ def a_manual_ticket(cluster):
         member.start(cluster.program, cluster.conf)
     lists_by_hand(cluster, one)
     says(one, ("grant", BY_HAND), 0, f"ticket {BY_HAND} granted\n")
-    require(one.record(MANUAL) == record, "the record changed")
+    need(one.record(MANUAL) == record, "the record changed")
     passed("its owner is one after a restart, and a member that starts hears who owns it")
 
     says(two, ("grant", "-F", BY_HAND), 0, f"ticket {BY_HAND} granted\n")
-    require(all(member.record(MANUAL).holds(now()) for member in (one, two)), "one of the two does not hold")
-    require(wait_for(lambda: arbitrator.shown(MANUAL) == two.address, PATIENCE), "the arbitrator lists another")
-    require(one.shown(MANUAL) == one.address and two.shown(MANUAL) == two.address, "an owner lists another")
-    passed("by force another site takes it too, both hold it, and each lists itself")
+    need(all(member.record(MANUAL).holds(now()) for member in (one, two)), "one of the two does not hold")
+    need(wait_for(lambda: arbitrator.shown(MANUAL) == two.address, PATIENCE), "the arbitrator lists another")
+    need(one.shown(MANUAL) == one.address and two.shown(MANUAL) == two.address, "an owner lists another")
+    passed("with force another site gets it too, both hold it, and each lists itself")
 
     says(one, ("revoke", BY_HAND), 0, f"ticket {BY_HAND} revoked\n")
-    require(one.record(MANUAL).until is None, "the revoked lease is kept")
-    require(arbitrator.shown(MANUAL) == two.address, "another's revocation is taken for the owner's")
+    need(one.record(MANUAL).until is None, "the revoked lease is kept")
+    need(arbitrator.shown(MANUAL) == two.address, "another's revocation is taken for the owner's")
     says(arbitrator, ("revoke", BY_HAND), 0, f"ticket {BY_HAND} revoked\n")
-    require(two.record(MANUAL).until is None, "the revoked lease is kept")
+    need(two.record(MANUAL).until is None, "the revoked lease is kept")
     lists_by_hand(cluster, None)
-    passed("each gives it back by itself, or is asked to by way of a member that lists it")
+    passed("each releases it by itself, or after a revoke at a member that lists it")
 
 
 @story
@@ -247,9 +248,9 @@ def a_manual_ticket_that_asks(cluster):
     cluster.start()
     first.set("fails")
     says(one, ("grant", "-w", BY_HAND), 1, "booth: handler failed\n")
-    require(first.runs() == [[BY_HAND, "0", "db8"]] and one.record(MANUAL) is None, f"ran {first.runs()}")
+    need(first.runs() == [[BY_HAND, "0", "db8"]] and one.record(MANUAL) is None, f"ran {first.runs()}")
     says(arbitrator, ("grant", BY_HAND), 1, "booth: invalid argument\n")
-    passed("a grant by hand is refused where the handler fails, and nothing is kept")
+    passed("if the handler fails, a manual grant is refused, and no record is written")
     first.clear("fails")
 
     first.set("sleeps", "2")
@@ -257,29 +258,29 @@ def a_manual_ticket_that_asks(cluster):
     says(one, ("grant", BY_HAND), 0, f"grant of {BY_HAND} requested\n")
     for command in ("grant", "revoke"):
         says(one, (command, BY_HAND), 1, "booth: busy\n")
-    require(one.record(MANUAL) is None, "a record is kept while the handler runs")
-    require(wait_for(lambda: one.record(MANUAL) is not None, PATIENCE), "nothing is kept behind the handler")
-    require(now() - asked > 2 and one.record(MANUAL).holds(now()), "it did not wait for its handler")
+    need(one.record(MANUAL) is None, "a record is kept while the handler runs")
+    need(wait_for(lambda: one.record(MANUAL) is not None, PATIENCE), "nothing is kept behind the handler")
+    need(now() - asked > 2 and one.record(MANUAL).holds(now()), "it did not wait for its handler")
     lists_by_hand(cluster, one)
-    passed("a grant by hand waits for its handler, and meanwhile another grant or a revoke is refused")
+    passed("a manual grant waits for its handler, and meanwhile another grant or a revoke is refused")
 
     one.kill()
     one.start(cluster.program, cluster.conf)
     says(one, ("grant", "-w", BY_HAND), 0, f"ticket {BY_HAND} granted\n")
     says(one, ("revoke", BY_HAND), 0, f"ticket {BY_HAND} revoked\n")
-    require(len(first.runs()) == 2, f"ran {first.runs()}")
+    need(len(first.runs()) == 2, f"ran {first.runs()}")
     lists_by_hand(cluster, None)
-    passed("neither a restart of the owner, nor a grant to it, nor a revoke asks the handler")
+    passed("a restart of the owner, a grant to the owner and a revoke do not run the handler")
 
     second.set("sleeps", "30")
     asked, due = now(), cluster.times.timeout * (cluster.times.retries + 1)
     says(two, ("grant", "-w", BY_HAND), 1, "booth: handler failed\n")
     took = now() - asked
-    require(due - 0.5 < took < due + 2 * slack() and two.record(MANUAL) is None, f"refused after {took:.2f} s")
+    need(due - 0.5 < took < due + 2 * slack() and two.record(MANUAL) is None, f"refused after {took:.2f} s")
     second.clear("sleeps")
     pid = second.read("pid")
     says(two, ("grant", "-w", BY_HAND), 0, f"ticket {BY_HAND} granted\n")
-    require(not os.path.exists(f"/proc/{pid.strip()}"), "the handler that ran on runs still")
+    need(not os.path.exists(f"/proc/{pid.strip()}"), "the handler that ran on runs still")
     lists_by_hand(cluster, two)
     passed(f"a handler that is too slow has failed ({took:.1f} s), and is ended before the next start")
 
@@ -292,8 +293,8 @@ def a_manual_ticket_that_asks_a_silent_site(cluster):
     first.set("prints")
     one.start(script(cluster.folder + "/silent", SILENT.format(program=cluster.program)), cluster.conf)
     says(one, ("grant", "-w", BY_HAND), 0, f"ticket {BY_HAND} granted\n")
-    require(first.runs() == [[BY_HAND, "0", "db8"]] and one.record(MANUAL).holds(now()), f"ran {first.runs()}")
+    need(first.runs() == [[BY_HAND, "0", "db8"]] and one.record(MANUAL).holds(now()), f"ran {first.runs()}")
     first.set("fails")
     says(one, ("revoke", BY_HAND), 0, f"ticket {BY_HAND} revoked\n")
     says(one, ("grant", "-w", BY_HAND), 1, "booth: handler failed\n")
-    passed("a handler that prints grants there, and one that prints and fails refuses")
+    passed("if a handler prints and succeeds, the ticket is granted; if it prints and fails, the grant is refused")

@@ -1,5 +1,5 @@
 #!/usr/bin/env python3
-"""Calls the real host: datagrams on loopback, files, the clock, records, locks, handlers, and what it says to whom.
+"""Calls the real host: datagrams on loopback, files, the clock, records, locks, handlers, and what it prints where.
 
 Run it as `python3 tests/host.py`, over what the gate leaves at crates/trials/out/trials. It takes half a minute, prints
 a line for each check, and has the status 1 if one failed.
@@ -15,10 +15,11 @@ from typing import Iterator, List
 TOP = os.path.dirname(os.path.dirname(os.path.abspath(__file__)))
 sys.path.insert(0, f"{TOP}/tests")
 
+from checks import Wrong, need
 from host_handlers import CHECKS as HANDLER_CHECKS
 from host_lines import CHECKS as LINE_CHECKS
 from host_peers import CHECKS as PEER_CHECKS
-from real_host import FILE, LOOPBACK, Host, Wrong, first, plain, require
+from real_host import FILE, LOOPBACK, Host, first, plain
 from row_driver import Unplayed
 from scratch import scratch
 
@@ -41,7 +42,7 @@ def content(path: str) -> bytes:
 def opened(folder: str, records: str = "") -> Iterator[Host]:
     """Yields a host without an address that stores its records in this directory."""
     with Host(folder) as host:
-        require(host.open(records=records), "it is not opened")
+        need(host.open(records=records), "it is not opened")
         yield host
 
 
@@ -55,10 +56,10 @@ def a_next_waits_its_time(folder: str) -> None:
     """`next` waits as long as it must, also if it fails. (The system's timer may be some milliseconds off.)"""
     with Host(folder) as host:
         answer, took = waited(host)
-        require(answer == "failed" and took >= 80, f"unopened: {answer}, {took} ms")
+        need(answer == "failed" and took >= 80, f"unopened: {answer}, {took} ms")
     with opened(folder) as host:
         answer, took = waited(host)
-        require(answer == "quiet" and took >= 80, f"opened: {answer}, {took} ms")
+        need(answer == "quiet" and took >= 80, f"opened: {answer}, {took} ms")
 
 
 def a_file_is_read_whole(folder: str) -> None:
@@ -67,7 +68,7 @@ def a_file_is_read_whole(folder: str) -> None:
         for content in (b"", b'site="127.0.0.1"\n', b"x" * 4096 + b"y" + b"x" * 4902 + b"z"):
             with open(f"{folder}/file", "wb") as file:
                 file.write(content)
-            require(host.read("file") == content, f"{len(content)} bytes")
+            need(host.read("file") == content, f"{len(content)} bytes")
 
 
 def no_other_file_is_read(folder: str) -> None:
@@ -76,30 +77,30 @@ def no_other_file_is_read(folder: str) -> None:
         file.truncate((1 << 30) + 1)
     with Host(folder) as host:
         for path in ("long", "missing", ".", "/dev/null"):
-            require(host.read(path) is None, path)
+            need(host.read(path) is None, path)
 
 
 def the_clock_tells_milliseconds_since_1970(folder: str) -> None:
-    """The clock tells the milliseconds since 1970, and it runs."""
+    """The clock returns the milliseconds since 1970, and it runs."""
     with Host(folder) as host:
         system = int(time.time() * 1000)
         one = host.now()
         time.sleep(0.003)
         two = host.now()
-        require(system <= one + 1 and one < system + 60_000, f"{one} at {system}")
-        require(one % 1000 != 0 or two % 1000 != 0, "it tells whole seconds alone")
-        require(one < two, f"{two} after {one}")
+        need(system <= one + 1 and one < system + 60_000, f"{one} at {system}")
+        need(one % 1000 != 0 or two % 1000 != 0, "it tells whole seconds alone")
+        need(one < two, f"{two} after {one}")
 
 
 def a_kept_record_is_read_by_another_host(folder: str) -> None:
     """A second host reads the record that a first one wrote, with a lease and without."""
     with opened(folder, "records") as host:
-        require(host.kept() == "none", "nothing was kept")
+        need(host.kept() == "none", "nothing was kept")
     for record in (plain(7), plain(7, 1_600_000)):
         with opened(folder, "records") as host:
-            require(host.keep(record), "it is not kept")
+            need(host.keep(record), "it is not kept")
         with opened(folder, "records") as host:
-            require(host.kept() == record, record)
+            need(host.kept() == record, record)
 
 
 def a_commit_byte_before_no_record_is_a_failure(folder: str) -> None:
@@ -108,7 +109,7 @@ def a_commit_byte_before_no_record_is_a_failure(folder: str) -> None:
         for commit, answer in ((0, "none"), (1, "failed")):
             with open(f"{folder}/records/{FILE}", "wb") as file:
                 file.write(bytes([commit]) + bytes(63))
-            require(host.kept() == answer, f"commit byte {commit}: {host.kept()}")
+            need(host.kept() == answer, f"commit byte {commit}: {host.kept()}")
 
 
 def slot(number: int, version: int, term: int) -> bytes:
@@ -125,13 +126,13 @@ def the_next_record_goes_into_the_other_slot(folder: str) -> None:
         path = f"{folder}/records/{FILE}"
         with open(path, "wb") as file:
             file.write(slot(1, 1, 7))
-        require(host.kept() == first(7), "the old record")
+        need(host.kept() == first(7), "the old record")
         old = slot(1, 1, 7).ljust(128, b"\0")
         # (the file ends with the last record, which has 80 bytes with its number)
         second, third = slot(2, 2, 8), slot(3, 2, 9)[:80]
         for term, slots in ((8, second[:80]), (9, second + third), (10, slot(4, 2, 10) + third)):
-            require(host.keep(plain(term)) and host.kept() == plain(term), f"term {term}")
-            require(content(path) == old + slots, f"the file of term {term}")
+            need(host.keep(plain(term)) and host.kept() == plain(term), f"term {term}")
+            need(content(path) == old + slots, f"the file of term {term}")
 
 
 def the_slot_of_the_next_record_is_closed_ahead(folder: str) -> None:
@@ -141,15 +142,15 @@ def the_slot_of_the_next_record_is_closed_ahead(folder: str) -> None:
     path = f"{folder}/records/{FILE}"
     with Host(folder) as host, Host(folder) as other:
         peer = host.open_somewhere(LOOPBACK, "records")
-        require(other.open(LOOPBACK) and host.keep(plain(8)) and host.keep(plain(9)), "it is not kept")
+        need(other.open(LOOPBACK) and host.keep(plain(8)) and host.keep(plain(9)), "it is not kept")
         older, last = bytes(128) + slot(1, 2, 8), slot(2, 2, 9)[:80]
-        require(host.next(0) == "quiet" and content(path) == older + last, "a call that may not wait")
-        require(other.send(peer, b"x" * 48) and host.heard().content == b"x" * 48, "a datagram that waits")
-        require(content(path) == older + last, "a call that brings a datagram")
-        require(host.next(5000) == "quiet", "a call in which nothing comes")
-        require(content(path) == bytes(128) + b"\0" + slot(1, 2, 8)[1:] + last, "the slot is not closed")
-        require(host.kept() == plain(9) and host.keep(plain(10)) and host.kept() == plain(10), "the next record")
-        require(content(path) == bytes(128) + slot(3, 2, 10) + last, "it is in another slot")
+        need(host.next(0) == "quiet" and content(path) == older + last, "a call that may not wait")
+        need(other.send(peer, b"x" * 48) and host.heard().content == b"x" * 48, "a datagram that waits")
+        need(content(path) == older + last, "a call that brings a datagram")
+        need(host.next(5000) == "quiet", "a call in which nothing comes")
+        need(content(path) == bytes(128) + b"\0" + slot(1, 2, 8)[1:] + last, "the slot is not closed")
+        need(host.kept() == plain(9) and host.keep(plain(10)) and host.kept() == plain(10), "the next record")
+        need(content(path) == bytes(128) + slot(3, 2, 10) + last, "it is in another slot")
 
 
 def a_file_that_changed_is_not_prepared(folder: str) -> None:
@@ -158,23 +159,23 @@ def a_file_that_changed_is_not_prepared(folder: str) -> None:
     """
     path, torn = f"{folder}/records/{FILE}", b"\1" + bytes(63)
     with opened(folder, "records") as host:
-        require(host.keep(plain(8)) and host.keep(plain(9)), "it is not kept")
+        need(host.keep(plain(8)) and host.keep(plain(9)), "it is not kept")
         os.remove(path)
-        require(host.next(5000) == "quiet" and not os.path.exists(path), "one that is gone")
-        require(host.keep(plain(10)) and host.keep(plain(11)), "the next one")
+        need(host.next(5000) == "quiet" and not os.path.exists(path), "one that is gone")
+        need(host.keep(plain(10)) and host.keep(plain(11)), "the next one")
         with open(path, "wb") as file:
             file.write(torn)
-        require(host.next(5000) == "quiet" and content(path) == torn, "one that is torn")
-        require(not host.keep(plain(12)), "it is kept in a torn file")
+        need(host.next(5000) == "quiet" and content(path) == torn, "one that is torn")
+        need(not host.keep(plain(12)), "it is kept in a torn file")
 
 
 def records_are_made_for_their_owner(folder: str) -> None:
     """Only their owner can use the directory, its lock and a record's file."""
     with opened(folder, "records") as host:
-        require(mode(f"{folder}/records") == 0o700, "the directory")
-        require(mode(f"{folder}/records/booth.lock") == 0o600, "the lock")
-        require(host.keep(plain(1)), "it is not kept")
-        require(mode(f"{folder}/records/{FILE}") == 0o600, "the record")
+        need(mode(f"{folder}/records") == 0o700, "the directory")
+        need(mode(f"{folder}/records/booth.lock") == 0o600, "the lock")
+        need(host.keep(plain(1)), "it is not kept")
+        need(mode(f"{folder}/records/{FILE}") == 0o600, "the record")
 
 
 def a_directory_that_was_there_is_kept_in(folder: str) -> None:
@@ -185,28 +186,28 @@ def a_directory_that_was_there_is_kept_in(folder: str) -> None:
     os.chmod(f"{folder}/above/records", 0o755)
     os.chmod(f"{folder}/above", 0o311)
     with opened(folder, "above/records") as host:
-        require(host.keep(plain(1)), "it is not kept")
+        need(host.keep(plain(1)), "it is not kept")
     with opened(folder, "above/records") as host:
-        require(host.kept() == plain(1), "it is not read")
-    require(mode(f"{folder}/above/records") == 0o755, "another mode")
+        need(host.kept() == plain(1), "it is not read")
+    need(mode(f"{folder}/above/records") == 0o755, "another mode")
     os.chmod(f"{folder}/above", 0o755)
 
 
 def a_record_that_has_no_place_is_a_failure(folder: str) -> None:
     """A write fails if the host is not open, or has no directory."""
     with Host(folder) as host:
-        require(not host.keep(plain(1)) and host.kept() == "failed", "it is not open")
+        need(not host.keep(plain(1)) and host.kept() == "failed", "it is not open")
     with opened(folder) as host:
-        require(not host.keep(plain(1)) and host.kept() == "failed", "it has no directory")
+        need(not host.keep(plain(1)) and host.kept() == "failed", "it has no directory")
 
 
 def a_directory_of_records_has_one_host(folder: str) -> None:
     """A second host cannot open a directory of records until the first one ends. The first host may open it again."""
     with Host(folder) as second:
         with opened(folder, "records"):
-            require(not second.open(records="records"), "two hosts")
+            need(not second.open(records="records"), "two hosts")
         for _ in range(2):
-            require(second.open(records="records"), "the first one is gone")
+            need(second.open(records="records"), "the first one is gone")
 
 
 def a_directory_without_its_lock_file_has_one_host(folder: str) -> None:
@@ -216,9 +217,9 @@ def a_directory_without_its_lock_file_has_one_host(folder: str) -> None:
     with Host(folder) as second:
         with opened(folder, "records"):
             os.remove(f"{folder}/records/booth.lock")
-            require(not second.open(records="records"), "the file is gone")
-            require(not second.open(records="records"), "another file is there")
-        require(second.open(records="records"), "the first one is gone")
+            need(not second.open(records="records"), "the file is gone")
+            need(not second.open(records="records"), "another file is there")
+        need(second.open(records="records"), "the first one is gone")
 
 
 def a_directory_that_cannot_be_is_not_opened(folder: str) -> None:
@@ -226,7 +227,7 @@ def a_directory_that_cannot_be_is_not_opened(folder: str) -> None:
     open(f"{folder}/file", "wb").close()
     with Host(folder) as host:
         for records in ("file", "missing/below"):
-            require(not host.open(records=records), records)
+            need(not host.open(records=records), records)
 
 
 def a_lock_is_held_by_one_host(folder: str) -> None:
@@ -235,17 +236,17 @@ def a_lock_is_held_by_one_host(folder: str) -> None:
     """
     with Host(folder) as second:
         with Host(folder) as host:
-            require(host.lock("lock") == "got" and mode(f"{folder}/lock") == 0o600, "the first")
-            require(second.lock("lock") == "taken", "the second")
-            require(host.lock("lock") == "got", "the first again")
-        require(second.lock("lock") == "got", "the first is gone")
+            need(host.lock("lock") == "got" and mode(f"{folder}/lock") == 0o600, "the first")
+            need(second.lock("lock") == "taken", "the second")
+            need(host.lock("lock") == "got", "the first again")
+        need(second.lock("lock") == "got", "the first is gone")
 
 
 def a_lock_that_cannot_be_is_a_failure(folder: str) -> None:
     """A lock fails if its directory is missing, and if the host holds another lock already."""
     with Host(folder) as host:
-        require(host.lock("missing/lock") == "failed", "no directory")
-        require(host.lock("one") == "got" and host.lock("other") == "failed", "one lock is held")
+        need(host.lock("missing/lock") == "failed", "no directory")
+        need(host.lock("one") == "got" and host.lock("other") == "failed", "one lock is held")
 
 
 def a_lock_is_of_a_regular_file(folder: str) -> None:
@@ -254,8 +255,8 @@ def a_lock_is_of_a_regular_file(folder: str) -> None:
     os.makedirs(f"{folder}/records/booth.lock")
     with Host(folder) as host:
         for path in ("pipe", ".", "/dev/null"):
-            require(host.lock(path) == "failed", path)
-        require(not host.open(records="records"), "the lock of a directory of records")
+            need(host.lock(path) == "failed", path)
+        need(not host.open(records="records"), "the lock of a directory of records")
 
 
 def a_record_is_kept_in_a_regular_file(folder: str) -> None:
@@ -268,7 +269,7 @@ def a_record_is_kept_in_a_regular_file(folder: str) -> None:
             file.write(bytes(64))
         for kind, make in (("pipe", os.mkfifo), ("directory", os.mkdir), ("link", lambda at: os.symlink("zeros", at))):
             make(path)
-            require(host.kept() == "failed" and not host.keep(plain(1)), kind)
+            need(host.kept() == "failed" and not host.keep(plain(1)), kind)
             os.rename(path, f"{folder}/records/{kind}")
 
 
@@ -276,7 +277,7 @@ def kept_clock(folder: str) -> bytes:
     """Returns the content of the clock file of a directory."""
     with open(f"{folder}/records/booth.clock", "rb") as file:
         kept = file.read()
-    require(len(kept) == 60 and kept[:8] == (1).to_bytes(8, "big"), f"{len(kept)} bytes")
+    need(len(kept) == 60 and kept[:8] == (1).to_bytes(8, "big"), f"{len(kept)} bytes")
     return kept
 
 
@@ -305,15 +306,15 @@ def a_clock_goes_on_in_its_boot_and_starts_again_in_another(folder: str) -> None
     with opened(folder, "records") as host:
         reading = host.now()
     clock = kept_clock(folder)
-    require(is_opened(folder, with_number(clock, 8, number_at(clock, 8) + HOUR)), "an hour ahead of the wall clock")
+    need(is_opened(folder, with_number(clock, 8, number_at(clock, 8) + HOUR)), "an hour ahead of the wall clock")
     with opened(folder, "records") as host:
-        require(HOUR <= host.now() - reading < HOUR + 60_000, "an hour later")
+        need(HOUR <= host.now() - reading < HOUR + 60_000, "an hour later")
     other = bytearray(kept_clock(folder))
     other[59] ^= 1
-    require(not is_opened(folder, bytes(other)), "in another boot the wall clock is behind")
-    require(is_opened(folder, with_number(bytes(other), 16, reading)), "it is not behind")
-    require(abs(number_at(kept_clock(folder), 8) - number_at(clock, 8)) <= 2, "the offset")
-    require(not is_opened(folder, clock[:59]), "a byte is missing")
+    need(not is_opened(folder, bytes(other)), "in another boot the wall clock is behind")
+    need(is_opened(folder, with_number(bytes(other), 16, reading)), "it is not behind")
+    need(abs(number_at(kept_clock(folder), 8) - number_at(clock, 8)) <= 2, "the offset")
+    need(not is_opened(folder, clock[:59]), "a byte is missing")
 
 
 def a_start_that_was_told_another_time_is_refused(folder: str) -> None:
@@ -327,11 +328,11 @@ def a_start_that_was_told_another_time_is_refused(folder: str) -> None:
         file.write(with_number(clock, 8, number_at(clock, 8) + 60_000))
     with Host(folder) as told:
         told.now()
-        require(not told.open(records="records"), "it was told another time")
+        need(not told.open(records="records"), "it was told another time")
     with Host(folder) as asked:
         asked.await_clock("records")
         reading = asked.now()
-        require(asked.open(records="records") and 0 <= asked.now() - reading < 60_000, "it waited for the clock")
+        need(asked.open(records="records") and 0 <= asked.now() - reading < 60_000, "it waited for the clock")
 
 
 CHECKS = (

@@ -1,11 +1,12 @@
-"""Checks of the handlers that the real host runs: programs of this machine, and scripts that tell what they saw."""
+"""Checks of the handlers that the real host runs: programs of this machine, and scripts that print what they saw."""
 
 import contextlib
 import os
 import time
 from typing import Callable, Iterator, Tuple
 
-from real_host import FILE, Host, Wrong, plain, require
+from checks import Wrong, need
+from real_host import FILE, Host, plain
 
 CONF = "/etc/booth/cluster-a.conf"
 # when a lease ends, in milliseconds since 1970
@@ -28,7 +29,7 @@ RUNS_ON = 'echo $$ >"new" && mv new "$*.pid"; exec sleep 30'
 def opened(folder: str) -> Iterator[Host]:
     """Yields an open host without records, with a configuration of this name."""
     with Host(folder) as host:
-        require(host.open(conf=CONF), "it is not opened")
+        need(host.open(conf=CONF), "it is not opened")
         yield host
 
 
@@ -45,9 +46,9 @@ def over(host: Host) -> "tuple[int, int]":
 def status(folder: str, handler: str) -> int:
     """Runs a handler, and returns its status."""
     with opened(folder) as host:
-        require(host.start(7, handler), "it is not started")
+        need(host.start(7, handler), "it is not started")
         number, ended = over(host)
-        require(number == 7, f"job {number}")
+        need(number == 7, f"job {number}")
         return ended
 
 
@@ -72,14 +73,14 @@ def content(path: str) -> str:
 def a_program_that_refuses_has_another_status(folder: str) -> None:
     """`cat` has the status 0 for a file that exists, and another status for a missing file."""
     write(f"{folder}/service", "runs\n")
-    require(status(folder, "/bin/cat service") == 0, "it runs")
-    require(status(folder, "/bin/cat missing") == 1, "it refuses")
+    need(status(folder, "/bin/cat service") == 0, "it runs")
+    need(status(folder, "/bin/cat missing") == 1, "it refuses")
 
 
 def a_signal_counts_as_a_status(folder: str) -> None:
     """A program that a signal ends has the status 255."""
     write(f"{folder}/signal", "kill -TERM $$\n")
-    require(status(folder, "/bin/sh signal") == 255, "another status")
+    need(status(folder, "/bin/sh signal") == 255, "another status")
 
 
 def programs_of_a_directory_run_until_one_refuses(folder: str) -> None:
@@ -90,31 +91,31 @@ def programs_of_a_directory_run_until_one_refuses(folder: str) -> None:
     for name in ("b", "a", "B"):
         write_script(f"{folder}/programs/{name}", f"echo {name} $1 >> order\nexit 0")
     write_script(f"{folder}/programs/.0", "echo .0 $1 >> order\nexit 9")
-    require(status(folder, "programs  db8") == 0, "all agree")
-    require(content(f"{folder}/order") == "B db8\na db8\nb db8\n", "another order")
+    need(status(folder, "programs  db8") == 0, "all agree")
+    need(content(f"{folder}/order") == "B db8\na db8\nb db8\n", "another order")
     write_script(f"{folder}/programs/a", "exit 3")
-    require(status(folder, "programs  db8") == 3, "one refuses")
-    require(content(f"{folder}/order") == "B db8\na db8\nb db8\nB db8\n", "none is run behind it")
+    need(status(folder, "programs  db8") == 3, "one refuses")
+    need(content(f"{folder}/order") == "B db8\na db8\nb db8\nB db8\n", "none is run behind it")
 
 
 def a_directory_without_programs_refuses_nothing(folder: str) -> None:
     """A directory that has only a hidden file refuses nothing."""
     os.mkdir(f"{folder}/programs")
     write(f"{folder}/programs/.hidden", "")
-    require(status(folder, "programs") == 0, "another status")
+    need(status(folder, "programs") == 0, "another status")
 
 
 def a_program_knows_what_it_is_run_for(folder: str) -> None:
     """A program gets seven variables, its arguments, an empty standard input, and no other descriptor."""
     script = "env | grep '^BOOTH_' | sort > seen; echo $# $1 $2 >> seen; cat; ls /proc/self/fd | wc -l >> seen"
     write_script(f"{folder}/sees", script)
-    require(status(folder, "sees\tone   two ") == 0, "another status")
+    need(status(folder, "sees\tone   two ") == 0, "another status")
     wanted = (
         "BOOTH_CONF_NAME=cluster-a\nBOOTH_CONF_PATH=/etc/booth/cluster-a.conf\nBOOTH_LOCAL=192.168.201.100\n"
         "BOOTH_TICKET=ticket-db8\nBOOTH_TICKET_EXPIRES=1700000600\nBOOTH_TICKET_LEFT=0\nBOOTH_TICKET_TERM=0\n"
         "2 one two\n4\n"
     )
-    require(content(f"{folder}/seen") == wanted, content(f"{folder}/seen"))
+    need(content(f"{folder}/seen") == wanted, content(f"{folder}/seen"))
 
 
 def a_program_knows_how_long_its_lease_runs(folder: str) -> None:
@@ -126,25 +127,25 @@ def a_program_knows_how_long_its_lease_runs(folder: str) -> None:
         write_script(f"{folder}/programs/{name}", "echo $BOOTH_TICKET_LEFT >>left; sleep 0.3")
     with opened(folder) as host:
         for number, expires in ((1, int(time.time()) + 60), (2, 0)):
-            require(host.start(number, "programs", expires) and over(host) == (number, 0), "it is not run")
+            need(host.start(number, "programs", expires) and over(host) == (number, 0), "it is not run")
     told = content(f"{folder}/left").split()
-    require(len(told) == 4, f"they are told {told}")
+    need(len(told) == 4, f"they are told {told}")
     first, second, *others = map(int, told)
-    require(58_000 < first <= 60_000, f"{first} ms are left of a minute")
-    require(250 <= first - second < 10_000, f"{first} ms are left, and then {second}")
-    require(others == [0, 0], f"{others} ms are left of no lease")
+    need(58_000 < first <= 60_000, f"{first} ms are left of a minute")
+    need(250 <= first - second < 10_000, f"{first} ms are left, and then {second}")
+    need(others == [0, 0], f"{others} ms are left of no lease")
 
 
 def told_term(folder: str, host: Host, expires: int) -> int:
     """Returns the term that a handler gets if its lease ends in this second."""
-    require(host.start(1, "./tells", expires) and over(host) == (1, 0), "it is not run")
+    need(host.start(1, "./tells", expires) and over(host) == (1, 0), "it is not run")
     return int(content(f"{folder}/term"))
 
 
 def check_terms(folder: str, host: Host, term: int, what: str) -> None:
     """Checks that a handler gets this term before a renewal, and none before an acquisition."""
     told = [told_term(folder, host, expires) for expires in (0, UNTIL // 1000)]
-    require(told == [0, term], f"{what}: {told}")
+    need(told == [0, term], f"{what}: {told}")
 
 
 def a_program_has_the_term_of_the_lease_that_was_kept_last(folder: str) -> None:
@@ -154,24 +155,24 @@ def a_program_has_the_term_of_the_lease_that_was_kept_last(folder: str) -> None:
     write_script(f"{folder}/tells", "echo $BOOTH_TICKET_TERM >term")
     path = f"{folder}/records/{FILE}"
     with Host(folder) as host:
-        require(host.open(records="records", conf=CONF) and host.kept() == "none", "it is not opened")
+        need(host.open(records="records", conf=CONF) and host.kept() == "none", "it is not opened")
         check_terms(folder, host, 0, "no record")
         for record, term in ((plain(7, UNTIL), 7), (f"2 9 8 {UNTIL} - - - - 0", 8), (plain(10), 0)):
-            require(host.keep(record), f"{record} is not kept")
+            need(host.keep(record), f"{record} is not kept")
             check_terms(folder, host, term, record)
-        require(host.keep(plain(11, UNTIL)), "it is not kept")
+        need(host.keep(plain(11, UNTIL)), "it is not kept")
         os.rename(path, f"{folder}/aside")
         os.mkdir(path)
-        require(not host.keep(plain(12)), "it is kept in a directory")
+        need(not host.keep(plain(12)), "it is kept in a directory")
         check_terms(folder, host, 11, "the end of a lease is not kept")
-        require(not host.keep(plain(13, UNTIL)), "it is kept in a directory")
+        need(not host.keep(plain(13, UNTIL)), "it is kept in a directory")
         check_terms(folder, host, 13, "a lease is not kept")
         os.rmdir(path)
         os.rename(f"{folder}/aside", path)
     with Host(folder) as host:
-        require(host.open(records="records", conf=CONF), "it is not opened again")
+        need(host.open(records="records", conf=CONF), "it is not opened again")
         check_terms(folder, host, 0, "nothing was read")
-        require(host.kept() == plain(11, UNTIL), "another record")
+        need(host.kept() == plain(11, UNTIL), "another record")
         check_terms(folder, host, 11, "a record was read")
 
 
@@ -205,7 +206,7 @@ def ends(process_id: int) -> bool:
 
 def begun(folder: str, host: Host, number: int, words: str) -> int:
     """Starts a program with these arguments that keeps running, and returns its process."""
-    require(host.start(number, f"./program {words}"), f"{words} is not started")
+    need(host.start(number, f"./program {words}"), f"{words} is not started")
     return process(folder, words)
 
 
@@ -218,26 +219,26 @@ def a_program_of_a_word_runs_beside_another(folder: str) -> None:
         host.run_beside()
         start = begun(folder, host, 1, "a start")
         first = begun(folder, host, 2, "a renew 1")
-        require(runs(start), "a renew ends a start")
+        need(runs(start), "a renew ends a start")
         second = begun(folder, host, 3, "a renew 2")
-        require(ends(first) and runs(start), "a renew ends the renew before it alone")
+        need(ends(first) and runs(start), "a renew ends the renew before it alone")
         stop = begun(folder, host, 4, "a renew stop")
-        require(ends(start) and runs(second), "a stop ends the start alone")
-        require(host.start(5, "/bin/true renew") and over(host) == (5, 0), "it is told how a renew ended")
-        require(ends(second) and runs(stop), "it ends the one before it alone")
-        require(host.start(6, "/bin/false") and over(host) == (6, 1) and ends(stop), "the other kind too")
+        need(ends(start) and runs(second), "a stop ends the start alone")
+        need(host.start(5, "/bin/true renew") and over(host) == (5, 0), "it is told how a renew ended")
+        need(ends(second) and runs(stop), "it ends the one before it alone")
+        need(host.start(6, "/bin/false") and over(host) == (6, 1) and ends(stop), "the other kind too")
 
 
 def a_program_beside_others_has_the_term_of_its_lease(folder: str) -> None:
-    """With `run_beside`, the term after the word is no argument of the program. Without it, it is one."""
+    """With `run_beside`, the last word `term=N` is no argument of the program, but its BOOTH_TICKET_TERM."""
     write_script(f"{folder}/program", 'echo "$* ${BOOTH_TICKET_TERM-none}" >said')
     with opened(folder) as host:
-        require(host.start(1, "./program start term=7") and over(host) == (1, 0), "a handler")
-        require(content(f"{folder}/said") == "start term=7 0\n", f"a handler said {content(f'{folder}/said')}")
+        need(host.start(1, "./program start term=7") and over(host) == (1, 0), "a handler")
+        need(content(f"{folder}/said") == "start term=7 0\n", f"a handler said {content(f'{folder}/said')}")
         host.run_beside()
         for number, (words, said) in enumerate(TERMS, 2):
-            require(host.start(number, f"./program {words}") and over(host) == (number, 0), words)
-            require(content(f"{folder}/said") == f"{said}\n", f"{words}: {content(f'{folder}/said')}")
+            need(host.start(number, f"./program {words}") and over(host) == (number, 0), words)
+            need(content(f"{folder}/said") == f"{said}\n", f"{words}: {content(f'{folder}/said')}")
 
 
 def without_such_a_word_each_ends_the_one_before(folder: str) -> None:
@@ -246,30 +247,30 @@ def without_such_a_word_each_ends_the_one_before(folder: str) -> None:
     with opened(folder) as host:
         start = begun(folder, host, 1, "start")
         renew = begun(folder, host, 2, "renew 1")
-        require(ends(start) and runs(renew), "a renew runs beside a start")
-        require(host.start(3, "/bin/true") and over(host) == (3, 0) and ends(renew), "a renew runs on")
+        need(ends(start) and runs(renew), "a renew runs beside a start")
+        need(host.start(3, "/bin/true") and over(host) == (3, 0) and ends(renew), "a renew runs on")
 
 
 def a_program_is_not_waited_for(folder: str) -> None:
     """The host does not wait for a program: the ticket's next job ends it."""
     with opened(folder) as host:
-        require(host.start(1, "/bin/sleep 30"), "it is not started")
+        need(host.start(1, "/bin/sleep 30"), "it is not started")
         started = time.monotonic()
-        require(host.next(50) == "quiet" and time.monotonic() - started < 5, "it is waited for")
-        require(host.start(2, "/bin/true") and over(host) == (2, 0), "the second")
+        need(host.next(50) == "quiet" and time.monotonic() - started < 5, "it is waited for")
+        need(host.start(2, "/bin/true") and over(host) == (2, 0), "the second")
         time.sleep(0.1)
-        require(host.next(1) == "quiet", "the first one is not told")
-        require(host.start(3, "/bin/false") and over(host) == (3, 1), "the third")
+        need(host.next(1) == "quiet", "the first one is not told")
+        need(host.start(3, "/bin/false") and over(host) == (3, 1), "the third")
 
 
 def what_cannot_be_run_is_a_failure(folder: str) -> None:
     """A program that cannot be run is a failure. The host never looks for a program in PATH."""
     with Host(folder) as host:
-        require(not host.start(1, "/bin/true"), "it is not open")
+        need(not host.start(1, "/bin/true"), "it is not open")
     write(f"{folder}/no-program", "exit 0\n")
     with opened(folder) as host:
         for handler in ("/booth/missing", "true", "no-program", " "):
-            require(not host.start(1, handler), handler)
+            need(not host.start(1, handler), handler)
 
 
 def a_later_program_that_cannot_be_run_ends_the_row(folder: str) -> None:
@@ -278,7 +279,7 @@ def a_later_program_that_cannot_be_run_ends_the_row(folder: str) -> None:
     write_script(f"{folder}/programs/1", "exit 0")
     write(f"{folder}/programs/2", "exit 0\n")
     with opened(folder) as host:
-        require(host.start(1, "programs") and over(host) == (1, 255), "another end")
+        need(host.start(1, "programs") and over(host) == (1, 255), "another end")
 
 
 CHECKS: Tuple[Callable[[str], None], ...] = (

@@ -6,8 +6,9 @@ import socket
 import time
 from typing import Callable, Dict, Iterator, List, Tuple
 
+from checks import need
 from host_handlers import content, over, write
-from real_host import Host, require
+from real_host import Host
 
 # the variables that systemd sets for a service
 OF_SYSTEMD = ("JOURNAL_STREAM", "NOTIFY_SOCKET", "WATCHDOG_USEC")
@@ -34,10 +35,10 @@ def said(folder: str, journal: str) -> str:
         stream = journal.format(f"{own.st_dev}:{own.st_ino}")
         environ = surroundings(JOURNAL_STREAM=stream) if stream else surroundings()
         with Host(folder, environ, errors) as host:
-            require(host.open(), "it is not opened")
-            require(not host.start(1, "/booth/missing"), "it is started")
+            need(host.open(), "it is not opened")
+            need(not host.start(1, "/booth/missing"), "it is started")
             for text in TEXTS:
-                require(host.err(text), "it is not written")
+                need(host.err(text), "it is not written")
     return content(path)
 
 
@@ -48,14 +49,14 @@ def a_line_begins_with_the_programs_name(folder: str) -> None:
     wanted = f"boothd: {UNRUN}{''.join(TEXTS)}"
     for journal in ("", "1:2", "{}0", "{}:", "{}:1", ":", "no journal", "x" * 500):
         got = said(folder, journal)
-        require(got == wanted, f"with {journal!r}: {got!r}")
+        need(got == wanted, f"with {journal!r}: {got!r}")
 
 
 def a_line_for_the_journal_begins_with_its_priority(folder: str) -> None:
     """Each line of a text for the journal begins with the priority, and none with the program's name."""
     got = said(folder, "{}")
     lines = "<3>bad site\n<3>error: one\n<3>usage: two\n<3>ends without a line feed\n"
-    require(got == f"<3>{UNRUN}{lines}", repr(got))
+    need(got == f"<3>{UNRUN}{lines}", repr(got))
 
 
 def a_long_line_is_cut_for_the_journal_alone(folder: str) -> None:
@@ -66,10 +67,10 @@ def a_long_line_is_cut_for_the_journal_alone(folder: str) -> None:
             own = os.fstat(errors.fileno())
             stream = f"{own.st_dev}:{own.st_ino}" if is_journal else "1:2"
             with Host(folder, surroundings(JOURNAL_STREAM=stream), errors) as host:
-                require(host.err(text * 10 + "\n"), "it is not written")
+                need(host.err(text * 10 + "\n"), "it is not written")
         got = content(path)
         wanted = f"<3>{(text * 10)[:1020]}\n" if is_journal else f"{text * 10}\n"
-        require(got == wanted, f"{len(got)} bytes")
+        need(got == wanted, f"{len(got)} bytes")
 
 
 class Manager:
@@ -113,7 +114,7 @@ def the_service_manager_is_told(folder: str) -> None:
             host.notify("READY=1")
             host.notify("STATUS=it runs")
             told = [systemd.told(), systemd.told()]
-            require(told == ["READY=1", "STATUS=it runs"], f"{variable}: {told}")
+            need(told == ["READY=1", "STATUS=it runs"], f"{variable}: {told}")
 
 
 def nobody_is_told_without_a_socket(folder: str) -> None:
@@ -122,7 +123,7 @@ def nobody_is_told_without_a_socket(folder: str) -> None:
     with open(path, "wb") as errors, Host(folder, surroundings(), errors) as host:
         host.notify("READY=1")
         host.beat()
-    require(os.path.getsize(path) == 0, "something is said")
+    need(os.path.getsize(path) == 0, "something is said")
 
 
 def turns_are_told_once_a_second(folder: str) -> None:
@@ -136,7 +137,7 @@ def turns_are_told_once_a_second(folder: str) -> None:
                     host.beat()
                     told += systemd.all_told()
                     time.sleep(0.02)
-        require(set(told) == {"WATCHDOG=1"} and len(told) in (2, 3), f"at {usec or 'no time'}: {told}")
+        need(set(told) == {"WATCHDOG=1"} and len(told) in (2, 3), f"at {usec or 'no time'}: {told}")
 
 
 def a_service_manager_that_cannot_be_told_is_said_once(folder: str) -> None:
@@ -156,18 +157,18 @@ def a_service_manager_that_cannot_be_told_is_said_once(folder: str) -> None:
                 for _ in range(600):
                     host.notify("READY=1")
             got = content(path)
-            require(got == f"trials: cannot notify the service manager: {why}\n", f"{name}: {got!r}")
-    require(time.monotonic() - started < 30, "it is waited for")
+            need(got == f"trials: cannot notify the service manager: {why}\n", f"{name}: {got!r}")
+    need(time.monotonic() - started < 30, "it is waited for")
 
 
 def a_program_has_no_socket_of_the_host(folder: str) -> None:
     """A handler's program has only its three standard streams, even if a service manager is notified."""
     write(f"{folder}/script", "ls /proc/self/fd | wc -l >seen\n")
     with manager(f"{folder}/m"), Host(folder, surroundings(NOTIFY_SOCKET=f"{folder}/m")) as host:
-        require(host.open(), "it is not opened")
+        need(host.open(), "it is not opened")
         host.notify("READY=1")
-        require(host.start(1, "/bin/sh script") and over(host) == (1, 0), "it is not run")
-    require(content(f"{folder}/seen") == "4\n", "it has other files")
+        need(host.start(1, "/bin/sh script") and over(host) == (1, 0), "it is not run")
+    need(content(f"{folder}/seen") == "4\n", "it has other files")
 
 
 def a_refusal_has_the_systems_words(folder: str) -> None:
@@ -177,14 +178,14 @@ def a_refusal_has_the_systems_words(folder: str) -> None:
     path = f"{folder}/said"
     os.mkfifo(f"{folder}/pipe")
     with open(path, "wb") as errors, Host(folder, surroundings(), errors) as host, Host(folder) as other:
-        require(other.open(records="taken"), "it is not opened")
+        need(other.open(records="taken"), "it is not opened")
         for name in ("missing", "pipe"):
-            require(host.read(name) is None, f"{name} is read")
-            require(host.lock(f"{name}/lock") == "failed", f"{name}/lock is locked")
-        require(host.lock("pipe") == "failed", "the pipe is locked")
+            need(host.read(name) is None, f"{name} is read")
+            need(host.lock(f"{name}/lock") == "failed", f"{name}/lock is locked")
+        need(host.lock("pipe") == "failed", "the pipe is locked")
         for records in ("missing/below", "pipe", "taken"):
-            require(not host.open(records=records), f"{records} is opened")
-        require(not host.open("192.0.2.1", 9929), "an address of another machine is opened")
+            need(not host.open(records=records), f"{records} is opened")
+        need(not host.open("192.0.2.1", 9929), "an address of another machine is opened")
     said = (
         ("missing", NO_FILE),
         ("missing/lock", NO_FILE),
@@ -198,7 +199,7 @@ def a_refusal_has_the_systems_words(folder: str) -> None:
     )
     wanted = "".join(f"boothd: {what}: {why}\n" for what, why in said)
     got = content(path)
-    require(got == wanted, repr(got))
+    need(got == wanted, repr(got))
 
 
 CHECKS: Tuple[Callable[[str], None], ...] = (

@@ -6,38 +6,37 @@ import struct
 import time
 from typing import Callable, Iterator, List, Tuple
 
-from real_host import (
-    LOOPBACK, LOOPBACK_6, OTHER_LOOPBACK, THIRD_LOOPBACK, Host, Peer, carried, plain, require,
-)  # fmt: skip
+from checks import need
+from real_host import LOOPBACK, LOOPBACK_6, OTHER_LOOPBACK, THIRD_LOOPBACK, Host, Peer, carried, plain
 
 
 def a_host_without_an_address_reaches_both_families(folder: str) -> None:
     """A host without an address sends 48 bytes to one family and receives 66 from it, and the same with the other."""
     with Host(folder) as client:
-        require(client.open(), "it is not opened")
+        need(client.open(), "it is not opened")
         for address in (LOOPBACK, LOOPBACK_6):
             with Host(folder) as daemon:
                 at = daemon.open_somewhere(address)
                 where = carried(client, daemon, at, b"\x51" * 48)
-                require(where.address == address, f"from {where}")
-                require(carried(daemon, client, where, b"\x52" * 66) == at, "back")
+                need(where.address == address, f"from {where}")
+                need(carried(daemon, client, where, b"\x52" * 66) == at, "back")
 
 
 def a_port_is_opened_by_one_host(folder: str) -> None:
     """A second host cannot open the port, and cannot send."""
     with Host(folder) as first, Host(folder) as second:
         at = first.open_somewhere(LOOPBACK)
-        require(not second.open(at.address, at.port), "two hosts")
-        require(not second.send(at, b"x"), "nothing is open")
+        need(not second.open(at.address, at.port), "two hosts")
+        need(not second.send(at, b"x"), "nothing is open")
 
 
 def check_pair(one: Host, address: str, two: Host, other_address: str) -> None:
     """Checks that two members send to one another, each at the address at which the other listens."""
     at_one, at_two = one.open_somewhere(address), two.open_somewhere(other_address)
     first = carried(one, two, at_two, b"\x51" * 48)
-    require(first == carried(one, two, at_two, b"\x52" * 66), "from another port")
-    require(first.address == other_address, f"from {first}")
-    require(carried(two, one, at_one, b"\x53" * 66).address == address, "back")
+    need(first == carried(one, two, at_two, b"\x52" * 66), "from another port")
+    need(first.address == other_address, f"from {first}")
+    need(carried(two, one, at_one, b"\x53" * 66).address == address, "back")
 
 
 def members_of_both_families_reach_one_another(folder: str) -> None:
@@ -59,13 +58,13 @@ def a_member_that_moves_to_the_other_family_reaches_both(folder: str) -> None:
 def check_quiet(host: Host, wait: int = 200) -> None:
     """Checks that nothing arrives for this many milliseconds."""
     answer = host.next(wait)
-    require(answer == "quiet", answer)
+    need(answer == "quiet", answer)
 
 
 def check_heard(host: Host, peer: Peer, content: bytes) -> None:
     """Checks that these bytes of this peer arrive, and nothing before them."""
     came = host.heard()
-    require((came.peer, came.content) == (peer, content), f"{came} in place of {content!r} from {peer}")
+    need((came.peer, came.content) == (peer, content), f"{came} in place of {content!r} from {peer}")
 
 
 def a_client_hears_the_peer_that_it_asked_alone(folder: str) -> None:
@@ -73,34 +72,34 @@ def a_client_hears_the_peer_that_it_asked_alone(folder: str) -> None:
     another address with the same port.
     """
     with Host(folder) as client, Host(folder) as daemon, Host(folder) as neighbour, Host(folder) as other:
-        require(client.open(), "it is not opened")
+        need(client.open(), "it is not opened")
         at = daemon.open_somewhere(LOOPBACK)
         where = carried(client, daemon, at, b"who has it?")
-        require(neighbour.open_somewhere(LOOPBACK).port != at.port, "one port twice")
-        require(other.open(OTHER_LOOPBACK, at.port), "the same port at another address")
-        require(neighbour.send(where, b"another port") and other.send(where, b"another address"), "they are not sent")
+        need(neighbour.open_somewhere(LOOPBACK).port != at.port, "one port twice")
+        need(other.open(OTHER_LOOPBACK, at.port), "the same port at another address")
+        need(neighbour.send(where, b"another port") and other.send(where, b"another address"), "they are not sent")
         check_quiet(client)
-        require(neighbour.send(where, b"another port") and daemon.send(where, b"nobody"), "they are not sent")
+        need(neighbour.send(where, b"another port") and daemon.send(where, b"nobody"), "they are not sent")
         check_heard(client, at, b"nobody")
 
 
 def a_client_that_asks_another_peer_hears_that_one(folder: str) -> None:
     """A client that asks another peer, as for a redirected revoke, receives from that peer."""
     with Host(folder) as client, Host(folder) as first:
-        require(client.open(), "it is not opened")
+        need(client.open(), "it is not opened")
         at_first = first.open_somewhere(LOOPBACK)
         where = carried(client, first, at_first, b"give it back")
-        require(first.send(where, b"another has it"), "it is not sent")
+        need(first.send(where, b"another has it"), "it is not sent")
         check_heard(client, at_first, b"another has it")
         for address in (LOOPBACK, LOOPBACK_6):
             with Host(folder) as second:
                 at = second.open_somewhere(address)
                 now_at = carried(client, second, at, b"give it back")
-                require(first.send(where, b"another has it"), "it is not sent")
+                need(first.send(where, b"another has it"), "it is not sent")
                 if now_at.address == LOOPBACK:
-                    require(first.send(now_at, b"another has it"), "it is not sent")
+                    need(first.send(now_at, b"another has it"), "it is not sent")
                 check_quiet(client)
-                require(second.send(now_at, b"done"), "it is not sent")
+                need(second.send(now_at, b"done"), "it is not sent")
                 check_heard(client, at, b"done")
 
 
@@ -109,15 +108,15 @@ def a_client_that_nobody_hears_is_quiet(folder: str) -> None:
     with Host(folder) as client:
         with Host(folder) as daemon:
             at = daemon.open_somewhere(LOOPBACK)
-        require(client.open(), "it is not opened")
+        need(client.open(), "it is not opened")
         for _ in range(3):
-            require(client.send(at, b"who has it?"), "it is not sent")
+            need(client.send(at, b"who has it?"), "it is not sent")
             check_quiet(client)
-        require(client.send(at, b"who has it?"), "it is not sent")
+        need(client.send(at, b"who has it?"), "it is not sent")
         with Host(folder) as daemon:
-            require(daemon.open(at.address, at.port), "the daemon is not opened")
+            need(daemon.open(at.address, at.port), "the daemon is not opened")
             where = carried(client, daemon, at, b"who has it?")
-            require(daemon.send(where, b"nobody"), "it is not sent")
+            need(daemon.send(where, b"nobody"), "it is not sent")
             # (the answer arrives at once, or after an error of the network about an earlier request)
             if client.next(5000) == "quiet":
                 check_heard(client, at, b"nobody")
@@ -139,9 +138,9 @@ def check_load(folder: str, rounds: int, each: int, size: int, turn: Callable[[H
         count = 0
         for _ in range(rounds):
             for _ in range(each):
-                require(sender.send(at, count.to_bytes(4, "big").ljust(size, b"\0")), f"{count} is not sent")
+                need(sender.send(at, count.to_bytes(4, "big").ljust(size, b"\0")), f"{count} is not sent")
                 count += 1
-            require(turn(member, origin), "the member's turn")
+            need(turn(member, origin), "the member's turn")
         for place in range(count):
             check_heard(member, origin, place.to_bytes(4, "big").ljust(size, b"\0"))
         check_quiet(member, 0)
@@ -185,14 +184,14 @@ def three_members(folder: str) -> Iterator[Tuple[Host, Peer, Host, Host]]:
         for address in (LOOPBACK, OTHER_LOOPBACK, THIRD_LOOPBACK):
             member.expect(address)
         at = member.open_somewhere(LOOPBACK, "records")
-        require(other.open(OTHER_LOOPBACK, at.port) and third.open(THIRD_LOOPBACK, at.port), "the port is not free")
+        need(other.open(OTHER_LOOPBACK, at.port) and third.open(THIRD_LOOPBACK, at.port), "the port is not free")
         yield member, at, other, third
 
 
 def send_numbers(sender: Host, to: Peer, first: int, count: int) -> None:
     """Sends this many numbers, beginning with this one."""
     for number in range(first, first + count):
-        require(sender.send(to, number.to_bytes(4, "big")), f"{number} is not sent")
+        need(sender.send(to, number.to_bytes(4, "big")), f"{number} is not sent")
 
 
 def heard_numbers(member: Host) -> List[Tuple[str, int]]:
@@ -201,7 +200,7 @@ def heard_numbers(member: Host) -> List[Tuple[str, int]]:
     while True:
         word, *given = member.next(50).split(" ")
         if word != "datagram":
-            require(word == "quiet", word)
+            need(word == "quiet", word)
             return found
         found.append((given[0], int(given[2], 16)))
 
@@ -213,18 +212,18 @@ def a_flood_of_one_member_leaves_the_others_their_room(folder: str) -> None:
     with three_members(folder) as (member, at, flooding, other):
         for turn in range(FLOOD_ROUNDS):
             send_numbers(flooding, at, turn * FLOOD_EACH, FLOOD_EACH)
-            require(member.keep(plain(1)), "it is not kept")
+            need(member.keep(plain(1)), "it is not kept")
         for turn in range(CALM_ROUNDS):
             send_numbers(flooding, at, (FLOOD_ROUNDS + turn) * FLOOD_EACH, FLOOD_EACH)
             send_numbers(other, at, turn * CALM_EACH, CALM_EACH)
-            require(member.keep(plain(1)), "it is not kept")
+            need(member.keep(plain(1)), "it is not kept")
         heard = heard_numbers(member)
     calm = [number for address, number in heard if address == THIRD_LOOPBACK]
-    require(calm == list(range(CALM_ROUNDS * CALM_EACH)), f"{len(calm)} of the calm one")
+    need(calm == list(range(CALM_ROUNDS * CALM_EACH)), f"{len(calm)} of the calm one")
     flood = [number for address, number in heard if address == OTHER_LOOPBACK]
-    require(flood[:HALF_OF_THE_BACKLOG] == list(range(HALF_OF_THE_BACKLOG)), f"{len(flood)} of the flooding one")
+    need(flood[:HALF_OF_THE_BACKLOG] == list(range(HALF_OF_THE_BACKLOG)), f"{len(flood)} of the flooding one")
     first = next(place for place, (address, _) in enumerate(heard) if address == THIRD_LOOPBACK)
-    require(first == HALF_OF_THE_BACKLOG, f"{first} came before the calm one")
+    need(first == HALF_OF_THE_BACKLOG, f"{first} came before the calm one")
 
 
 def a_stranger_waits_behind_what_members_sent(folder: str) -> None:
@@ -233,10 +232,10 @@ def a_stranger_waits_behind_what_members_sent(folder: str) -> None:
         stranger.open_somewhere(LOOPBACK)
         for sender in (stranger, other, third):
             send_numbers(sender, at, 0, 3)
-        require(member.keep(plain(1)), "it is not kept")
+        need(member.keep(plain(1)), "it is not kept")
         heard = [address for address, _ in heard_numbers(member)]
-    require(sorted(heard[:6]) == [OTHER_LOOPBACK] * 3 + [THIRD_LOOPBACK] * 3, f"{heard}")
-    require(heard[6:] == [LOOPBACK] * 3, f"{heard}")
+    need(sorted(heard[:6]) == [OTHER_LOOPBACK] * 3 + [THIRD_LOOPBACK] * 3, f"{heard}")
+    need(heard[6:] == [LOOPBACK] * 3, f"{heard}")
 
 
 # types and codes of ICMP (RFC 792): Linux gives a connected socket a failure for each, of five different kinds
@@ -274,7 +273,7 @@ def a_forged_error_of_the_network_is_no_failure(folder: str) -> None:
             time.sleep(0.01)
             check_quiet(member)
         send_numbers(other, at, 0, 1)
-        require(heard_numbers(member) == [(OTHER_LOOPBACK, 0)], "the member is not heard")
+        need(heard_numbers(member) == [(OTHER_LOOPBACK, 0)], "the member is not heard")
 
 
 CHECKS: Tuple[Callable[[str], None], ...] = (

@@ -31,6 +31,7 @@ sys.path[:0] = [HERE, f"{HERE}/../tools"]
 import frames
 import journal_file
 from auditing import AuditedCluster, LeftOut, Misjudged, audit, content, shown_at
+from checks import Wrong, need
 from gate import Station
 from hostile_frames import Foes
 from members import TICKET, Cluster, Times, now, wait_for
@@ -57,15 +58,6 @@ SECONDS_OF_FLOOD = 90
 SECONDS_OF_LIST, SECONDS_OF_LIST_LOADED = 0.010, 0.100
 # how much the daemon's memory may grow after the first datagrams, in bytes
 BYTES_MORE = 1 << 20
-
-
-class Wrong(Exception):
-    """The daemon did something wrong."""
-
-
-def require(holds, why):
-    if not holds:
-        raise Wrong(why)
 
 
 def receive_room():
@@ -150,10 +142,10 @@ class Flood:
         while self.answer() != ("RLst", number):
             pass
         self.took.append(time.monotonic() - asked)
-        require(not +self.due, f"no answer came to {list(+self.due)[:3]}")
+        need(not +self.due, f"no answer came to {list(+self.due)[:3]}")
         self.waiting = 0
         record = self.member.record()
-        require(record is not None and record.holds(now()), f"the lease has lapsed: {record} at {now()}")
+        need(record is not None and record.holds(now()), f"the lease has lapsed: {record} at {now()}")
         self.ends.add(record.until)
 
     def answer(self):
@@ -164,10 +156,10 @@ class Flood:
             raise Wrong(f"a list is not answered in {SLACK} s") from None
         head, before = frames.Head.read(came), came[: -frames.AUTH_BYTES]
         is_sealed = came == before + frames.auth_part(KEY, before) and head.length == len(came)
-        require(is_sealed and head.sender == frames.member_id(self.member.address), f"this came: {came.hex()}")
+        need(is_sealed and head.sender == frames.member_id(self.member.address), f"this came: {came.hex()}")
         answer = head.cmd.to_bytes(4, "big").decode(), head.request
         if head.request < 2**31:
-            require(self.due[answer] > 0, f"{answer} answers nothing that was sent")
+            need(self.due[answer] > 0, f"{answer} answers nothing that was sent")
             self.due[answer] -= 1
             self.answered += 1
         return answer
@@ -216,12 +208,12 @@ class Scene:
         others = tuple((member.role, member.address) for member in self.others)
         self.foes = Foes(Station(self.one.address, others, (TICKET,), KEY), SEED).made(min(DIFFERENT, self.count))
         for member in (self.two, self.one):
-            require(member.about("CGnt") in ("ok", "Asyn"), f"{member.address} does not take a grant")
-            require(wait_for(lambda: holds(member), SLACK), "the granted ticket is not held")
+            need(member.about("CGnt") in ("ok", "Asyn"), f"{member.address} does not take a grant")
+            need(wait_for(lambda: holds(member), SLACK), "the granted ticket is not held")
             if member is self.two:
-                require(wait_for(lambda: member.about("CRvk") == "ok", SLACK), "the ticket is not revoked")
+                need(wait_for(lambda: member.about("CRvk") == "ok", SLACK), "the ticket is not revoked")
         self.term = self.one.record().term
-        require(self.term > 1, f"the record is {self.one.record()}")
+        need(self.term > 1, f"the record is {self.one.record()}")
 
     def flood(self):
         """Sends all, and notes what the daemon counted and has before and behind."""
@@ -260,13 +252,13 @@ def every_datagram_is_met(scene):
     drops = [after - before for before, after in zip(*scene.counted)]
     heard = {address: scene.heard[1][address] - scene.heard[0][address] for address in scene.heard[0]}
     met = sum(drops) + sum(heard.values()) + flooded.answered
-    require(met + (gone or 0) >= sent, f"of {sent} {met} are met, and {gone or 0} never came")
+    need(met + (gone or 0) >= sent, f"of {sent} {met} are met, and {gone or 0} never came")
     # (a datagram that the system dropped may be of any kind, and is counted nowhere)
     fits = lack_at_most(dict(enumerate(drops)), dict(enumerate(flooded.drops)), gone or 0)
-    require(fits, f"the drops are {drops}, and not {flooded.drops}, of which {gone or 0} never came")
+    need(fits, f"the drops are {drops}, and not {flooded.drops}, of which {gone or 0} never came")
     fits = lack_at_most(collections.Counter(heard), flooded.heard, gone or 0)
-    require(fits, f"it heard {heard}, and not {dict(flooded.heard)}, of which {gone or 0} never came")
-    require(all(flooded.drops) and all(heard.values()), f"the test has not each kind: {flooded.drops}, {heard}")
+    need(fits, f"it heard {heard}, and not {dict(flooded.heard)}, of which {gone or 0} never came")
+    need(all(flooded.drops) and all(heard.values()), f"the test has not each kind: {flooded.drops}, {heard}")
     told = f"{sum(drops)}, {sum(heard.values())} and {flooded.answered} of {sent}, in {scene.took:.1f} s"
     told += f", {scene.took / sent * 1e6:.1f} µs each"
     told += f"; {gone} never came, which the system dropped" if gone else ""
@@ -275,11 +267,11 @@ def every_datagram_is_met(scene):
 
 
 def lists_are_answered(scene):
-    """lists are answered meanwhile, behind all that waits"""
+    """the daemon answers requests for lists during the flood, after the datagrams that already wait"""
     took, load = scene.flooded.took, scene.load / (os.cpu_count() or 1)
     is_loaded, middle = load > 1, statistics.median(took)
     most = SECONDS_OF_LIST_LOADED * max(1, load / 2) if is_loaded else SECONDS_OF_LIST
-    require(middle <= most, f"a list takes {middle * 1000:.1f} ms in the median, at a load of {scene.load:.1f}")
+    need(middle <= most, f"a list takes {middle * 1000:.1f} ms in the median, at a load of {scene.load:.1f}")
     told = f"{len(took)} of them, {middle * 1000:.2f} ms in the median and {max(took) * 1000:.0f} ms at most"
     return told + f", at a load of {scene.load:.1f}" + (f": up to {most * 1000:.0f} ms are taken" if is_loaded else "")
 
@@ -287,9 +279,9 @@ def lists_are_answered(scene):
 def the_lease_runs_on(scene):
     """the lease never lapses meanwhile, and is renewed in its term"""
     renewals = len(scene.flooded.ends) - 1
-    require(scene.one.record().term == scene.term, "the ticket was granted anew")
-    require(renewals > 0 or scene.took < 2 * TIMES.renewal, f"no renewal in {scene.took:.1f} s")
-    require(wait_for(lambda: scene.cluster.shown_by_all() == scene.one.address, SLACK), "a member lists another owner")
+    need(scene.one.record().term == scene.term, "the ticket was granted anew")
+    need(renewals > 0 or scene.took < 2 * TIMES.renewal, f"no renewal in {scene.took:.1f} s")
+    need(wait_for(lambda: scene.cluster.shown_by_all() == scene.one.address, SLACK), "a member lists another owner")
     return f"{renewals} renewals"
 
 
@@ -297,24 +289,24 @@ def memory_stays(scene):
     """the daemon's memory and its open files are as before"""
     before, after = scene.memory
     more = after.resident - before.resident
-    require(after.files == before.files, f"it has {after.files} open files, and had {before.files}")
-    require(after.data == before.data and more <= BYTES_MORE, f"its memory was {before}, and is {after}")
+    need(after.files == before.files, f"it has {after.files} open files, and had {before.files}")
+    need(after.data == before.data and more <= BYTES_MORE, f"its memory was {before}, and is {after}")
     return f"{after.resident >> 10} KiB, {more >> 10} more than after the first {FIRST}"
 
 
 def who_was_stopped_holds_nothing(scene):
     """a daemon that is stopped for longer than its lease comes back and holds nothing"""
     one, two, process = scene.one, scene.two, scene.one.server.process
-    require(holds(one), "the lease does not run")
+    need(holds(one), "the lease does not run")
     # (a site that released the ticket repeats this for two timeouts, and then expects no takeover before a renewal)
     seen = one.record().until
-    require(wait_for(lambda: one.record().until != seen, TIMES.expire), "the lease is not renewed")
+    need(wait_for(lambda: one.record().until != seen, TIMES.expire), "the lease is not renewed")
     process.send_signal(signal.SIGSTOP)
     until = one.record().until
     latest = until + TIMES.guard() + 3 * TIMES.timeout + SLACK
-    require(wait_for(lambda: holds(two), latest - now()), "nobody took over")
+    need(wait_for(lambda: holds(two), latest - now()), "nobody took over")
     taken = now()
-    require(taken > until, f"taken over {until - taken:.3f} s before the lease's end")
+    need(taken > until, f"taken over {until - taken:.3f} s before the lease's end")
     with socket.socket(socket.AF_INET, socket.SOCK_DGRAM) as asker:
         asker.settimeout(SLACK)
         asker.connect((one.address, frames.PORT))
@@ -322,21 +314,21 @@ def who_was_stopped_holds_nothing(scene):
         asker.send(frames.request_now("CLst", 1, key=KEY))
         process.send_signal(signal.SIGCONT)
         shown = asker.recv(frames.FRAME_BYTES)[frames.HEAD_BYTES : -frames.AUTH_BYTES].decode()
-    require(shown.split()[1] in ("none", two.address), f"it comes back and lists {shown}")
-    require(wait_for(lambda: one.shown() == two.address, SLACK), "it does not hear who holds the ticket")
-    require(not holds(one), f"it has a lease: {one.record()}")
-    require(one.about("CGnt") == "Over", "it takes a grant")
-    require(holds(two) and process.poll() is None, "the other site lost the ticket, or this daemon ended")
+    need(shown.split()[1] in ("none", two.address), f"it comes back and lists {shown}")
+    need(wait_for(lambda: one.shown() == two.address, SLACK), "it does not hear who holds the ticket")
+    need(not holds(one), f"it has a lease: {one.record()}")
+    need(one.about("CGnt") == "Over", "it takes a grant")
+    need(holds(two) and process.poll() is None, "the other site lost the ticket, or this daemon ended")
     return f"another took over {taken - until:.1f} s behind the lease's end"
 
 
 def no_two_hold(scene):
     """no two hold the ticket at one moment, and no daemon prints anything"""
     watch = scene.cluster.watch
-    require(not watch.wrong, f"two held: {watch.wrong[:3]}")
-    require(watch.is_looking(), f"nobody looked on after {watch.looks} looks")
+    need(not watch.wrong, f"two held: {watch.wrong[:3]}")
+    need(watch.is_looking(), f"nobody looked on after {watch.looks} looks")
     printed = [member.printed() for member in scene.cluster.members]
-    require(not any(printed), f"a daemon printed {printed}")
+    need(not any(printed), f"a daemon printed {printed}")
     return f"{watch.looks} looks"
 
 
@@ -385,16 +377,16 @@ def judged(cluster, forged=()):
         return f"{told}: each is one; not audited, since boothd has no auditor"
     found = audit(cluster.program, cluster.conf, paths)
     if not forged:
-        require(found.passes(), f"the audit left {found}, {shown_at(paths, found.fault(paths))}")
+        need(found.passes(), f"the audit left {found}, {shown_at(paths, found.fault(paths))}")
         return f"{told}: they pass"
     ends = tuple(f" {datagram.hex()}" for datagram in forged)
     first = next(number for number, line in enumerate(lines[0], 1) if line.startswith("data ") and line.endswith(ends))
-    require(found.fault(paths) == (0, first, "unsent"), f"line {first} was sent by nobody, and the audit left {found}")
+    need(found.fault(paths) == (0, first, "unsent"), f"line {first} was sent by nobody, and the audit left {found}")
     return f"{told}: line {first} is named, the first of {len(forged)} that nobody sent"
 
 
 def journals_of_a_flood(program, folder, own):
-    """a flood leaves journals that an auditor takes, and a message that no member sent is named"""
+    """an auditor accepts the journals of a flood, and names a message that no member sent"""
     with AuditedCluster(program, folder, [next(own) for _ in range(3)], times=TIMES, key=KEY) as cluster:
         scene = Scene(cluster, DIFFERENT_JOURNALED)
         scene.begin()

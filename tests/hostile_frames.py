@@ -1,7 +1,8 @@
 """Datagrams that a member of a cluster with a key may meet: of every command, whole, repeated, mutated and forged.
 
-It is imported by tests/hostile.py, and not run by itself. Those with the right MAC say what a client may ask, or what
-a member said in an earlier term, as whoever repeats their datagrams can make them. None of them may move a ticket.
+It is imported by tests/hostile.py, and not run by itself. An attacker who repeats datagrams of others has only two
+kinds with the right MAC: requests of clients, and messages of members from an earlier term. None of these datagrams may
+move a ticket.
 """
 
 import random

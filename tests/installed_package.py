@@ -11,9 +11,10 @@ import re
 import shutil
 import subprocess
 
+from checks import need
 from installed_parts import NEEDRESTART, PROGRAMS, TOP, files_below, make, on_loopback, wait_until_bound
 from installed_tools import TOOLS, tools_look
-from shells import need, read, run
+from shells import read, run
 
 # what is in the package, and is installed in no other way
 SPDX = "usr/share/doc/booth-proved/booth-proved.spdx.json"

@@ -7,9 +7,10 @@ import os
 import re
 import shutil
 
+from checks import need
 from installed_parts import PROGRAMS, TOP
 from serving import built_program
-from shells import need, read, run
+from shells import read, run
 
 
 def page(name):

@@ -8,9 +8,10 @@ import re
 import socket
 import time
 
+from checks import Wrong, need
 from frames import PORT
 from serving import own_addresses
-from shells import Wrong, need, read, run
+from shells import read, run
 
 TOP = os.path.dirname(os.path.dirname(os.path.abspath(__file__)))
 # each program with its commands; programs that are not built are skipped

@@ -7,8 +7,9 @@ import json
 import os
 import re
 
+from checks import need
 from records import slot
-from shells import need, read, run
+from shells import read, run
 
 TOP = os.path.dirname(os.path.dirname(os.path.abspath(__file__)))
 # the programs that are written in Python or for the shell: they are there even if nothing is built

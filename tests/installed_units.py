@@ -8,8 +8,9 @@ import re
 import shutil
 import subprocess
 
+from checks import need
 from installed_parts import SERVICES, TOP, on_loopback
-from shells import need, read, run
+from shells import read, run
 
 # the greatest exposure of each service, by `systemd-analyze security`, in the order of HANDLERS.md
 MOST_EXPOSED = {"booth-follow@": 4.9, "booth@": 2.0}

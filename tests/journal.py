@@ -29,6 +29,7 @@ sys.path[:0] = [HERE, f"{HERE}/../tools"]
 import frames
 import journal_file
 import record_file
+from checks import Wrong, need
 from members import TICKET, Cluster, Times, wait_for
 from scratch import scratch
 from serving import NotServing, built_program, end_by_signals, own_addresses
@@ -58,17 +59,8 @@ int fdatasync(int file)
 """
 
 
-class Wrong(Exception):
-    """The journal has the wrong content."""
-
-
 class LeftOut(Exception):
     """This machine does not allow what a check needs."""
-
-
-def require(holds, why):
-    if not holds:
-        raise Wrong(why)
 
 
 @contextlib.contextmanager
@@ -90,7 +82,7 @@ def is_held(cluster):
     """Has the first site acquire the ticket. Returns whether it did."""
     one = cluster.members[0]
     granted = one.about("CGnt")
-    require(wait_for(lambda: cluster.shown_by_all() == one.address, 10), f"a grant is told {granted}: {one.printed()}")
+    need(wait_for(lambda: cluster.shown_by_all() == one.address, 10), f"a grant is told {granted}: {one.printed()}")
 
 
 def spelled(digits):
@@ -130,7 +122,7 @@ def a_journal_says_what_a_cluster_did(folder, boothd):
         is_held(cluster)
         one = cluster.members[0]
         first = one.record()
-        require(wait_for(lambda: one.record().until > first.until, 2 * TIMES.renewal), "a renewal")
+        need(wait_for(lambda: one.record().until > first.until, 2 * TIMES.renewal), "a renewal")
         time.sleep(0.5)
         for member in cluster.members:
             member.kill()
@@ -139,16 +131,16 @@ def a_journal_says_what_a_cluster_did(folder, boothd):
         for member in cluster.members:
             entries = said[member.address]
             begin = [entry.kind for entry in entries[:3]]
-            require(begin == ["now", "open", "kept"], f"{member.address} begins with {begin}")
-            require(entries[1].call["address"] == member.address, "the address that it opens")
-            require(kept_by(entries)[-1] == (record_of(member), "ok"), f"the last keep of {member.address}")
-            require(stat.S_IMODE(os.stat(member.journal).st_mode) == 0o600, "others may open the journal")
+            need(begin == ["now", "open", "kept"], f"{member.address} begins with {begin}")
+            need(entries[1].call["address"] == member.address, "the address that it opens")
+            need(kept_by(entries)[-1] == (record_of(member), "ok"), f"the last keep of {member.address}")
+            need(stat.S_IMODE(os.stat(member.journal).st_mode) == 0o600, "others may open the journal")
             for other in said.keys() - {member.address}:
                 came = [entry.came for entry in entries if entry.came.get("address") == other]
                 sent = sent_to(said[other], member.address)
-                require(all(journal_file.bytes_of(each["hex"]) in sent for each in came), "what nobody sent was heard")
+                need(all(journal_file.bytes_of(each["hex"]) in sent for each in came), "what nobody sent was heard")
                 heard += len(came)
-        require(heard > 0, "members heard one another")
+        need(heard > 0, "members heard one another")
     lines = sum(len(entries) for entries in said.values())
     return f"{lines} calls of three members, {heard} datagrams among them"
 
@@ -168,8 +160,8 @@ def a_start_goes_on_behind_the_last_line(folder, boothd):
             cluster.start(0)
             one.kill()
             after = content(one.journal)
-            require(after.startswith(whole + kept + b"now\n"), f"behind {torn[:20]}: {after[len(whole):][:60]}")
-        require(starts(journal_file.read(one.journal)) == 5, "five starts")
+            need(after.startswith(whole + kept + b"now\n"), f"behind {torn[:20]}: {after[len(whole):][:60]}")
+        need(starts(journal_file.read(one.journal)) == 5, "five starts")
     return "through four starts, two of them behind a torn line"
 
 
@@ -191,10 +183,10 @@ def another_file_is_left_as_it_is(folder, boothd):
             cluster.start(0)
             wait_for(lambda: LOST.encode() in one.printed(), 5)
             told = one.printed().decode().count(LOST)
-            require(told == 1 and one.counts(), f"a {kind} as the journal is told {told} times: {one.printed()}")
+            need(told == 1 and one.counts(), f"a {kind} as the journal is told {told} times: {one.printed()}")
             one.kill()
             after = content(one.journal) if os.path.isfile(one.journal) else None
-            require(after == before, f"a {kind} as the journal is written")
+            need(after == before, f"a {kind} as the journal is written")
             os.rename(one.journal, f"{one.journal} {kind}")
         cluster.start(0)
         one.kill()
@@ -203,9 +195,9 @@ def another_file_is_left_as_it_is(folder, boothd):
             before = content(one.journal)
             cluster.start(0)
             wait_for(lambda: LOST.encode() in one.printed(), 5)
-            require("another process writes it" in one.printed().decode(), f"a second writer: {one.printed()}")
+            need("another process writes it" in one.printed().decode(), f"a second writer: {one.printed()}")
             one.kill()
-            require(content(one.journal) == before, "two write one journal")
+            need(content(one.journal) == before, "two write one journal")
     return "a text, a line without an end, a pipe, a directory, a broken link, and another daemon's journal"
 
 
@@ -222,18 +214,18 @@ def a_full_disk_ends_the_journal_alone(folder, boothd):
         one.prepare = keep_files_short
         cluster.start()
         is_held(cluster)
-        require(wait_for(lambda: LOST.encode() in one.printed(), 60), "the journal is full")
+        need(wait_for(lambda: LOST.encode() in one.printed(), 60), "the journal is full")
         size = os.path.getsize(one.journal)
         until = one.record().until
-        require(wait_for(lambda: one.record().until > until, 3 * TIMES.renewal), "it renews no more")
+        need(wait_for(lambda: one.record().until > until, 3 * TIMES.renewal), "it renews no more")
         told = one.printed().decode().count(LOST)
-        require((told, os.path.getsize(one.journal)) == (1, size), f"told {told} times, {size} bytes: {one.printed()}")
+        need((told, os.path.getsize(one.journal)) == (1, size), f"told {told} times, {size} bytes: {one.printed()}")
         one.kill()
         journal_file.entries_of(content(one.journal))
         one.prepare = None
         cluster.start(0)
         one.kill()
-        require(starts(journal_file.read(one.journal)) == 2, "it is written again")
+        need(starts(journal_file.read(one.journal)) == 2, "it is written again")
     return f"at {size} bytes"
 
 
@@ -280,7 +272,7 @@ def may_be_kept(entries):
             may = [kept] if entry.answer == "ok" else [*may, kept]
         elif entry.kind == "kept" and "hex" in entry.came:
             found = spelled(entry.came["hex"])
-            require(found in may, f"line {entry.line}: a start finds {found}, and not one of {may}")
+            need(found in may, f"line {entry.line}: a start finds {found}, and not one of {may}")
             may = [found]
     return may, is_cut
 
@@ -290,7 +282,7 @@ def what_is_kept_was_said(member, kill):
     """
     may, is_cut = may_be_kept(journal_file.read(member.journal))
     record = record_of(member)
-    require(record in may, f"kill {kill}: {record} is kept, and not one of {may}")
+    need(record in may, f"kill {kill}: {record} is kept, and not one of {may}")
     return is_cut
 
 
@@ -313,7 +305,7 @@ def a_daemon_that_is_killed_within_a_keep_has_said_it(folder, boothd):
             asker.join()
         keeps = len(kept_by(journal_file.read(one.journal)))
     told = f"{KILLS} kills, {keeps} keeps, {cut} of them cut"
-    require(cut * KILLS_OF_ONE_CUT >= KILLS, f"too few came within a keep: {told}")
+    need(cut * KILLS_OF_ONE_CUT >= KILLS, f"too few came within a keep: {told}")
     return told
 
 

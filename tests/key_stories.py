@@ -1,8 +1,9 @@
 """Stories in which a key is changed while a ticket stays held. tests/cluster.py imports them."""
 
 import frames
+from checks import need
 from members import now, wait_for
-from stories import NAME, PATIENCE, grants, passed, require, says, story
+from stories import NAME, PATIENCE, grants, passed, says, story
 
 OLD, NEW = b"the-old-key-of-a-cluster", b"the-new-key-of-a-cluster"
 BADMAC = 2
@@ -23,10 +24,10 @@ def goes_on(cluster, member, what):
     one = cluster.members[0]
     until = one.record().until
     is_renewed = lambda: one.record().until > until
-    require(wait_for(is_renewed, PATIENCE), f"{what}: no renewal after the start of {member.address}")
-    require(one.record().holds(now()), f"{what}: the lease ended at the start of {member.address}")
+    need(wait_for(is_renewed, PATIENCE), f"{what}: no renewal after the start of {member.address}")
+    need(one.record().holds(now()), f"{what}: the lease ended at the start of {member.address}")
     all_list = lambda: cluster.shown_by_all() == one.address
-    require(wait_for(all_list, PATIENCE), f"{what}: the owner is not listed after the start of {member.address}")
+    need(wait_for(all_list, PATIENCE), f"{what}: the owner is not listed after the start of {member.address}")
 
 
 @story
@@ -46,9 +47,9 @@ def a_key_that_is_changed(cluster):
             grants(cluster, 0)
         for member in cluster.members:
             ran = member.booth("list")
-            require(ran.status == 0 and f"leader: {one.address}" in ran.printed, f"{what}: booth list left {ran}")
+            need(ran.status == 0 and f"leader: {one.address}" in ran.printed, f"{what}: booth list left {ran}")
             dropped, _ = member.counts()
-            require(dropped[BADMAC] == 0, f"{what}: {member.address} dropped {dropped}")
+            need(dropped[BADMAC] == 0, f"{what}: {member.address} dropped {dropped}")
         passed(f"{what}, at one member after another: the ticket is held, renewed and listed, and no frame is dropped")
 
 
@@ -61,5 +62,5 @@ def a_key_whose_steps_are_not_kept(cluster):
     one.start(cluster.program, cluster.file("one.conf", one.key))
     two.start(cluster.program, cluster.file("two.conf", two.key))
     says(one, ("grant", "-w", NAME), 1, "booth: failed\n")
-    require(two.counts()[0][BADMAC] > 0, "its frames are not dropped")
-    passed("a member drops what one sends that is two steps of a change behind, and no lease comes of it")
+    need(two.counts()[0][BADMAC] > 0, "its frames are not dropped")
+    passed("a member drops the messages of a member that is two steps behind, and no lease results from them")

@@ -21,11 +21,11 @@ sys.path[:0] = [HERE, f"{HERE}/../tools"]
 
 import lease_holding
 import pacemaker_cib
+from checks import need
 from lease_daemons import DaemonWatch
 from lease_holding import Ends, Now
 from pacemaker_room import CLONE, CLOSED, GROUP, PACKAGING, PRIMITIVE, SLACK, TEMPLATE, UNIT, Room, Story, date, same
 from scratch import scratch
-from shells import need
 
 # a guard acts 1 s after an end of these times, and resets the machine 3 s after it
 TIMES = "expire=20 margin=4 stop=1"
@@ -259,7 +259,7 @@ def ends_stand_on_the_time_since_the_boot(room: Room) -> None:
 
 @story
 def the_clock_that_set_an_end_is_kept(room: Room) -> None:
-    """how far the clock that set the last end is ahead stays known after a close and after the guard's restart"""
+    """the guard remembers how far the clock that set the last end is ahead, also after a close and after a restart"""
     folder, key, wall = f"{room.folder}/run", "booth-lease.db8", 1_790_000_000.0
     kept = lambda: lease_holding.told_of(lease_holding.kept_in(folder)[key])
     ends = Ends(folder)

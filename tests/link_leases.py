@@ -7,8 +7,8 @@ import contextlib
 import itertools
 import time
 
+from checks import need
 from crowds import Crowd
-from devices import require
 from members import Cluster, Member, Times, now, wait_for
 from scratch import scratch
 from serving import own_addresses
@@ -33,8 +33,8 @@ def begin(cluster: Cluster) -> Member:
     cluster.remember()
     cluster.start()
     one = cluster.members[0]
-    require(one.about("CGnt") in ("ok", "Asyn"), "a grant is not taken")
-    require(wait_for(lambda: holds(one), SLACK), "the granted ticket is not held")
+    need(one.about("CGnt") in ("ok", "Asyn"), "a grant is not taken")
+    need(wait_for(lambda: holds(one), SLACK), "the granted ticket is not held")
     return one
 
 
@@ -46,16 +46,16 @@ def the_lease_runs_beside_links(program: str) -> str:
         with Busy(one.address, KEY) as busy:
             term, ends, end = one.record().term, set(), time.monotonic() + TIMES.renewal + 2
             while time.monotonic() < end:
-                require(holds(one), "the lease has lapsed")
+                need(holds(one), "the lease has lapsed")
                 ends.add(one.record().until)
                 time.sleep(SECONDS_BETWEEN_LOOKS)
-        require(one.record().term == term and len(ends) > 1, f"no renewal: {ends}")
+        need(one.record().term == term and len(ends) > 1, f"no renewal: {ends}")
         with Busy(two.address, KEY) as more:
             one.kill()
             patience = TIMES.expire + TIMES.guard() + SLACK
-            require(wait_for(lambda: holds(two), patience), "nobody takes over")
-        require(not busy.wrong and not more.wrong, f"a busy link: {(busy.wrong + more.wrong)[:3]}")
-        require(not cluster.watch.wrong, f"two held: {cluster.watch.wrong[:3]}")
+            need(wait_for(lambda: holds(two), patience), "nobody takes over")
+        need(not busy.wrong and not more.wrong, f"a busy link: {(busy.wrong + more.wrong)[:3]}")
+        need(not cluster.watch.wrong, f"two held: {cluster.watch.wrong[:3]}")
     return f"{len(ends) - 1} renewals, and {busy.answered + more.answered} lists"
 
 
@@ -69,14 +69,14 @@ def the_lease_runs_beside_crowds(program: str) -> str:
             opened.enter_context(Crowd(kind, one.address, count))
         ends, took, end = set(), [], time.monotonic() + 2 * TIMES.renewal
         while time.monotonic() < end:
-            require(holds(one), "the lease has lapsed")
+            need(holds(one), "the lease has lapsed")
             ends.add(one.record().until)
             begun = time.monotonic()
-            require(one.ask("CLst") is not None, "a list over UDP is not answered")
+            need(one.ask("CLst") is not None, "a list over UDP is not answered")
             took.append(time.monotonic() - begun)
             time.sleep(SECONDS_BETWEEN_LOOKS)
-        require(len(ends) > 1, f"no renewal: {ends}")
-        require(not cluster.watch.wrong, f"two held: {cluster.watch.wrong[:3]}")
+        need(len(ends) > 1, f"no renewal: {ends}")
+        need(not cluster.watch.wrong, f"two held: {cluster.watch.wrong[:3]}")
     return f"{len(ends) - 1} renewals, and {len(took)} lists over UDP, the slowest in {max(took) * 1000:.0f} ms"
 
 

@@ -21,8 +21,8 @@ sys.path[:0] = [HERE, f"{HERE}/../tools"]
 
 import frames
 import lists
+from checks import Wrong, need
 from crowds import Crowd
-from devices import Wrong, require
 from link_leases import CHECKS as LEASES
 from members import Member, now, wait_for
 from scratch import scratch
@@ -152,7 +152,7 @@ def every_cut_is_one(scene):
             thread.start()
         for thread in threads:
             thread.join()
-    require(not wrong, f"these are answered in another way: {wrong[:3]}")
+    need(not wrong, f"these are answered in another way: {wrong[:3]}")
     return f"{len(cuts)} cuts of {len(asked)} frames, over {LINKS} links"
 
 
@@ -169,7 +169,7 @@ def sixteen_at_once(scene):
             for link, requests in zip(opened, asked):
                 link.socket.sendall(b"".join(request for _, request in requests)[half])
         got = [link.reply("CLst", number) for link, requests in zip(opened, asked) for number, _ in requests]
-    require(len({bodies(frame) for frame in got}) == 1, "two lists differ")
+    need(len({bodies(frame) for frame in got}) == 1, "two lists differ")
     return f"{len(got)} lists of {len(got[0])} bytes"
 
 
@@ -180,7 +180,7 @@ def a_slow_reader_gets_all(scene):
         link.socket.sendall(b"".join(request for _, request in requests))
         got = [link.reply("CLst", number) for number, _ in requests]
         took = time.monotonic() - begun
-    require(len({bodies(frame) for frame in got}) == 1, "two lists differ")
+    need(len({bodies(frame) for frame in got}) == 1, "two lists differ")
     return f"{sum(map(len, got))} bytes in {took:.1f} s"
 
 
@@ -196,7 +196,7 @@ def long_lists(scene):
                 number, request = link.request()
                 link.socket.sendall(request)
                 text, count = long.list_of(link, number)
-                require(count == LONG_PARTS and long.is_whole(text), f"a list of {count} parts and {len(text)} bytes")
+                need(count == LONG_PARTS and long.is_whole(text), f"a list of {count} parts and {len(text)} bytes")
                 got.append(len(text))
         except (Wrong, Closed, OSError, ValueError) as why:
             wrong.append(f"{type(why).__name__}: {why}")
@@ -213,7 +213,7 @@ def long_lists(scene):
             took = time.monotonic() - begun
     finally:
         long.member.kill()
-    require(not wrong, f"{wrong[:3]}")
+    need(not wrong, f"{wrong[:3]}")
     return f"{len(got)} lists of {max(got)} bytes, the slow one in {took:.1f} s"
 
 
@@ -230,8 +230,8 @@ def who_reads_nothing_waits(scene):
                 is_read = False
             other.ask()
         more = resident(scene.process()) - before
-        require(not is_read, f"{sent} bytes are read")
-        require(more <= BYTES_MORE, f"the daemon has {more} bytes more")
+        need(not is_read, f"{sent} bytes are read")
+        need(more <= BYTES_MORE, f"the daemon has {more} bytes more")
     return f"{sent} bytes of requests, and {max(0, more) >> 10} KiB more"
 
 
@@ -259,11 +259,11 @@ def who_is_idle_makes_room(scene):
         with Link(scene.address) as late:
             late.ask()
             took = time.monotonic() - begun
-            require(opened[1].ends(SLACK), "the link that is idle longest is open")
+            need(opened[1].ends(SLACK), "the link that is idle longest is open")
             late.ask()
         for link in opened[2:] + opened[:1]:
             link.ask()
-    require(SECONDS_IDLE / 2 < took < SECONDS_IDLE + SLACK, f"it is answered after {took:.1f} s")
+    need(SECONDS_IDLE / 2 < took < SECONDS_IDLE + SLACK, f"it is answered after {took:.1f} s")
     return f"after {took:.1f} s"
 
 
@@ -295,7 +295,7 @@ def crowds_keep_nobody_out(scene):
                     took.append(asked_in_a_crowd(scene))
                 except (Closed, OSError) as why:
                     raise Wrong(f"{count} {kind}: ask {number + 1}: {type(why).__name__}: {why}") from why
-        require(max(took) <= SECONDS_IN_A_CROWD, f"{count} {kind}: it is answered after {max(took):.1f} s")
+        need(max(took) <= SECONDS_IN_A_CROWD, f"{count} {kind}: it is answered after {max(took):.1f} s")
         told.append(f"{count} {kind} {max(took) * 1000:.0f}")
     return f"at the latest after so many ms: {', '.join(told)}"
 
@@ -325,7 +325,7 @@ def connections_leave_nothing(scene):
                 link.socket.sendall(link.request()[1][:30])
         count += 1
     rest = scene.files_at_rest
-    require(wait_for(lambda: scene.files() == rest, SLACK), f"it has {scene.files()} open files, and had {rest}")
+    need(wait_for(lambda: scene.files() == rest, SLACK), f"it has {scene.files()} open files, and had {rest}")
     with Link(scene.address) as link:
         link.ask()
     return f"{count} connections in {time.monotonic() - begun:.1f} s"
@@ -342,7 +342,7 @@ def a_request_ends_the_wait(scene):
             link.ask()
             took.append(time.monotonic() - begun)
     median = statistics.median(took)
-    require(median < SECONDS_OF_WAIT / 4, f"the median of {len(took)} is {median * 1000:.0f} ms")
+    need(median < SECONDS_OF_WAIT / 4, f"the median of {len(took)} is {median * 1000:.0f} ms")
     return f"the median of {len(took)} is {median * 1000:.1f} ms"
 
 
@@ -360,7 +360,7 @@ def the_port_is_bound_once_and_again(scene):
         try:
             member.start(scene.program, conf)
         except NotServing as why:
-            require("cannot open" in str(why), f"it says {why}")
+            need("cannot open" in str(why), f"it says {why}")
         else:
             member.kill()
             raise Wrong("it starts")
@@ -385,7 +385,7 @@ def the_example_prints(scene):
     ran = subprocess.run(words, capture_output=True, timeout=SLACK)
     with Link(scene.address) as link:
         due = link.ask()[frames.HEAD_BYTES :]
-    require(ran.stdout == due and ran.returncode == 0, f"it prints {ran.stdout[:80]}, and says {ran.stderr}")
+    need(ran.stdout == due and ran.returncode == 0, f"it prints {ran.stdout[:80]}, and says {ran.stderr}")
     held = lists.held_in(due) if due else []
     return f"{len(list(held))} tickets"
 

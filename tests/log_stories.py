@@ -5,11 +5,12 @@ It is imported by tests/cluster.py, and not run by itself. The lines are those o
 
 import os
 
+from checks import need
 from frames import PORT
 from handler_stories import Handler
 from members import now, wait_for
 from promise_stories import FULL
-from stories import NAME, PATIENCE, date, grants, is_held_by, passed, require, says, story
+from stories import NAME, PATIENCE, date, grants, is_held_by, passed, says, story
 
 VERSION = "0.2.0"
 
@@ -33,7 +34,7 @@ def told_by(member, count):
 def tells(member, lines):
     """Checks that the whole log of a member has these lines."""
     told = told_by(member, len(lines))
-    require(told == lines, f"{member.address} told {told}, and not {lines}")
+    need(told == lines, f"{member.address} told {told}, and not {lines}")
 
 
 def last_lease(member):
@@ -41,7 +42,7 @@ def last_lease(member):
     last = member.record()
     end = now() + PATIENCE
     while (record := member.record()).until is not None:
-        require(now() < end, "the lease is not given back")
+        need(now() < end, "the lease is not given back")
         last = record
     return last
 
@@ -59,21 +60,21 @@ def a_log_with_a_handler(cluster):
     granted = one.record()
     tells(one, [begins(cluster, one), ready, lease("gains", granted)])
     tells(two, [begins(cluster, two), ready])
-    passed("a grant is told by its site alone: the ticket, the term and the lease's end")
+    passed("only the granted site logs a grant: the ticket, the term and the lease's end")
 
     one.kill()
-    require(wait_for(lambda: is_held_by(cluster, two), PATIENCE), "nobody took over")
+    need(wait_for(lambda: is_held_by(cluster, two), PATIENCE), "nobody took over")
     taken, left = two.record(), one.record()
     tells(two, [begins(cluster, two), ready, lease("gains", taken)])
     one.start(cluster.program, cluster.conf)
     tells(one, [begins(cluster, one), lease("begins with", left), ready])
-    passed("so is a takeover; and a start tells which lease it found")
+    passed("the same holds for a takeover; and a start logs which lease it found")
 
     Handler(cluster, two).set("fails")
     given = last_lease(two)
     status = f"boothd: ticket {NAME}: its handler ended with status 3"
     tells(two, [begins(cluster, two), ready, lease("gains", taken), status, lease("gives back", given)])
-    passed("a handler that refuses is told, and that the lease is given back; no renewal is")
+    passed("a refusal of the handler and the release of the lease are logged, and no renewal is")
 
     again = grants(cluster, 0)
     tells(one, [begins(cluster, one), lease("begins with", left), ready, lease("gains", again)])
@@ -85,8 +86,8 @@ def a_log_with_a_handler(cluster):
     os.rename(aside, path)
     failed = f"boothd: cannot keep the record of ticket {NAME}: it is no regular file"
     found = told_by(one, 6)[4:]
-    require(found == [failed, lease("fails to give back", one.record())], f"{one.address} told {found}")
-    passed("and where the record could not be kept, that the lease may not be given back")
+    need(found == [failed, lease("fails to give back", one.record())], f"{one.address} told {found}")
+    passed("if the record could not be written, the log says that the lease may not be released")
     # (programs that still run at the end of a story must have printed nothing)
     for member in cluster.members:
         member.kill()

@@ -10,6 +10,7 @@ import re
 import time
 
 import frames
+from checks import need
 from fake_members import FakeMember
 from serving import own_addresses
 from status_runs import (
@@ -19,9 +20,6 @@ from status_runs import (
     first_text,
     metrics_of,
     problems_of,
-
-
-    require,
     require_problems,
     require_same,
     run_apart,
@@ -160,14 +158,14 @@ def due_member(three, address, never, web, until):
 
 def without_moments(found, ahead):
     """Returns a member of the document without the values that depend on the moment, if each is in its range."""
-    require(about(found.pop("seconds_to_answer"), 0, 3), "seconds_to_answer")
-    require(about(found.pop("clock_ahead_seconds"), ahead - 1, ahead + 1), "clock_ahead_seconds")
+    need(about(found.pop("seconds_to_answer"), 0, 3), "seconds_to_answer")
+    need(about(found.pop("clock_ahead_seconds"), ahead - 1, ahead + 1), "clock_ahead_seconds")
     for peer in found["peers"]:
         ago = peer.pop("last_seconds_ago")
-        require(ago is None if peer["last"] is None else about(ago, ahead + 2, ahead + 30), f"{peer}: {ago} s ago")
+        need(ago is None if peer["last"] is None else about(ago, ahead + 2, ahead + 30), f"{peer}: {ago} s ago")
     for held in found["tickets"]:
         left = held.pop("seconds_left")
-        require(left is None if held["until"] is None else about(left, 10, 50), f"{held}: {left} s left")
+        need(left is None if held["until"] is None else about(left, 10, 50), f"{held}: {left} s left")
     return found
 
 
@@ -197,7 +195,7 @@ def a_list_in_parts_is_one(folder):
         ran = status("-c", three.path)
     require_same((ran.status, ran.said), (0, ""))
     told = [line.split() for line in ran.printed.splitlines()]
-    require(not any("partly" in line for line in told), ran.printed)
+    need(not any("partly" in line for line in told), ran.printed)
 
 
 @story
@@ -213,7 +211,7 @@ def every_field_of_the_document(folder):
         told = document("-c", three.path, "-t", "3")
     require_same(list(told), FIELDS, "its fields are ")
     require_same((told["configuration"], told["status"]), (three.path, 1))
-    require(about(told["time"], three.now, three.now + 30) and about(told["seconds"], 0, 3), "the look's time")
+    need(about(told["time"], three.now, three.now + 30) and about(told["seconds"], 0, 3), "the look's time")
     arranged = {one: (0, one, three.now + 50), two: (0, None, None), third: (9, one, three.now + 59)}
     for found, (address, (ahead, web, until)) in zip(told["members"], arranged.items()):
         require_same(without_moments(found, ahead), due_member(three, address, (two, third), web, until))
@@ -283,9 +281,9 @@ def every_sample_of_the_metrics(folder):
     require_same([name for name in os.listdir(folder) if "prom" in name], ["booth.prom"])
     for key, (low, high) in moving_samples(three, (one, two)).items():
         value = found.pop(key, None)
-        require(about(value, low, high), f"{key} is {value}")
+        need(about(value, low, high), f"{key} is {value}")
     due = due_samples(three, (one, two))
-    require(found == due, f"{sorted(map(str, found.items() ^ due.items()))}")
+    need(found == due, f"{sorted(map(str, found.items() ^ due.items()))}")
 
 
 @story
@@ -294,14 +292,14 @@ def one_line_and_its_status(folder):
     three = Three(folder)
     with well(three):
         lines = [status("-c", three.path, *words) for words in (["-b"], [], ["-j"], ["-m", "-"])]
-    require([ran.status for ran in lines] == [0, 0, 0, 0], f"{lines}")
-    require(lines[0].printed == "BOOTH OK: 3 of 3 members answer, 2 of 2 tickets are held\n", lines[0].printed)
-    require(lines[1].printed.endswith("\n\nOK: 3 of 3 members answer, 2 of 2 tickets are held\n"), lines[1].printed)
+    need([ran.status for ran in lines] == [0, 0, 0, 0], f"{lines}")
+    need(lines[0].printed == "BOOTH OK: 3 of 3 members answer, 2 of 2 tickets are held\n", lines[0].printed)
+    need(lines[1].printed.endswith("\n\nOK: 3 of 3 members answer, 2 of 2 tickets are held\n"), lines[1].printed)
     with well(three, held=three.held(None, None)):
         free = status("-b", "-c", three.path)
         fine = status("-b", "-c", three.path, "-f", "web")
-    require((free.status, free.printed) == (1, "BOOTH WARNING: web: nobody holds it\n"), str(free))
-    require((fine.status, fine.printed) == (0, "BOOTH OK: 3 of 3 members answer, 0 of 2 tickets are held\n"), str(fine))
+    need((free.status, free.printed) == (1, "BOOTH WARNING: web: nobody holds it\n"), str(free))
+    need((fine.status, fine.printed) == (0, "BOOTH OK: 3 of 3 members answer, 0 of 2 tickets are held\n"), str(fine))
     many = [f"t{number}" for number in range(12)]
     with open(three.path, "a", encoding="ascii") as file:
         file.writelines(f"ticket = {name}\n" for name in many)
@@ -326,17 +324,17 @@ def a_look_ends_in_its_time(folder):
     with all_of([three.fake(one), three.fake(two, meddle=junk), three.fake(third, meddle=lambda answer: [])]):
         for seconds in (0.3, 1.0):
             ran = run_apart("booth-status", "-b", "-c", three.path, "-t", seconds)
-            require(ran.took < seconds + SECONDS_OF_PYTHON, f"it took {ran.took:.1f} s of {seconds}")
+            need(ran.took < seconds + SECONDS_OF_PYTHON, f"it took {ran.took:.1f} s of {seconds}")
         told = document("-c", three.path, "-t", 1)
-    require(told["seconds"] <= 1.2, f"the look took {told['seconds']} s")
+    need(told["seconds"] <= 1.2, f"the look took {told['seconds']} s")
     silent = [warning("silent", two), warning("silent", third), warning("silent-owner", two, ticket="db")]
     require_problems(told, critical("no-majority"), *silent)
     text = next(each["text"] for each in told["problems"] if each["member"] == third)
-    require(re.fullmatch(re.escape(f"{third}: is silent; {one} heard from it ") + r"\d+ s ago", text), text)
+    need(re.fullmatch(re.escape(f"{third}: is silent; {one} heard from it ") + r"\d+ s ago", text), text)
     told = document("-c", three.path)
     require_problems(told, critical("no-majority"), *(warning("no-daemon", each) for each in three.addresses))
     require_same([each["answer"] for each in told["members"]], ["no-daemon"] * 3)
-    require(told["seconds"] < 1, f"the look took {told['seconds']} s")
+    need(told["seconds"] < 1, f"the look took {told['seconds']} s")
     # half of the members is no majority
     with open(three.path, encoding="ascii") as file:
         text = file.read().replace(f"arbitrator = {third}\n", "")
@@ -360,7 +358,7 @@ def a_lost_datagram_is_asked_for_again(folder):
 
     with all_of([three.fake(one), three.fake(two, meddle=lose_two), three.fake(third)]):
         told = document("-c", three.path)
-    require(told["status"] == 0 and len(seen) == 4, f"{told['summary']}, after {len(seen)} answers")
+    need(told["status"] == 0 and len(seen) == 4, f"{told['summary']}, after {len(seen)} answers")
 
 
 @story
@@ -399,7 +397,7 @@ def what_is_no_answer_is_told(folder):
         kind = "partly" if meddle is no_number else "bad"
         require_problems(told, warning(kind, third))
         found = told["members"][2]
-        require(found["answer"] == kind and found["why"].startswith(why), f"{found['answer']}: {found['why']}")
+        need(found["answer"] == kind and found["why"].startswith(why), f"{found['answer']}: {found['why']}")
     listless = FakeMember(third, PORT, None, three.peers(third), key=KEY)
     with all_of([three.fake(one, key=KEY), three.fake(two, key=KEY), listless]):
         told = document("-c", three.path, "-t", 0.8)
@@ -447,5 +445,5 @@ def another_configuration_is_told(folder):
     for held_there, lines, text in cases:
         with all_of([three.fake(one), three.fake(two), three.fake(third, held_there, lines)]):
             told = document("-c", three.path)
-        require(critical("other-file", third) in problems_of(told), told["summary"])
+        need(critical("other-file", third) in problems_of(told), told["summary"])
         require_same(first_text(told), f"{third}: runs another configuration: {text}")

@@ -20,7 +20,8 @@ sys.path[:0] = [HERE, f"{HERE}/../tools"]
 
 import refusals
 import replies
-from room import Room, Wrong, checks
+from checks import Wrong
+from room import Room, checks
 from scratch import scratch
 from serving import built_program, end_by_signals, turn
 

@@ -19,13 +19,14 @@ from typing import Callable, Dict, IO, Iterator, List, Optional, Tuple
 HERE = os.path.dirname(os.path.abspath(__file__))
 sys.path[:0] = [HERE, f"{HERE}/../tools"]
 
+from checks import Wrong, need
 from follow import NAME, TIMES, keep_clock
 from host_handlers import content, write_script
 from host_lines import Manager, manager, surroundings
 from members import Cluster
 from scratch import scratch
 from serving import built_program, end_by_signals, own_addresses
-from stories import PATIENCE, Wrong, passed, require
+from stories import PATIENCE, passed
 
 # the additional time for a line that comes once a second, in seconds: a busy machine may have no processor for it
 LATE = 10
@@ -86,7 +87,7 @@ def daemon_lines(programs: Tuple[str, str], place: Place) -> None:
         with place.running(place.daemon(programs[0]), journal):
             told = place.lines(2)
         begin, *others = told or ["nothing"]
-        require(begin.startswith(f"{begins}begins: version ") and others == [f"{ready}ready, tickets: 1"], f"{told}")
+        need(begin.startswith(f"{begins}begins: version ") and others == [f"{ready}ready, tickets: 1"], f"{told}")
 
 
 def daemon_failures(programs: Tuple[str, str], place: Place) -> None:
@@ -95,8 +96,8 @@ def daemon_failures(programs: Tuple[str, str], place: Place) -> None:
     for address, text in refusals.items():
         lock = ["-l", f"{place.folder}/lock"]
         with place.running([programs[0], "daemon", "-c", place.conf, *lock, "-s", address], True) as process:
-            require(process.wait(PATIENCE) == 1, "another status")
-        require(content(place.errors).startswith(f"<3>{text}"), content(place.errors))
+            need(process.wait(PATIENCE) == 1, "another status")
+        need(content(place.errors).startswith(f"<3>{text}"), content(place.errors))
 
 
 def told_until(systemd: Manager, text: str) -> List[str]:
@@ -114,14 +115,14 @@ def follower_notices(programs: Tuple[str, str], place: Place) -> None:
         with manager(f"{place.folder}/m") as systemd:
             with place.running(place.follower(programs[1]), False, NOTIFY_SOCKET=f"{place.folder}/m"):
                 first, *others = told_until(systemd, "READY=1")
-                require(first.startswith("STATUS=") and others == ["READY=1"], f"with {body}: {first}, {others}")
+                need(first.startswith("STATUS=") and others == ["READY=1"], f"with {body}: {first}, {others}")
                 told_until(systemd, "WATCHDOG=1")
                 began = time.monotonic()
                 told = told_until(systemd, "WATCHDOG=1") + told_until(systemd, "WATCHDOG=1")
                 took = time.monotonic() - began
-                require(1.5 < took < 2 + LATE, f"{told} in {took:.1f} s")
+                need(1.5 < took < 2 + LATE, f"{told} in {took:.1f} s")
                 others = [text for text in told if text != "WATCHDOG=1" and not text.startswith("STATUS=")]
-                require(not others, f"with {body}: {others}")
+                need(not others, f"with {body}: {others}")
         os.remove(f"{place.folder}/m")
 
 
@@ -131,8 +132,8 @@ def follower_lines(programs: Tuple[str, str], place: Place) -> None:
     for journal, begins in ((True, "<"), (False, "booth-follow: ")):
         with place.running(place.follower(programs[1]), journal):
             told = place.lines(2)
-        require(len(told) > 1 and all(line.startswith(begins) for line in told), f"{told}")
-        require(journal or not any("<" in line for line in told), f"{told}")
+        need(len(told) > 1 and all(line.startswith(begins) for line in told), f"{told}")
+        need(journal or not any("<" in line for line in told), f"{told}")
 
 
 def stopped_follower(programs: Tuple[str, str], place: Place) -> None:
@@ -145,7 +146,7 @@ def stopped_follower(programs: Tuple[str, str], place: Place) -> None:
             time.sleep(0.3)
             systemd.all_told()
             time.sleep(2.2)
-            require(systemd.all_told() == [], "it is told something")
+            need(systemd.all_told() == [], "it is told something")
             process.send_signal(signal.SIGCONT)
             told_until(systemd, "WATCHDOG=1")
 
@@ -156,10 +157,10 @@ def follower_failures(programs: Tuple[str, str], place: Place) -> None:
     os.remove(f"{place.folder}/records/booth.clock")
     with manager(f"{place.folder}/m") as systemd:
         with place.running(words, True, NOTIFY_SOCKET=f"{place.folder}/m") as process:
-            require(process.wait(PATIENCE) == 1, "another status")
-        require(systemd.all_told() == [], "it is told something")
+            need(process.wait(PATIENCE) == 1, "another status")
+        need(systemd.all_told() == [], "it is told something")
     unkept = "<3>cannot read the clock of the records: no daemon wrote its clock there since the boot\n"
-    require(content(place.errors) == unkept, content(place.errors))
+    need(content(place.errors) == unkept, content(place.errors))
 
 
 CHECKS: Tuple[Callable[[Tuple[str, str], Place], None], ...] = (

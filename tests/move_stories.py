@@ -5,8 +5,9 @@ It is imported by tests/cluster.py, and not run by itself.
 
 import time
 
+from checks import need
 from members import MANUAL, now, wait_for
-from stories import BY_HAND, NAME, PATIENCE, grants, is_held_by, keeps, lists, passed, require, says, slack, story
+from stories import BY_HAND, NAME, PATIENCE, grants, is_held_by, keeps, lists, passed, says, slack, story
 
 # how often the ticket moves to the other site and back
 ROUND_TRIPS = 5
@@ -19,9 +20,9 @@ def moves(asked, target, *options, name=NAME):
 
 def is_free(cluster, holder):
     """Checks that nobody holds the ticket that this member released, and that no member lists a holder."""
-    require(holder.record().until is None, "the lease that was given back is kept")
+    need(holder.record().until is None, "the lease that was given back is kept")
     shown = lambda: [m.address for m in cluster.members if m.is_running() and m.shown()]
-    require(wait_for(lambda: not shown(), PATIENCE), "an owner is listed")
+    need(wait_for(lambda: not shown(), PATIENCE), "an owner is listed")
 
 
 def stays_free(cluster):
@@ -29,7 +30,7 @@ def stays_free(cluster):
     end = now() + cluster.times.abstention() + 2 * cluster.times.timeout
     while now() < end:
         holders = [m.address for m in cluster.members if (record := m.record()) and record.holds(now())]
-        require(not holders, f"{holders} took it over")
+        need(not holders, f"{holders} took it over")
         time.sleep(0.05)
 
 
@@ -49,21 +50,21 @@ def many_tickets_of_which_one_is_moved(cluster):
             started = now()
             moves(asked, target, "-w")
             longest = max(longest, now() - started)
-            require(target.record().holds(now()), "it is told as moved, and is not held")
-            require(holder.record().until is None, "the site that gave it back has its lease")
+            need(target.record().holds(now()), "it is told as moved, and is not held")
+            need(holder.record().until is None, "the site that gave it back has its lease")
         trips += 1
-    require(longest < PATIENCE, f"a move took {longest:.3f} s")
+    need(longest < PATIENCE, f"a move took {longest:.3f} s")
     renewed = [ticket for ticket, until in others.items() if one.record(ticket).until != until]
-    require(len(renewed) == len(others), f"{len(renewed)} of {len(others)} others were renewed meanwhile")
+    need(len(renewed) == len(others), f"{len(renewed)} of {len(others)} others were renewed meanwhile")
     passed(f"a ticket is moved to the other site and back {trips} times while {len(others)} others are renewed")
     before = one.record()
     for asked, options in ((one, ("-w",)), (two, ())):
         said = f"ticket {NAME} is held by {one.address} already: nothing is changed\n"
         says(asked, ("move", *options, NAME, one.address), 0, said)
-    require(one.record().term == before.term and one.record().holds(now()), "it was not held all the time")
-    passed("a move to the site that holds it changes nothing, whoever is asked, and says so")
+    need(one.record().term == before.term and one.record().holds(now()), "it was not held all the time")
+    passed("a move to the site that holds the ticket changes nothing, whichever member is asked, and says so")
     says(one, ("move", NAME, arbitrator.address), 1, f"booth: {arbitrator.address} is not a site\n")
-    require(one.record().holds(now()), "what was refused changed something")
+    need(one.record().holds(now()), "what was refused changed something")
     says(one, ("revoke", NAME), 0, f"ticket {NAME} revoked\n")
     says(one, ("move", "-w", NAME, two.address), 1, "booth: ticket is not granted\n")
     is_free(cluster, one)
@@ -82,14 +83,14 @@ def a_move_to_a_site_that_is_down(cluster):
     before = one.record()
     why = f"{two.address} refuses links over TCP too: does the daemon run there?"
     says(one, ("move", "-w", NAME, two.address), 1, f"booth: no reply\nbooth: {why}\n")
-    require(5 < now() - asked < 5 + 2 * slack(), f"it was told after {now() - asked:.2f} s")
-    require(one.record().term == before.term and one.record().holds(now()), "it was given back")
-    passed("a move to a site that is down is told as one without a reply, and the ticket stays where it is")
+    need(5 < now() - asked < 5 + 2 * slack(), f"it was told after {now() - asked:.2f} s")
+    need(one.record().term == before.term and one.record().holds(now()), "it was given back")
+    passed("a move to a site that is down reports no reply, and the ticket stays where it is")
     two.start(cluster.program, cluster.conf)
-    require(wait_for(lambda: two.shown() == one.address, PATIENCE), "the site that runs again does not list the holder")
+    need(wait_for(lambda: two.shown() == one.address, PATIENCE), "the site that runs again does not list the holder")
     moves(two, two, "-w")
     lists(cluster, two)
-    passed("once the site runs again the ticket is moved there, also by the site that is to have it")
+    passed("once the site runs again, the ticket is moved there, also if the target site is asked")
 
 
 @story
@@ -111,8 +112,8 @@ def a_move_that_attributes_forbid(cluster):
     passed("nobody takes it over by itself")
     keeps(two, ("delete", "maintenance"), 0, "")
     says(two, ("grant", "-w", NAME), 0, f"ticket {NAME} granted\n")
-    require(wait_for(lambda: is_held_by(cluster, two), PATIENCE), "it is not held")
-    passed("it is granted there once what refused it is mended")
+    need(wait_for(lambda: is_held_by(cluster, two), PATIENCE), "it is not held")
+    passed("it is granted there once the cause of the refusal is corrected")
 
 
 @story
@@ -123,10 +124,10 @@ def a_move_of_a_manual_ticket(cluster):
     says(one, ("grant", BY_HAND), 0, f"ticket {BY_HAND} granted\n")
     moves(one, two, name=BY_HAND)
     kept = [member.record(MANUAL).until for member in (one, two)]
-    require(kept[0] is None and kept[1] is not None, f"the records have {kept}")
+    need(kept[0] is None and kept[1] is not None, f"the records have {kept}")
     moves(one, one, "-w", name=BY_HAND)
     kept = [member.record(MANUAL).until for member in (one, two)]
-    require(kept[1] is None and kept[0] is not None, f"the records have {kept}")
+    need(kept[1] is None and kept[0] is not None, f"the records have {kept}")
     shown_everywhere = lambda: {m.shown(MANUAL) for m in cluster.members} == {one.address}
-    require(wait_for(shown_everywhere, PATIENCE), "it is not listed at its owner")
+    need(wait_for(shown_everywhere, PATIENCE), "it is not listed at its owner")
     passed("a manual ticket is moved to the other site and back, and has one owner each time")

@@ -11,7 +11,8 @@ import subprocess
 import time
 from typing import Callable, Dict, Iterable, List, NamedTuple, Tuple
 
-from shells import Wrong, need
+from checks import Wrong, need
+
 
 TOP = os.path.dirname(os.path.dirname(os.path.abspath(__file__)))
 PACKAGING = f"{TOP}/packaging"

@@ -19,9 +19,9 @@ sys.path[:0] = [HERE, f"{HERE}/../tools"]
 
 import pacemaker_asking
 import pacemaker_cib
+from checks import need
 from pacemaker_room import CLONE, CLOSED, GROUP, PRIMITIVE, TICKET, Ended, Room, Story, date, same
 from scratch import scratch
-from shells import need
 
 TIMES = "expire=60 margin=10 stop=2"
 LEFT = 30_000

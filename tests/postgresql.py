@@ -17,6 +17,7 @@ HERE = os.path.dirname(os.path.abspath(__file__))
 sys.path[:0] = [HERE, f"{HERE}/../tools"]
 
 import machine_writers
+from checks import Wrong, need
 from machine_writers import Try
 from postgresql_sites import (
     MANUAL,
@@ -34,7 +35,6 @@ from postgresql_sites import (
     missing,
 )
 from serving import end_by_signals
-from shells import Wrong, need
 
 NOT_HERE = 77
 KEPT = "/var/lib/booth-postgresql"

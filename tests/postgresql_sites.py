@@ -18,7 +18,7 @@ import time
 from typing import Callable, Dict, List, NamedTuple, Optional, Set
 
 import record_file
-from shells import Wrong, need
+from checks import Wrong, need
 
 TOP = os.path.dirname(os.path.dirname(os.path.abspath(__file__)))
 TICKET, MANUAL, NAME = "db8", "by-hand", "pg"

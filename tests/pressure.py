@@ -26,7 +26,8 @@ TOP = os.path.dirname(HERE)
 sys.path[:0] = [HERE, f"{TOP}/tools"]
 
 import frames
-from devices import LeftOut, Wrong, require
+from checks import Wrong, need
+from devices import LeftOut
 from members import TICKET, Cluster, Member, Times, now, path_in, wait_for
 from scratch import scratch
 from serving import NotServing, built_program, end_by_signals, own_addresses
@@ -125,7 +126,7 @@ def begin_slowly(cluster: Cluster, slow: SlowDisk) -> None:
     cluster.start(1, 2)
     granted = one.about("CGnt")
     is_held = wait_for(lambda: cluster.shown_by_all() == one.address, SLACK)
-    require(is_held, f"a grant is told {granted}: {one.printed()}")
+    need(is_held, f"a grant is told {granted}: {one.printed()}")
 
 
 def through_a_slow_disk(folder: str, boothd: str, row: Row, addresses: List[str]) -> str:
@@ -144,7 +145,7 @@ def through_a_slow_disk(folder: str, boothd: str, row: Row, addresses: List[str]
         # (a member that waits for its disk answers late)
         slow.sync_takes(0)
         told = one.printed().decode()
-        require(not cluster.watch.wrong, f"two held: {cluster.watch.wrong[:3]}")
+        need(not cluster.watch.wrong, f"two held: {cluster.watch.wrong[:3]}")
     return judged(row, sites, begun, told)
 
 
@@ -153,14 +154,14 @@ def judged(row: Row, sites: List[Looks], begun: float, told: str) -> str:
     one, two = sites
     gains = {site.member.address: [round(gain - begun, 1) for gain in site.gains] for site in sites}
     for site in sites:
-        require(site.shortest_change() >= row.expire, f"{row}: it changes more often than that: {gains}")
+        need(site.shortest_change() >= row.expire, f"{row}: it changes more often than that: {gains}")
     if row.goes_on and not two.gains:
-        require(one.holds, f"{row}: nobody holds")
+        need(one.holds, f"{row}: nobody holds")
         return f"{row.expire}/{row.renewal}, {row.sync} s: the holder goes on"
-    require(two.gains and two.holds, f"{row}: the other site does not hold: {gains}: {told}")
+    need(two.gains and two.holds, f"{row}: the other site does not hold: {gains}: {told}")
     took = two.gains[0] - begun
-    require(took <= 2 * row.expire, f"{row}: the other site holds after {took:.1f} s")
-    require("and a write may take" in told, f"{row}: no line tells of it: {told}")
+    need(took <= 2 * row.expire, f"{row}: the other site holds after {took:.1f} s")
+    need("and a write may take" in told, f"{row}: no line tells of it: {told}")
     return f"{row.expire}/{row.renewal}, {row.sync} s: the other site holds after {took:.1f} s"
 
 
@@ -210,7 +211,7 @@ def a_limit_in_the_environment_counts(folder: str, programs: Programs) -> str:
                 is_so = wait_for(lambda: holds_by_its_list(one), SLACK) and not one.printed()
             else:
                 is_so = wait_for(lambda: words in one.printed().decode(), SLACK)
-            require(is_so, f"{value}: {one.printed()}")
+            need(is_so, f"{value}: {one.printed()}")
     return f"{len(rows)} limits"
 
 
@@ -228,16 +229,16 @@ def few_open_files_leave_the_lease_alone(folder: str, programs: Programs) -> str
         one.prepare = limit_files
         cluster.start()
         one.about("CGnt")
-        require(wait_for(lambda: cluster.shown_by_all() == one.address, SLACK), f"a grant: {one.printed()}")
+        need(wait_for(lambda: cluster.shown_by_all() == one.address, SLACK), f"a grant: {one.printed()}")
         for _ in range(LINKS_OPENED):
             opened.enter_context(socket.create_connection((one.address, frames.PORT)))
         ends, end = set(), time.monotonic() + 2 * times.expire
         while time.monotonic() < end:
-            require(one.record().holds(now()), f"the lease is lost: {one.printed()}")
+            need(one.record().holds(now()), f"the lease is lost: {one.printed()}")
             ends.add(one.record().until)
             time.sleep(SECONDS_BETWEEN_LOOKS)
         told = one.printed().decode()
-    require("leaves room for 0 links over TCP, and not for 16" in told, f"no line tells of it: {told}")
+    need("leaves room for 0 links over TCP, and not for 16" in told, f"no line tells of it: {told}")
     return f"{len(ends) - 1} renewals with {FILES} open files and {LINKS_OPENED} links"
 
 
@@ -257,11 +258,11 @@ def links_are_served_within_the_limit(folder: str, programs: Programs) -> str:
                 link = opened.enter_context(socket.create_connection((address, frames.PORT), SLACK))
                 link.sendall(frames.request_now("CLst", number + 1))
                 # (a link that was answered keeps its place for two seconds)
-                require(link.recv(frames.HEAD_BYTES), f"link {number + 1} is closed: {member.printed()}")
+                need(link.recv(frames.HEAD_BYTES), f"link {number + 1} is closed: {member.printed()}")
         told = member.printed().decode()
     finally:
         member.kill()
-    require("leaves room for 2 links over TCP, and not for 16" in told, f"no line tells of it: {told}")
+    need("leaves room for 2 links over TCP, and not for 16" in told, f"no line tells of it: {told}")
     return f"{LINKS_OPENED} peers over two links"
 
 
@@ -309,8 +310,8 @@ def a_file_system_that_takes_no_writes_is_no_vote(folder: str, programs: Program
             cluster.remember()
             cluster.start()
             two.about("CGnt")
-            require(wait_for(lambda: cluster.shown_by_all() == two.address, SLACK), "it is not granted")
-            require(wait_for(lambda: one.record().term > 0, SLACK), "the member does not vote")
+            need(wait_for(lambda: cluster.shown_by_all() == two.address, SLACK), "it is not granted")
+            need(wait_for(lambda: one.record().term > 0, SLACK), "the member does not vote")
             one.kill()
             os.remove(os.path.join(one.records, "booth.clock"))
             mount_anew("ro")
@@ -318,14 +319,14 @@ def a_file_system_that_takes_no_writes_is_no_vote(folder: str, programs: Program
             before = content_of(path)
             one.start(boothd, cluster.conf)
             told = one.printed().decode()
-            require("takes no writes, so this member votes for nobody" in told, f"no line tells of it: {told}")
+            need("takes no writes, so this member votes for nobody" in told, f"no line tells of it: {told}")
             three.kill()
             lost = wait_for(lambda: not two.record().holds(now()), times.expire + times.guard() + SLACK)
-            require(lost and content_of(path) == before, f"it votes: {one.printed()}")
+            need(lost and content_of(path) == before, f"it votes: {one.printed()}")
             mount_anew("rw")
             held = wait_for(lambda: is_granted(two), 3 * SLACK)
-            require(held and os.path.exists(os.path.join(one.records, "booth.clock")), f"no vote: {one.printed()}")
-            require(not cluster.watch.wrong, f"two held: {cluster.watch.wrong[:3]}")
+            need(held and os.path.exists(os.path.join(one.records, "booth.clock")), f"no vote: {one.printed()}")
+            need(not cluster.watch.wrong, f"two held: {cluster.watch.wrong[:3]}")
             one.kill()
     return "it answers, and the other site loses its lease without it"
 
@@ -348,10 +349,10 @@ def a_write_without_a_pause_has_three_syncs(folder: str, programs: Programs) -> 
         with contextlib.suppress(FileNotFoundError):
             os.remove(noted)
         done = run_keeps(programs, os.path.join(folder, f"of-{count}"), count, environ)
-        require(done.returncode == 0, f"{count} writes: {done.stderr}")
+        need(done.returncode == 0, f"{count} writes: {done.stderr}")
         counts.append(os.path.getsize(noted))
     each = (counts[1] - counts[0]) / WRITES
-    require(each == SYNCS_OF_A_WRITE, f"{each} syncs a write: {counts}")
+    need(each == SYNCS_OF_A_WRITE, f"{each} syncs a write: {counts}")
     return f"{counts[0]} syncs in {WRITES} writes in a new directory, {counts[1]} in {2 * WRITES}"
 
 
@@ -377,7 +378,7 @@ def a_write_after_a_pause_has_two_syncs(folder: str, programs: Programs) -> str:
             ("the next pause", host.of_wait(500), 0),
         )
     for name, found, wanted in steps:
-        require(found == wanted, f"{name}: {found} syncs, and not {wanted}")
+        need(found == wanted, f"{name}: {found} syncs, and not {wanted}")
     return f"{len(steps)} steps"
 
 
@@ -388,9 +389,9 @@ def many_tickets_are_prepared_one_by_one(folder: str, programs: Programs) -> str
         for ticket in 2 * tickets:
             host.of_keep(ticket)
         pauses = [host.of_wait(1000) for _ in range(TICKETS + 1)]
-        require(pauses == [1] * TICKETS + [0], f"syncs of pauses: {pauses}")
+        need(pauses == [1] * TICKETS + [0], f"syncs of pauses: {pauses}")
         keeps = [host.of_keep(ticket) for ticket in tickets]
-        require(keeps == [2] * TICKETS, f"syncs of keeps: {keeps}")
+        need(keeps == [2] * TICKETS, f"syncs of keeps: {keeps}")
     return f"{TICKETS} tickets"
 
 
@@ -428,17 +429,17 @@ def a_renewal_waits_for_two_syncs_of_each_member(folder: str, programs: Programs
             time.sleep(times.renewal / len(tickets))
         took = renewals_heard_at(addresses[2], 2 * times.renewal)
         told = one.printed().decode()
-    require(len(took) >= len(tickets), f"{len(took)} renewals: {told}")
+    need(len(took) >= len(tickets), f"{len(took)} renewals: {told}")
     syncs = min(took) / RENEWAL_SYNC
     # (with three syncs for each it would be nine; the clocks of the two programs differ by a millisecond or two)
-    require(5.5 < syncs < 7, f"the quickest of {len(took)} renewals took {syncs:.1f} syncs: {told}")
+    need(5.5 < syncs < 7, f"the quickest of {len(took)} renewals took {syncs:.1f} syncs: {told}")
     return f"{syncs:.2f} syncs in the quickest of {len(took)} renewals"
 
 
 def bytes_of_no_record_are_told(folder: str, programs: Programs) -> str:
     """At a start the daemon prints a line about bytes that no write leaves, and none about other files."""
     chance, path = random.Random(SEED), os.path.join(folder, "records", TICKET.hex() + ".rec")
-    require(run_keeps(programs, os.path.dirname(path), 0).returncode == 0, "a run in a new directory")
+    need(run_keeps(programs, os.path.dirname(path), 0).returncode == 0, "a run in a new directory")
     cut_short = bytes(136) + bytes(range(1, 73)) + bytes(8)
     files = {
         "400 random bytes": (bytes(2 + chance.randrange(254) for _ in range(400)), True),
@@ -454,7 +455,7 @@ def bytes_of_no_record_are_told(folder: str, programs: Programs) -> str:
         done = run_keeps(programs, os.path.dirname(path), 0)
         line = f"the file of ticket {TICKET.decode()} keeps no record, and has bytes that no write leaves\n"
         found = (done.returncode, done.stdout, line in done.stderr)
-        require(found == (0, "read 0\n", is_told), f"{name}: {found}: {done.stderr}")
+        need(found == (0, "read 0\n", is_told), f"{name}: {found}: {done.stderr}")
     return f"{len(files)} files"
 
 

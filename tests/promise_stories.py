@@ -9,9 +9,10 @@ import random
 import time
 
 import record_file
+from checks import need
 from members import TICKET, now, path_in, wait_for
 from records import slot
-from stories import NAME, PATIENCE, grants, is_held_by, passed, require, says, slack, story
+from stories import NAME, PATIENCE, grants, is_held_by, passed, says, slack, story
 
 # the tickets next to the one that is asked for again and again
 MANY = tuple(b"ticket-%02d" % number for number in range(24))
@@ -53,8 +54,8 @@ def holds_until(member, ended, seconds):
     """
     end = time.monotonic() + seconds
     while not ended():
-        require(not lost_by(member, [TICKET]), f"the lease ended: {member.record()} at {now()}")
-        require(time.monotonic() < end, f"not so after {seconds} s")
+        need(not lost_by(member, [TICKET]), f"the lease ended: {member.record()} at {now()}")
+        need(time.monotonic() < end, f"not so after {seconds} s")
         time.sleep(0.01)
 
 
@@ -65,8 +66,8 @@ def many_tickets_and_kills(cluster):
     cluster.remember()
     cluster.start()
     for ticket in MANY:
-        require(one.about("CGnt", ticket) in ("ok", "Asyn"), f"no grant of {ticket.decode()} is taken")
-    require(wait_for(lambda: not lost_by(one, MANY), PATIENCE), f"not held: {lost_by(one, MANY)}")
+        need(one.about("CGnt", ticket) in ("ok", "Asyn"), f"no grant of {ticket.decode()} is taken")
+    need(wait_for(lambda: not lost_by(one, MANY), PATIENCE), f"not held: {lost_by(one, MANY)}")
     first, terms = {ticket: one.record(ticket) for ticket in MANY}, set()
     chance, end, kills, granted = random.Random(SEED), now() + SECONDS_OF_KILLS, 0, 0
     while now() < end:
@@ -75,20 +76,20 @@ def many_tickets_and_kills(cluster):
         time.sleep(chance.uniform(0, LONGEST_VOTE))
         restart(cluster, victim)
         kills += 1
-        require(not lost_by(one, MANY), f"lost after {kills} kills: {lost_by(one, MANY)}")
+        need(not lost_by(one, MANY), f"lost after {kills} kills: {lost_by(one, MANY)}")
         twice = [ticket for ticket in MANY if not lost_by(voters[0], [ticket])]
-        require(not twice, f"held at two sites: {twice}")
+        need(not twice, f"held at two sites: {twice}")
         if asked in ("ok", "Asyn") and wait_for(lambda: not lost_by(one, [ASKED]), SECONDS_OF_A_GRANT):
             granted += 1
             term = one.record(ASKED).term
-            require(term not in terms, f"term {term} was gained twice")
+            need(term not in terms, f"term {term} was gained twice")
             terms.add(term)
-            require(one.about("CRvk", ASKED) == "ok", "it is not given back")
+            need(one.about("CRvk", ASKED) == "ok", "it is not given back")
     renewed = sum(one.record(ticket).until > record.until for ticket, record in first.items())
-    require(renewed == len(MANY), f"{renewed} of {len(MANY)} tickets were renewed")
-    require(all(one.record(ticket).term == record.term for ticket, record in first.items()), "a ticket was lost")
-    require(granted > kills / 2, f"of {kills} grants meanwhile {granted} were held")
-    passed(f"{kills} kills of a voter lose no lease of {len(MANY)}, and {granted} elections are won meanwhile")
+    need(renewed == len(MANY), f"{renewed} of {len(MANY)} tickets were renewed")
+    need(all(one.record(ticket).term == record.term for ticket, record in first.items()), "a ticket was lost")
+    need(granted > kills / 2, f"of {kills} grants meanwhile {granted} were held")
+    passed(f"{kills} kills of a voter cost none of {len(MANY)} leases, and {granted} elections are won meanwhile")
 
 
 @story
@@ -102,13 +103,13 @@ def a_restart_of_all(cluster):
         member.kill()
     cluster.start()
     took = now() - down
-    require(took < 1 + slack(), f"the restart took {took:.2f} s")
+    need(took < 1 + slack(), f"the restart took {took:.2f} s")
     up = now()
     holds_until(one, lambda: one.record().until > until, times.timeout + slack())
     renewed = now() - up
-    require(renewed < times.expire / 2 + slack(), f"renewed after {renewed:.2f} s")
-    require(wait_for(lambda: is_held_by(cluster, one), PATIENCE), "the others list another")
-    passed(f"all members start anew within {took:.2f} s, and the ticket is held on, and renewed {renewed:.2f} s later")
+    need(renewed < times.expire / 2 + slack(), f"renewed after {renewed:.2f} s")
+    need(wait_for(lambda: is_held_by(cluster, one), PATIENCE), "the others list another")
+    passed(f"all members restart within {took:.2f} s; the ticket stays held, and is renewed {renewed:.2f} s later")
     others_start_anew(cluster)
     all_start_anew_and_nobody_holds(cluster)
 
@@ -122,13 +123,13 @@ def others_start_anew(cluster):
     until = one.record().until
     for member in (two, arbitrator):
         restart(cluster, member)
-    require(two.about("CGnt") in ("ok", "Asyn", "Busy", "Over"), "a grant is not answered")
+    need(two.about("CGnt") in ("ok", "Asyn", "Busy", "Over"), "a grant is not answered")
     while now() < until:
-        require(two.record() is None or two.record().until is None, "another holds, before the lease's end")
+        need(two.record() is None or two.record().until is None, "another holds, before the lease's end")
         time.sleep(0.02)
-    require(wait_for(lambda: two.about("CGnt") == "ok", PATIENCE), "nobody is granted the ticket after the lease's end")
-    require(now() >= until and two.record().holds(now()), "the grant is not kept")
-    passed("where the holder stays away, those that start anew elect nobody until its lease is over, and another then")
+    need(wait_for(lambda: two.about("CGnt") == "ok", PATIENCE), "nobody is granted the ticket after the lease's end")
+    need(now() >= until and two.record().holds(now()), "the grant is not kept")
+    passed("if the holder stays away, restarted members elect nobody until its lease is over, and then another site")
 
 
 def all_start_anew_and_nobody_holds(cluster):
@@ -142,8 +143,8 @@ def all_start_anew_and_nobody_holds(cluster):
     # (the others promised the ticket to this site last, and vote for no other site until that promise ends)
     says(two, ("grant", "-w", NAME), 0, f"ticket {NAME} granted\n")
     took = now() - asked
-    require(took < cluster.times.expire / 2 + slack(), f"granted after {took:.2f} s")
-    passed(f"and where nobody holds, a grant after a restart of all is granted at once ({took:.2f} s)")
+    need(took < cluster.times.expire / 2 + slack(), f"granted after {took:.2f} s")
+    passed(f"if nobody holds the ticket, a grant after a restart of all members succeeds at once ({took:.2f} s)")
 
 
 def as_version_1(member, term, lease, ticket=TICKET):
@@ -173,13 +174,13 @@ def voter_comes_from_version_1(cluster, member, term):
     def answers():
         found, moment = record_in_force(member), now()
         is_of_2 = found is not None and found.version == 2
-        require(not is_of_2 or moment > earliest + abstention, f"{member.address} keeps {found} while it abstains")
+        need(not is_of_2 or moment > earliest + abstention, f"{member.address} keeps {found} while it abstains")
         return is_of_2
 
     holds_until(one, answers, abstention + 2 * cluster.times.renewal + PATIENCE)
     found = record_in_force(member)
-    require(found.promise and found.promise.until / 1000 > now(), f"it answers, and keeps {found}")
-    require(earliest - 0.01 <= found.abstain / 1000 - abstention <= started + 0.01, f"it keeps {found}")
+    need(found.promise and found.promise.until / 1000 > now(), f"it answers, and keeps {found}")
+    need(earliest - 0.01 <= found.abstain / 1000 - abstention <= started + 0.01, f"it keeps {found}")
 
 
 @story
@@ -193,7 +194,7 @@ def members_from_version_1(cluster):
     # (version 1 stored none of its votes)
     voter_comes_from_version_1(cluster, arbitrator, None)
     voter_comes_from_version_1(cluster, two, record_in_force(one).term)
-    passed("the arbitrator and a site come from version 1, abstain for one promise, and the holder renews all along")
+    passed("the arbitrator and a site come from version 1 and abstain for one promise; the holder renews meanwhile")
     for version in (1, 2):
         one.kill()
         kept, down = record_in_force(one), now()
@@ -204,12 +205,12 @@ def members_from_version_1(cluster):
         holds_until(one, later, times.timeout + slack())
         found = record_in_force(one)
         # (a member that starts has no round in its term, so it uses the next term)
-        require(found.term == kept.term + 1, f"{kept} became {found}")
-    passed(f"so does the holder, by the answers of the others, and its next start goes on ({now() - down:.2f} s)")
+        need(found.term == kept.term + 1, f"{kept} became {found}")
+    passed(f"the holder does so too, by the votes of the others, and its next start continues ({now() - down:.2f} s)")
     until = record_in_force(one).lease.until
     holds_until(one, lambda: record_in_force(one).lease.until > until, times.renewal + times.timeout + slack())
-    require(wait_for(lambda: is_held_by(cluster, one), PATIENCE), "the others list another")
-    passed("and the ticket is held on by all members of version 2")
+    need(wait_for(lambda: is_held_by(cluster, one), PATIENCE), "the others list another")
+    passed("the ticket stays held, with all members of version 2")
 
 
 @story
@@ -219,24 +220,24 @@ def a_full_disk_of_a_voter(cluster):
     one, _, arbitrator = cluster.members
     cluster.remember()
     cluster.start(0, 2)
-    require(one.about("CGnt") in ("ok", "Asyn"), "no grant is taken")
-    require(wait_for(lambda: not lost_by(one, [TICKET]), PATIENCE), "the granted ticket is not held")
+    need(one.about("CGnt") in ("ok", "Asyn"), "no grant is taken")
+    need(wait_for(lambda: not lost_by(one, [TICKET]), PATIENCE), "the granted ticket is not held")
     path, aside = arbitrator.record_path(), arbitrator.record_path() + ".aside"
     os.rename(path, aside)
     os.symlink(FULL, path)
     until, before = one.record().until, arbitrator.counts()[1][one.address]
-    require(wait_for(lambda: now() > until, times.expire + PATIENCE), "the lease has no end")
-    require(not one.record().holds(now()), "it was renewed by the answer of a member that kept nothing")
-    require(wait_for(lambda: one.shown() is None, PATIENCE), "a lease that is over is listed")
+    need(wait_for(lambda: now() > until, times.expire + PATIENCE), "the lease has no end")
+    need(not one.record().holds(now()), "it was renewed by the answer of a member that kept nothing")
+    need(wait_for(lambda: one.shown() is None, PATIENCE), "a lease that is over is listed")
     after = arbitrator.counts()[1][one.address]
-    require(after[0] > before[0] and after[1] == before[1], f"it heard and said {before}, and then {after}")
-    passed("an arbitrator that cannot keep its promise gives no vote: it counts what it heard, and says nothing")
+    need(after[0] > before[0] and after[1] == before[1], f"it heard and said {before}, and then {after}")
+    passed("an arbitrator that cannot write its promise gives no vote: it counts the message, and sends nothing")
     os.remove(path)
     os.rename(aside, path)
-    require(wait_for(lambda: one.about("CGnt") == "ok", PATIENCE), "it votes no more though there is room")
+    need(wait_for(lambda: one.about("CGnt") == "ok", PATIENCE), "it votes no more though there is room")
     said = arbitrator.printed().decode().splitlines()
     fails, again = f"boothd: cannot keep the record of ticket {NAME}: ", f"boothd: the record of ticket {NAME} is kept again"
-    require(len(said) == 2 and said[0].startswith(fails) and said[1] == again, f"it said {said}")
+    need(len(said) == 2 and said[0].startswith(fails) and said[1] == again, f"it said {said}")
     # (programs that still run at the end of a story must have printed nothing)
     restart(cluster, arbitrator)
-    passed("and says so, once; and once there is room again it votes, and says that too")
+    passed("it logs this once; when there is room again, it votes, and logs that too")

@@ -6,6 +6,7 @@ It is imported by the programs in tests/, and not run by itself.
 import subprocess
 from typing import IO, Dict, NamedTuple, Optional, Union
 
+from checks import Wrong, need
 from row_driver import Session
 
 TICKET = b"ticket-db8"
@@ -16,16 +17,6 @@ LOOPBACK, OTHER_LOOPBACK, THIRD_LOOPBACK, LOOPBACK_6 = "127.0.0.1", "127.0.0.2",
 
 # the ports to try, one after another
 PORTS = range(19_829, 20_129)
-
-
-class Wrong(Exception):
-    """The host did not do what it must."""
-
-
-def require(holds: bool, why: str) -> None:
-    """Raises `Wrong` if a condition does not hold."""
-    if not holds:
-        raise Wrong(why)
 
 
 class Peer(NamedTuple):
@@ -155,8 +146,8 @@ class Host:
 
 def carried(one: Host, other: Host, at: Peer, content: bytes) -> Peer:
     """Sends bytes from one host to another, which must receive them. Returns whom it received them from."""
-    require(one.send(at, content), "it is not sent")
+    need(one.send(at, content), "it is not sent")
     came = other.heard()
-    require(came.content == content, "other bytes came")
+    need(came.content == content, "other bytes came")
     return came.peer
 

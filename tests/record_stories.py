@@ -13,8 +13,9 @@ import time
 
 import frames
 import record_silence
+from checks import need
 from records import slot
-from status_runs import record, refuses, require, require_same, story
+from status_runs import record, refuses, require_same, story
 
 # 2026-11-27 12:00:00 UTC, which docs/RECORDS.md has as 1a21ce06e00, and the end of the promise there
 NOON, LATER = 0x1A21CE06E00, 0x1A21CE072B3
@@ -56,11 +57,11 @@ def shown(folder, content, *words, name=NAME):
     with open(path, "wb") as file:
         file.write(content)
     ran = record(path, *words)
-    require(not ran.said, ran.said)
+    need(not ran.said, ran.said)
     with open(path, "rb") as file:
-        require(file.read() == content, "the file was written")
+        need(file.read() == content, "the file was written")
     top, *lines = ran.printed.splitlines()
-    require(top == path, top)
+    need(top == path, top)
     start = next(place for place, line in enumerate(lines) if line.split()[:1] == ["SLOT"])
     fields = []
     for line in lines[:start]:
@@ -71,13 +72,13 @@ def shown(folder, content, *words, name=NAME):
             fields[-1].append(text)
     places = [lines[start].index(word) if word else 0 for word in HEAD] + [None]
     rows = [[line[one:two].strip() for one, two in zip(places, places[1:])] for line in lines[start:]]
-    require(rows[0] == HEAD, f"{rows[0]}")
+    need(rows[0] == HEAD, f"{rows[0]}")
     return ran.status, {label: texts for label, *texts in fields}, rows[1:]
 
 
 def ago(millis):
-    """Returns how long ago a moment was, in the largest unit of which two or more have passed: as it is now or a moment
-    later.
+    """Returns the texts that may say how long ago this time was: now, a second later, and two seconds later. Each is in
+    the largest unit of which two or more have passed.
     """
     seconds = int(time.time() - millis / 1000)
     unit, size = next(each for each in (("d", 86_400), ("h", 3600), ("min", 60), ("s", 1)) if seconds >= 2 * each[1])
@@ -90,7 +91,7 @@ def the_example_of_the_page(folder):
     status, fields, rows = shown(folder, bytes(128) + bytes.fromhex(EXAMPLE))
     for label, end in (("lease", NOON), ("promise", LATER)):
         over = [f"by this machine's clock it ended {span} ago" for span in ago(end)]
-        require(fields[label][1] in over, f"{fields[label]}")
+        need(fields[label][1] in over, f"{fields[label]}")
     promise = "until 2026-11-27 12:00:01.203 UTC"
     wanted = {
         "ticket": ["ticket-db8"],
@@ -133,7 +134,7 @@ def files_of_the_first_version(folder):
         require_same([row[1] for row in rows], ["00", "40"])
     status, fields, _ = shown(folder, first(1, 5, (4, soon)))
     spans = [f"by this machine's clock it runs for {span} more" for span in ("119 min", "2 h")]
-    require(fields["lease"][1] in spans, f"{fields}")
+    need(fields["lease"][1] in spans, f"{fields}")
     unknown = "unknown: the file's name is not HEX.rec, with the ticket's name in hexadecimal"
     for name in ("record", "74.txt", "zz.rec", ".rec", "20.rec"):
         require_same(shown(folder, slot(1, 1, 7), name=name)[1]["ticket"], [unknown], f"{name}: ")
@@ -154,22 +155,22 @@ def files_of_the_second_version(folder):
     old = (first(5, 2, (2, NOON)) + first(4, 2)).ljust(128, b"\0")
     status, fields, rows = shown(folder, old + whole)
     over = [f"by this machine's clock it ended {span} ago" for span in ago(1_600_000)]
-    require(fields.pop("lease") == ["of term 1, until 1970-01-01 00:26:40.000 UTC", over[0]], f"{fields}")
+    need(fields.pop("lease") == ["of term 1, until 1970-01-01 00:26:40.000 UTC", over[0]], f"{fields}")
     until = "until 1970-01-01 00:26:41.203 UTC"
     require_same(fields.pop("promise"), [f"to member {two:08x}, of term 1, {until}", over[0]])
     wanted = {"ticket": ["ticket-db8"], "in force": ["slot 80, number 6, version 2"], "term": ["1"]}
     wanted.update(bound=[f"to member {one:08x}"], abstains=["until 1970-01-01 00:10:01.203 UTC"])
-    require((status, fields) == (0, wanted), f"{status}, {fields}")
+    need((status, fields) == (0, wanted), f"{status}, {fields}")
     told = "term 1, lease until 1970-01-01 00:26:40.000 UTC, promise until 1970-01-01 00:26:41.203 UTC"
     require_same([row[:2] for row in rows], [["", "00"], ["", "40"], ["*", "80"]])
     require_same(rows[2][2:], ["2", "yes", "6", told])
     _, fields, _ = shown(folder, old + whole, "-c", conf)
-    require(fields["bound"] == [f"to {ONE}"] and fields["promise"][0].startswith(f"to {TWO}, of term 1,"), f"{fields}")
+    need(fields["bound"] == [f"to {ONE}"] and fields["promise"][0].startswith(f"to {TWO}, of term 1,"), f"{fields}")
     bare = bytes(128) + second(1, 3, commit=0) + second(2, 9)
     status, fields, rows = shown(folder, bare)
     wanted = {"ticket": ["ticket-db8"], "in force": ["slot 100, number 2, version 2"], "term": ["9"], "lease": ["none"]}
     wanted.update(bound=["to nobody"], promise=["none"], abstains=["no"])
-    require((status, fields) == (0, wanted), f"{status}, {fields}")
+    need((status, fields) == (0, wanted), f"{status}, {fields}")
     require_same([row[1] for row in rows], ["00", "40", "80", "100"])
     require_same(rows[2][5], "not valid")
     # (an older program wrote this file again: of the four numbers the greatest is in force, and of equal ones the
@@ -178,7 +179,7 @@ def files_of_the_second_version(folder):
     newest = bytes(128) + second(7, 1) + second(8, 1)
     for content, force in ((first(8, 1) + beside, "00"), (first(7, 1) + beside, "00"), (newest, "100")):
         _, fields, _ = shown(folder, content)
-        require(fields["in force"][0].startswith(f"slot {force}, "), f"{fields}")
+        need(fields["in force"][0].startswith(f"slot {force}, "), f"{fields}")
 
 
 @story
@@ -207,9 +208,9 @@ def torn_files(folder):
         nothing = f"nothing: slot {place} is torn, so the daemon refuses the file"
         require_same((status, fields), (1, {"ticket": ["ticket-db8"], "in force": [nothing]}), f"{content.hex()}: ")
         require_same([row[5] for row in rows if row[1] == place], [f"torn: {why}"])
-        require(not any(row[0] for row in rows), "a slot of a torn file is in force")
+        need(not any(row[0] for row in rows), "a slot of a torn file is in force")
     status, fields, _ = shown(folder, first(1, 1, version=3) + first(1, 1, version=3))
-    require(fields["in force"] == ["nothing: slots 00, 40 are torn, so the daemon refuses the file"], f"{fields}")
+    need(fields["in force"] == ["nothing: slots 00, 40 are torn, so the daemon refuses the file"], f"{fields}")
 
 
 @story
@@ -221,9 +222,9 @@ def several_files(folder):
             file.write(content)
     fifo = os.path.join(folder, "63.rec")
     os.mkfifo(fifo)
-    require(record(good, good).status == 0, "two good files")
+    need(record(good, good).status == 0, "two good files")
     ran = record(good, torn)
-    require(ran.status == 1 and ran.printed.count("in force") == 2 and not ran.said, str(ran))
+    need(ran.status == 1 and ran.printed.count("in force") == 2 and not ran.said, str(ran))
     ran = record(torn, none, fifo, good)
     said = [f"cannot read {none}: No such file or directory", f"cannot read {fifo}: it is no regular file"]
     said = "".join(f"booth-record: {line}\n" for line in said)
@@ -237,7 +238,7 @@ def several_files(folder):
         require_same((ran.status, ran.said, ran.printed), (2, said, ""))
         os.link(good, path)
         ran = record(os.fsdecode(path))
-        require(ran.status == 0 and ran.printed.startswith(f"{folder}/{printed}\n"), str(ran))
+        need(ran.status == 0 and ran.printed.startswith(f"{folder}/{printed}\n"), str(ran))
     refuses("booth-record", ["-c", none, good], f"cannot read {none}: No such file or directory", 2)
 
 
@@ -252,12 +253,12 @@ def silent_records(folder):
     path, next_steps = os.path.join(folder, "776562.rec"), "Before you start the daemon: end what runs"
     ran = silent(folder, 41)
     said = f"{path}: a silent record of web, term 41\n{next_steps}"
-    require(ran.status == 0 and not ran.said and said in ran.printed, str(ran))
+    need(ran.status == 0 and not ran.said and said in ran.printed, str(ran))
     with open(path, "rb") as file:
         require_same(file.read(), first(1, 41)[:48])
     require_same(stat.S_IMODE(os.stat(path).st_mode), 0o600)
     ran = silent(folder, 43)
-    require(ran.status == 0 and f"the file before it is {path}.1\n" in ran.printed, str(ran))
+    need(ran.status == 0 and f"the file before it is {path}.1\n" in ran.printed, str(ran))
     with open(f"{path}.1", "rb") as file:
         require_same(file.read(), first(1, 41)[:48])
     for term, why in (
@@ -298,7 +299,7 @@ def silence_is_refused(folder):
     os.symlink("/dev/null", os.path.join(folder, "776562.rec"))
     path = os.path.join(folder, "776562.rec")
     refuses("booth-record", ["silence", "7", "web", folder], f"cannot read {path}: it is no regular file", 2)
-    require(not [name for name in os.listdir(folder) if name.endswith((".1", ".new"))], "a file is left")
+    need(not [name for name in os.listdir(folder) if name.endswith((".1", ".new"))], "a file is left")
 
 
 @story
@@ -317,7 +318,7 @@ def terms_that_nobody_names(folder):
     begun = int(time.time())
     ran = silent(folder, None, "web", "-c", conf)
     said = "booth-record: cannot ask 192.0.2.1: " if shutil.which("booth") else "the program booth is not installed"
-    require(said in ran.said, str(ran))
+    need(said in ran.said, str(ran))
     if shutil.which("booth"):
         term = int(ran.printed.split("term ")[1].split("\n")[0])
-        require(begun <= term <= time.time(), f"the term is {term}")
+        need(begun <= term <= time.time(), f"the term is {term}")

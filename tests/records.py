@@ -21,6 +21,7 @@ import time
 TOP = os.path.dirname(os.path.dirname(os.path.abspath(__file__)))
 sys.path[:0] = [f"{TOP}/tests", f"{TOP}/tools"]
 
+from checks import Wrong, need
 from scratch import scratch
 from serving import end_by_signals
 
@@ -38,15 +39,6 @@ KILLS_OF_ONE_KEEP = 20
 # the limit for a run that ends by itself, in seconds
 SECONDS_OF_A_RUN = 60
 SEED = 9929
-
-
-class Wrong(Exception):
-    """The host did not do what it must."""
-
-
-def require(holds, why):
-    if not holds:
-        raise Wrong(why)
 
 
 def slot(number, version, term):
@@ -88,7 +80,7 @@ def longest_of_three(program, directory):
     took = []
     for number in range(4):
         started = time.monotonic()
-        require(run(program, directory, 1) == (number, [number + 1], 0), "a run of one keep")
+        need(run(program, directory, 1) == (number, [number + 1], 0), "a run of one keep")
         took.append(time.monotonic() - started)
     return max(took[1:])
 
@@ -104,17 +96,17 @@ def kills_leave_the_last_record_or_the_next(program, folder):
         done += 1
         if read is None:
             continue
-        require(read in (last, last + 1), f"term {read} was read after {last} was kept (kill {done})")
-        require(kept == list(range(read + 1, read + 1 + len(kept))), f"{kept} after {read}")
+        need(read in (last, last + 1), f"term {read} was read after {last} was kept (kill {done})")
+        need(kept == list(range(read + 1, read + 1 + len(kept))), f"{kept} after {read}")
         in_flight += read == last + 1
         keeps += len(kept)
         met += bool(kept)
         last = kept[-1] if kept else read
     read, _, status = run(program, directory, 0)
-    require(status == 0 and read in (last, last + 1), f"term {read} was read after {last} was kept")
+    need(status == 0 and read in (last, last + 1), f"term {read} was read after {last} was kept")
     told = f"{done} kills in {time.monotonic() - started:.0f} s, up to {longest * 1000:.0f} ms after a start: "
     told += f"{met} of them after a keep, {keeps} keeps, {in_flight} records in flight"
-    require(met * KILLS_OF_ONE_KEEP >= done, f"too few came after a keep: {told}")
+    need(met * KILLS_OF_ONE_KEEP >= done, f"too few came after a keep: {told}")
     return told
 
 
@@ -132,10 +124,10 @@ def a_record_that_cannot_be_kept_leaves_the_old_one(program, folder):
             signal.signal(signal.SIGXFSZ, signal.SIG_IGN)
             resource.setrlimit(resource.RLIMIT_FSIZE, (size, size))
 
-        require(run(program, directory, 1, preexec_fn=keep_it_short) == (7, [], 1), "a keep that fails")
-        require(run(program, directory, 0) == (7, [], 0), "the old record is read")
-        require(run(program, directory, 2) == (7, [8, 9], 0), "the next keep")
-        require(run(program, directory, 0) == (9, [], 0), "it is read")
+        need(run(program, directory, 1, preexec_fn=keep_it_short) == (7, [], 1), "a keep that fails")
+        need(run(program, directory, 0) == (7, [], 0), "the old record is read")
+        need(run(program, directory, 2) == (7, [8, 9], 0), "the next keep")
+        need(run(program, directory, 0) == (9, [], 0), "it is read")
     return "and the next keep goes on"
 
 
@@ -148,13 +140,13 @@ def a_file_of_version_1_is_read_and_its_slots_stay(program, folder):
     path, old = os.path.join(directory, FILE), slot(3, 1, 4) + slot(2, 1, 3)
     with open(path, "wb") as file:
         file.write(old)
-    require(run(program, directory, 2) == (4, [5, 6], 0), "two keeps over it")
+    need(run(program, directory, 2) == (4, [5, 6], 0), "two keeps over it")
     with open(path, "rb") as file:
         content = file.read()
-    require(content[:128] == old, "the slots of version 1 stay")
+    need(content[:128] == old, "the slots of version 1 stay")
     numbers = [int.from_bytes(content[at + 8 : at + 16], "big") for at in (128, 256) if content[at] == 1]
-    require(numbers == [4, 5], f"the numbers of version 2 are {numbers}")
-    require(run(program, directory, 0) == (6, [], 0), "the last one is read")
+    need(numbers == [4, 5], f"the numbers of version 2 are {numbers}")
+    need(run(program, directory, 0) == (6, [], 0), "the last one is read")
     return "and the next keeps go behind them"
 
 
@@ -182,16 +174,16 @@ def a_full_disk_keeps_nothing_until_there_is_room(program, folder):
         if place is None:
             return "not checked: this user may not mount a small tmpfs"
         directory, rest = os.path.join(place, "records"), os.path.join(place, "rest")
-        require(run(program, directory, 0) == (0, [], 0), "an empty directory")
+        need(run(program, directory, 0) == (0, [], 0), "an empty directory")
         with open(rest, "wb", buffering=0) as file:
             with contextlib.suppress(OSError):
                 while file.write(bytes(4096)):
                     pass
         for _ in range(2):
-            require(run(program, directory, 1) == (0, [], 1), "a keep on a full disk fails")
+            need(run(program, directory, 1) == (0, [], 1), "a keep on a full disk fails")
         os.remove(rest)
-        require(run(program, directory, 3) == (0, [1, 2, 3], 0), "the next keep")
-        require(run(program, directory, 0) == (3, [], 0), "it is read")
+        need(run(program, directory, 3) == (0, [1, 2, 3], 0), "the next keep")
+        need(run(program, directory, 0) == (3, [], 0), "it is read")
     return "and then keeps"
 
 
@@ -202,9 +194,9 @@ def a_torn_file_is_refused(program, folder):
     path, torn = os.path.join(directory, FILE), slot(2, 1, 7) + b"\1" + bytes(47)
     with open(path, "wb") as file:
         file.write(torn)
-    require(run(program, directory, 1) == (None, [], 1), "a run over it")
+    need(run(program, directory, 1) == (None, [], 1), "a run over it")
     with open(path, "rb") as file:
-        require(file.read() == torn, "its bytes stay")
+        need(file.read() == torn, "its bytes stay")
     return "its bytes stay"
 
 

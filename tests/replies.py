@@ -10,10 +10,11 @@ import signal
 import time
 
 import frames
+from checks import need
 from frames import AUTH, ATTR, MEMBERS_SAY, NO_ONE, Head, code, field, frame, member_id, numbers
 from frames import request_now, sealed
 from gate import BADMAC, FRAME, LEADER, LEADERS_ALONE, NOMAC, OLD, SELF, STRANGER, TICKET
-from room import KEY, MOST_UDP_BYTES, SECONDS_TO_END, Asker, check, require
+from room import KEY, MOST_UDP_BYTES, SECONDS_TO_END, Asker, check
 
 # (the quickest of three tries counts, since a busy machine may be late)
 SECONDS_OF_A_SIGNAL = 0.5
@@ -325,7 +326,7 @@ def flipped_bits(room):
             asker.meets(batch)
         counts = daemon.counts
         # (the daemon ignores the 8 bytes around the MAC, except the bit that changes the hash id to that of SHA-256)
-        require(counts.drops[BADMAC] > 400 and counts.accepted[SITE] == 63, f"{vars(counts)}")
+        need(counts.drops[BADMAC] > 400 and counts.accepted[SITE] == 63, f"{vars(counts)}")
 
 
 def random_datagrams(station, chance):
@@ -368,7 +369,7 @@ def random_frames(room):
             counts = daemon.counts
             due = range(8) if key else (FRAME, STRANGER, SELF, TICKET, LEADER)
             is_met = all(counts.drops[kind] for kind in due) and all(counts.accepted.values())
-            require(is_met, f"the test has not each kind: {vars(counts)}")
+            need(is_met, f"the test has not each kind: {vars(counts)}")
 
 
 @check
@@ -436,5 +437,5 @@ def sigterm(room):
             process.send_signal(signal.SIGTERM)
             status = process.wait(timeout=SECONDS_TO_END)
             took.append(time.monotonic() - sent)
-        require(status == -signal.SIGTERM, f"the status is {status}")
-    require(min(took) < SECONDS_OF_A_SIGNAL, f"it took {took} seconds")
+        need(status == -signal.SIGTERM, f"the status is {status}")
+    need(min(took) < SECONDS_OF_A_SIGNAL, f"it took {took} seconds")

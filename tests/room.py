@@ -14,6 +14,7 @@ import time
 
 import frames
 import gate
+from checks import Wrong, need
 from frames import Head, request_now
 from gate import Station
 from serving import NotServing, boothd, own_addresses
@@ -35,19 +36,10 @@ NAMES = 64
 checks = []
 
 
-class Wrong(Exception):
-    """The program acted differently from the protocol."""
-
-
 def check(function):
     """Adds a function to the list of checks. Its docstring is the sentence that it checks."""
     checks.append(function)
     return function
-
-
-def require(holds, why):
-    if not holds:
-        raise Wrong(why)
 
 
 def shown(datagram):
@@ -292,7 +284,7 @@ class Room:
         except NotServing as why:
             raise Wrong(why) from None
         said = server.said()
-        require(not said, f"a daemon that was to serve printed {said}")
+        need(not said, f"a daemon that was to serve printed {said}")
 
     def own_places(self, name):
         """Returns the options of a daemon with its own lock and directory."""
@@ -320,7 +312,7 @@ class Room:
         if said.startswith(NOT_HAD):
             due = rb"boothd: [^\n]+: [^\n]+\n" + due
         is_refused = status == 1 and not out and re.fullmatch(due, err)
-        require(is_refused, f"{what or words} gave {status}, {out} and {err}, and not {due}")
+        need(is_refused, f"{what or words} gave {status}, {out} and {err}, and not {due}")
 
 
 def begun_second():
@@ -363,7 +355,7 @@ class Asker:
         except socket.timeout:
             return None
         who = (self.station.address, self.station.port)
-        require(sender[:2] == who, f"a datagram came from {sender}")
+        need(sender[:2] == who, f"a datagram came from {sender}")
         return came
 
     def takes(self, letters, request, body=b"", result=0, what="a request"):
@@ -371,17 +363,17 @@ class Asker:
         function returns for the text that arrived. Returns the daemon's clock in it, in ms.
         """
         came = self.receive()
-        require(came is not None, f"{what} has no reply")
-        require(len(came) >= frames.HEAD_BYTES, f"{what} is answered by {shown(came)}")
+        need(came is not None, f"{what} has no reply")
+        need(len(came) >= frames.HEAD_BYTES, f"{what} is answered by {shown(came)}")
         clock = Head.read(came)
         if callable(body):
             end = len(came) - (frames.AUTH_BYTES if self.key else 0)
             body = body(came[frames.HEAD_BYTES : end])
         address = self.station.address
         due = frames.reply_due(letters, request, address, body, self.key, result, clock=clock)
-        require(came == due, f"{what} is answered by {shown(came)}, and not {shown(due)}")
+        need(came == due, f"{what} is answered by {shown(came)}, and not {shown(due)}")
         is_whole = clock.usecs < 1_000_000 and clock.usecs % 1000 == 0
-        require(is_whole, f"{what} is answered with usecs {clock.usecs}")
+        need(is_whole, f"{what} is answered with usecs {clock.usecs}")
         return clock.millis()
 
     def asks(self, letters, body=b"", what=None, request=None, **fields):
@@ -395,7 +387,7 @@ class Asker:
         after = time.time_ns() // 1_000_000
         # (the daemon's clock is the sum of the time since the boot and an offset, each in whole milliseconds)
         is_now = before - 1 <= clock <= after + 1
-        require(is_now, f"{what} is answered at {clock}, outside {before} to {after}")
+        need(is_now, f"{what} is answered at {clock}, outside {before} to {after}")
 
     def is_dropped(self, datagram, kind, what):
         """Checks that this datagram has no reply, and raises only this counter, by one."""
@@ -431,4 +423,4 @@ class Asker:
 
     def is_quiet(self):
         came = self.receive(seconds=0.05)
-        require(came is None, f"a datagram came unasked: {came}")
+        need(came is None, f"a datagram came unasked: {came}")

@@ -5,7 +5,8 @@ word of a text's name is its kind:
 
 `audits`: each row is one audit. It has the configuration, the parts of each journal, and the result. If the members
 have a key, ` with ` and the key follow the configuration. ` and ` separates journals, and a comma separates the parts
-of a journal; `nothing` is a journal without parts. ` with ` OTHERS ` for ` DIGITS after a part replaces digits in it.
+of a journal; `nothing` is a journal without parts. If ` with ` OTHERS ` for ` DIGITS follows a part, OTHERS replaces
+DIGITS in this part.
 
 `edits`: the second line has the configuration and the journals. Each line of each journal is changed in four ways: it
 is left out, doubled, swapped with the next one, or gets another last digit (one more if it is even, otherwise one

@@ -110,7 +110,7 @@ def frame_lines(datagram: bytes) -> List[str]:
 
 
 def made(row: Row, rows: List[Row]) -> bytes:
-    """Returns the frame that tools/frames.py makes of the fields in a file, for a row with these letters."""
+    """Returns the frame that tools/frames.py makes for `row` from the fields that `let` rows of the file define."""
     given = {name: value for let in rows if let.kind == "let" for name, value in [let.given.split(" ", 1)]}
     letters, _, auth = row.given.partition(" ")
     head = {name: int(given[name], 16) for name in "secs usecs sender request options reason result".split()}

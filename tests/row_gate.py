@@ -202,8 +202,8 @@ def said(row: Row, rows: List[Row]) -> List[Play]:
 
 
 def command_frame(rows: List[Row], letters: str, size: int) -> bytes:
-    """Returns the frame of a command, from a client or from the sender, that names ticket-db8, and names the sender as
-    its leader or `size` as its attribute. It has no authentication part.
+    """Returns the frame of a command, from a client or from the sender. The frame names ticket-db8. It names the sender
+    as the leader, or has an attribute of `size`. It has no authentication part.
     """
     frame = bytearray(edited(rows, "36 00000000, cut 48"))
     put(frame, 28, letters.encode())

@@ -27,6 +27,8 @@ A host has the good configuration of tests/run_hosts.py, and the empty files /k 
     record TICKET RECORD  a stored record, in the form of the calls
     fails CALL ..         the calls that fail before the first step, or `taken` for locks that others hold
     room COUNT            the number of calls that the host records
+    quiet                 no call of the host fails, whatever the lines say; a wait that fails brings nothing, and a
+                          file that is missing is empty
     hinder ticket NAME    the record of this ticket cannot be read; also `hinder peer MEMBER` and `hinder path PATH`
     MS nothing            a step: the clock's reading and the arrival. `send: ` before it makes a send fail
     MS failure            the wait fails

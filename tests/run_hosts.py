@@ -100,7 +100,7 @@ def host_lines(lines: List[str]) -> List[str]:
             files["/etc/booth.conf"] += bytes_of(rest)
         elif first == "fails":
             made += [f"fails {call}" for call in rest.split(" ")]
-        elif first in ("first", "room"):
+        elif first in ("first", "room", "quiet"):
             made.append(line)
         elif first == "record":
             ticket, _, text = rest.partition(" ")

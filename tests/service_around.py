@@ -8,8 +8,9 @@ import re
 import time
 from typing import List
 
+from checks import need
 from service_room import ENDS, KILL, PACKAGING, SLACK, TICKET, UNIT, Room, Story, same, since_boot
-from shells import need, read
+from shells import read
 
 stories: List[Story] = []
 

@@ -11,7 +11,8 @@ import subprocess
 import time
 from typing import Callable, Dict, List, NamedTuple, Optional
 
-from shells import need
+from checks import need
+
 
 TOP = os.path.dirname(os.path.dirname(os.path.abspath(__file__)))
 PACKAGING = f"{TOP}/packaging"

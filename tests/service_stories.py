@@ -14,13 +14,13 @@ from typing import Any, Dict, Iterator, List, Optional, Tuple
 
 import configuration
 import service_state
+from checks import need
 from look_stories import NONE_DROPPED, Three, all_of, well
 from service_room import ENDS, KILL, LEFT, Room
 from status_runs import (
     critical,
     document,
     metrics_of,
-    require,
     require_problems,
     require_same,
     run_apart,
@@ -119,13 +119,13 @@ def texts(told: Dict[str, Any]) -> List[str]:
 
 def says(told: Dict[str, Any], form: str) -> None:
     """Checks that the text of the worst problem has this form."""
-    require(re.fullmatch(form, texts(told)[0]), f"{texts(told)[0]!r}, and not {form!r}")
+    need(re.fullmatch(form, texts(told)[0]), f"{texts(told)[0]!r}, and not {form!r}")
 
 
 def table_of(three: Three) -> Tuple[List[List[str]], int]:
     """Returns the rows of the tickets in the table, and the status."""
     ran = status("-c", three.path)
-    require(not ran.said, ran.said)
+    need(not ran.said, ran.said)
     return tables_of(ran.printed)[2], ran.status
 
 
@@ -230,7 +230,7 @@ def services_for_programs(folder):
         without = document("-c", three.path)
         bare = metrics_of(status("-c", three.path, "-m", "-").printed)
     found = told["tickets"][0]["service"]
-    require(42 <= found.pop("seconds") <= 60 and 2 <= found.pop("seconds_to_kill") <= 20, str(found))
+    need(42 <= found.pop("seconds") <= 60 and 2 <= found.pop("seconds_to_kill") <= 20, str(found))
     wanted = {"shown": "paused", "follower": True, "why": None, "state": "running", "paused": True, "failed_starts": 2}
     require_same(found, {**wanted, "until": 1_790_000_000})
     require_same(told["tickets"][1]["service"], None)
@@ -240,8 +240,8 @@ def services_for_programs(folder):
     require_same(sample(samples, "booth_service_state", ticket="web", state="running"), 1)
     require_same(sample(samples, "booth_follower_up", ticket="web"), 1)
     require_same(sample(samples, "booth_ticket_problem", ticket="web", kind="paused"), 1)
-    require(42 <= sample(samples, "booth_service_state_seconds", ticket="web") <= 60, "since when")
-    require(2 <= sample(samples, "booth_service_kill_seconds", ticket="web") <= 20, "when it is killed")
+    need(42 <= sample(samples, "booth_service_state_seconds", ticket="web") <= 60, "since when")
+    need(2 <= sample(samples, "booth_service_kill_seconds", ticket="web") <= 20, "when it is killed")
     require_same((without["site"], without["tickets"][0]["service"]), (None, None))
     left = [name for name, _ in bare if re.match("booth_(service|follower|ticket_problem)", name)]
     require_same((left, one in str(told["site"])), ([], True))
@@ -268,7 +268,7 @@ def what_follow_service_writes(folder):
     found = shown()
     most = (LEFT - KILL) / 1000
     require_same((found["shown"], found["until"], found["state"]), ("running here", ENDS, "running"))
-    require(0 <= found["seconds_to_kill"] <= most and 0 <= found["seconds"] <= 30, str(found))
+    need(0 <= found["seconds_to_kill"] <= most and 0 <= found["seconds"] <= 30, str(found))
     require_same(room.call("booth-service", "pause", "web").status, 0)
     require_same(shown()["shown"], "paused")
     room.drop("run/web.paused")
@@ -341,7 +341,7 @@ def a_follower_without_systemd(folder):
                 machine.put(fault)
             began = time.monotonic()
             require_same(lives(), False, f"where it {fault}: ")
-            require(time.monotonic() - began < 4, "it waits for systemd")
+            need(time.monotonic() - began < 4, "it waits for systemd")
             with follower_of("web"):
                 require_same(lives(), True, f"with a process, where it {fault}: ")
             with follower_of("webs"):
@@ -349,7 +349,7 @@ def a_follower_without_systemd(folder):
             machine.drop("fails", "hangs")
     with machine.here(path=NOWHERE), well(three):
         ran = run_apart("booth-status", "-b", "-c", three.path, env={**os.environ})
-    require(ran.status in (0, 2) and not ran.said, str(ran))
+    need(ran.status in (0, 2) and not ran.said, str(ran))
 
 
 def of_web(told: Dict[str, Any]) -> str:
@@ -371,14 +371,14 @@ def when_a_takeover_comes(folder):
         samples = metrics_of(status("-c", three.path, "-t", 0.8, "-m", "-").printed)
     require_problems(told, warning("no-daemon", one), warning("silent-owner", one, ticket="web"))
     until = re.escape(f"web: its holder {one} does not answer: free at ") + r"(\d{4}-\d\d-\d\d )?" + when
-    require(re.fullmatch(f"{until}, {two} is next, unless it renews its lease", of_web(told)), of_web(told))
+    need(re.fullmatch(f"{until}, {two} is next, unless it renews its lease", of_web(told)), of_web(told))
     require_same(told["tickets"][0]["takeover"], {"free_at": free, "next": two, "due": False})
-    require(40 <= sample(samples, "booth_ticket_takeover_seconds", ticket="web") <= 81, "in how long")
+    need(40 <= sample(samples, "booth_ticket_takeover_seconds", ticket="web") <= 81, "in how long")
     # (a lease of 60 s that is renewed each 30 s, with tries 5 s apart, has more than 17 s left at any time)
     late = three.held(one, two, left=14)
     with all_of([three.fake(two, late), three.fake(third, late)]):
         told = document("-c", three.path, "-t", 0.8)
-    require(of_web(told).endswith(f", {two} is next"), of_web(told))
+    need(of_web(told).endswith(f", {two} is next"), of_web(told))
     with well(three, held=late):
         told = document("-c", three.path)
     require_problems(told, warning("unrenewed", one, ticket="web"))
@@ -386,7 +386,7 @@ def when_a_takeover_comes(folder):
     says(told, f"{late}: free at .*, {two} is next")
     with all_of([three.fake(third, held)]):
         told = document("-c", three.path, "-t", 0.8)
-    require("and no other site answers" in of_web(told), of_web(told))
+    need("and no other site answers" in of_web(told), of_web(told))
 
 
 @story

@@ -20,9 +20,9 @@ HERE = os.path.dirname(os.path.abspath(__file__))
 sys.path[:0] = [HERE, f"{HERE}/../tools"]
 
 import service_around
+from checks import Wrong, need
 from scratch import scratch
 from service_room import ENDS, KILL, LEFT, PACKAGING, SLACK, TICKET, UNIT, Room, Story, same, since_boot, stories, story
-from shells import Wrong, need
 
 TIMER = f"booth-end-{TICKET}-{ENDS}.timer"
 

@@ -20,9 +20,10 @@ TOP = os.path.dirname(HERE)
 sys.path[:0] = [HERE, f"{TOP}/tools"]
 
 import setup_bundle
+from checks import Wrong, need
 from scratch import scratch
 from serving import built_program
-from shells import Wrong, need, read
+from shells import read
 
 PROGRAM = f"{TOP}/packaging/booth-setup"
 ONE, TWO, THIRD = "192.0.2.10", "198.51.100.10", "203.0.113.10"
@@ -40,6 +41,7 @@ ticket = "db8"
   acquire-after = 30
   timeout       = 3
   retries       = 3
+  steady        = yes
 """
 # a stand-in for systemctl: it records each call, fails for what a file says, and answers about units by files
 SYSTEMCTL = """#!/bin/sh

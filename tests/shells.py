@@ -6,15 +6,6 @@ It is imported by the programs in tests/, and not run by itself.
 import subprocess
 
 
-class Wrong(Exception):
-    """A check failed; the text has the finding."""
-
-
-def need(holds, what):
-    if not holds:
-        raise Wrong(what)
-
-
 def read(path):
     with open(path, encoding="utf-8") as file:
         return file.read()

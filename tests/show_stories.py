@@ -7,8 +7,9 @@ import json
 import math
 
 import record_file
+from checks import need
 from members import now, wait_for
-from stories import NAME, PATIENCE, grants, is_held_by, passed, require, says, story
+from stories import NAME, PATIENCE, grants, is_held_by, passed, says, story
 
 ABSENT = {"ticket": NAME, "holder": None, "term": None, "seconds_left": None}
 
@@ -23,7 +24,7 @@ def kept_term(member):
 def shown_by(member):
     """Asks this member about the ticket. Returns the answer, which is a JSON object on one line."""
     ran = member.booth("show", "-j", "-t", NAME)
-    require(ran.status == 0 and ran.printed.count("\n") == 1 and not ran.said, f"booth show left {ran}")
+    need(ran.status == 0 and ran.printed.count("\n") == 1 and not ran.said, f"booth show left {ran}")
     return json.loads(ran.printed)
 
 
@@ -41,10 +42,10 @@ def shows(cluster, holder):
         before = shown_by(member)
         ran, most = member.booth("show", NAME), math.ceil(cluster.times.expire)
         lines = [line_of({**before, "seconds_left": seconds}) for seconds in range(1, most + 1)]
-        require(ran.status == 0 and ran.printed in lines, f"booth show left {ran}, and before {before}")
+        need(ran.status == 0 and ran.printed in lines, f"booth show left {ran}, and before {before}")
         wanted = {"ticket": NAME, "holder": holder.address, "term": term if member is holder else None}
         told = {name: value for name, value in before.items() if name != "seconds_left"}
-        require(told == wanted and 1 <= before["seconds_left"] <= most, f"{member.address} shows {before}")
+        need(told == wanted and 1 <= before["seconds_left"] <= most, f"{member.address} shows {before}")
     return term
 
 
@@ -55,20 +56,20 @@ def a_ticket_is_shown_with_its_term(cluster):
     cluster.remember()
     cluster.start()
     for member in cluster.members:
-        require(shown_by(member) == ABSENT, f"{member.address} shows {shown_by(member)}")
+        need(shown_by(member) == ABSENT, f"{member.address} shows {shown_by(member)}")
         says(member, ("status",), 0, "booth daemon is running\n")
     says(third, ("show", "no-such-ticket"), 1, "booth: invalid argument\n")
     passed("a ticket that nobody holds is shown without a holder, and each daemon is running")
     grants(cluster, 0)
-    require(wait_for(lambda: third.shown() == one.address, PATIENCE), "the arbitrator hears of no owner")
+    need(wait_for(lambda: third.shown() == one.address, PATIENCE), "the arbitrator hears of no owner")
     first = shows(cluster, one)
     passed(f"the holder shows the term of its lease, {first}, and the others show the holder")
     one.kill()
     ran = one.booth("status")
-    require((ran.status, ran.printed) == (7, "booth daemon is not running\n"), f"booth status left {ran}")
+    need((ran.status, ran.printed) == (7, "booth daemon is not running\n"), f"booth status left {ran}")
     began = now()
-    require(wait_for(lambda: is_held_by(cluster, two), cluster.times.expire + PATIENCE), "nobody took over")
-    require(wait_for(lambda: third.shown() == two.address, PATIENCE), "the arbitrator hears of no new owner")
+    need(wait_for(lambda: is_held_by(cluster, two), cluster.times.expire + PATIENCE), "nobody took over")
+    need(wait_for(lambda: third.shown() == two.address, PATIENCE), "the arbitrator hears of no new owner")
     second = shows(cluster, two)
-    require(second > first, f"the terms {first} and then {second}")
+    need(second > first, f"the terms {first} and then {second}")
     passed(f"the site that takes over after {now() - began:.1f} s shows a greater term, {second}")

@@ -8,7 +8,8 @@ import contextlib
 import os
 from typing import Dict, Optional
 
-from devices import LeftOut, built_library, require
+from checks import need
+from devices import LeftOut, built_library
 from real_host import plain
 from row_driver import Session
 
@@ -104,7 +105,7 @@ class CountedHost:
         say_sync_takes(self.told, seconds)
         before = self.count()
         answer = self.session.say(call)
-        require(answer == wanted, f"{call}: {answer}")
+        need(answer == wanted, f"{call}: {answer}")
         return self.count() - before
 
     def of_keep(self, ticket: bytes, seconds: float = 0) -> int:

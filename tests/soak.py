@@ -24,13 +24,14 @@ HERE = os.path.dirname(os.path.abspath(__file__))
 sys.path[:0] = [HERE, f"{HERE}/../tools"]
 
 import members
+from checks import need
 from cut_ways import cut
 from follow import begun
 from following import Services
 from members import Cluster, Times, now, wait_for
 from scratch import scratch
 from serving import built_program, end_by_signals, own_addresses
-from stories import PATIENCE, require
+from stories import PATIENCE
 
 TAKEOVERS, CLUSTERS, SEED = 200, 8, 1
 # the shortest times that a follower accepts: `renewal-freq`, 2 seconds and the margin are together `expire`
@@ -98,7 +99,7 @@ class Scene:
         """Stops the other members. Nobody can take over then, so they continue soon after the service's stop."""
         others = self.others(holder)
         with self.stands_still(*others):
-            require(self.services.await_down(holder, TIMES.expire + PATIENCE), "the service runs on")
+            need(self.services.await_down(holder, TIMES.expire + PATIENCE), "the service runs on")
             time.sleep(self.draw.uniform(0, TIMES.renewal))
         yield
 
@@ -144,25 +145,25 @@ class Scene:
     def ended_before(self, holder, until):
         """Returns how long before the lease's end the holder's service wrote last."""
         last = max(spell.last for spell in self.services.spells() if spell.site == holder.address)
-        require(last < until, f"the service at {holder.address} wrote {last - until:.3f} s after its lease's end")
+        need(last < until, f"the service at {holder.address} wrote {last - until:.3f} s after its lease's end")
         return until - last
 
     def next_takeover(self):
         """Draws a fault of the holder, and waits until a service runs again."""
         holder = wait_for(self.up, PATIENCE)
-        require(holder, "no service runs")
+        need(holder, "no service runs")
         time.sleep(self.draw.uniform(0, TIMES.renewal))
         name, trouble = self.trouble()
         service, mend = self.worsen(holder)
         failed = now()
         with trouble(holder):
-            require(self.services.await_down(holder, TIMES.expire + PATIENCE), "the service runs on")
+            need(self.services.await_down(holder, TIMES.expire + PATIENCE), "the service runs on")
             left = self.ended_before(holder, holder.record().until or now())
             up = wait_for(self.up, 4 * PATIENCE)
             took = now() - failed
-            require(up, f"no service starts: {name}, {service}")
+            need(up, f"no service starts: {name}, {service}")
         mend()
-        require(not self.services.overlaps(), f"two services overlapped: {self.services.overlaps()}")
+        need(not self.services.overlaps(), f"two services overlapped: {self.services.overlaps()}")
         return Takeover(name, service, took, left, up is not holder)
 
 
@@ -181,8 +182,8 @@ def soaked(place, count, seed, programs):
                 ending = "taken over" if each.moved else "held on"
                 shown = f"{ending}, {each.took:.1f} s; stopped {each.left:.2f} s before the end"
                 print(f"cluster {place}, {len(done)}: {each.trouble}, {each.service}: {shown}", flush=True)
-            require(not cluster.watch.wrong, f"two held at one moment: {cluster.watch.wrong[:3]}")
-            require(cluster.watch.is_looking(), "nobody looks at the records any more")
+            need(not cluster.watch.wrong, f"two held at one moment: {cluster.watch.wrong[:3]}")
+            need(cluster.watch.is_looking(), "nobody looks at the records any more")
     except Exception as why:  # (whatever it is, the other clusters go on)
         return done, f"cluster {place} after {len(done)} faults: {type(why).__name__}: {why}"
     return done, None

@@ -23,9 +23,10 @@ import look_stories
 import record_stories
 import service_stories
 import way_stories
+from checks import Wrong
 from scratch import scratch
 from serving import NotServing, built_program, end_by_signals
-from status_runs import Wrong, in_time, stories
+from status_runs import in_time, stories
 
 SECONDS_OF_A_STORY = 120
 

@@ -16,6 +16,7 @@ import sys
 import time
 from typing import NamedTuple
 
+from checks import Wrong, need
 from serving import NotServing
 
 TOP = os.path.dirname(os.path.dirname(os.path.abspath(__file__)))
@@ -29,17 +30,8 @@ SECONDS_BETWEEN_TRIES = 0.1
 stories = []
 
 
-class Wrong(Exception):
-    """A story failed; the text has the finding."""
-
-
-def require(holds, why):
-    if not holds:
-        raise Wrong(why)
-
-
 def require_same(found, wanted, what=""):
-    require(found == wanted, f"{what}{found}, and not {wanted}")
+    need(found == wanted, f"{what}{found}, and not {wanted}")
 
 
 def story(function):
@@ -93,7 +85,7 @@ def run_apart(name, *words, **more):
     command = [sys.executable, "-IS", f"{TOP}/packaging/{name}", *map(str, words)]
     more.update(stdin=subprocess.DEVNULL, stdout=subprocess.PIPE, stderr=subprocess.PIPE, universal_newlines=True)
     done = subprocess.run(command, timeout=SECONDS_OF_A_RUN, check=False, **more)
-    require("Traceback" not in done.stderr, done.stderr)
+    need("Traceback" not in done.stderr, done.stderr)
     return Ran(done.returncode, done.stdout, done.stderr, time.monotonic() - started)
 
 
@@ -116,7 +108,7 @@ def refuses(name, words, text, result):
 def document(*words):
     """Returns the JSON document of a look, which has the same status as its run."""
     ran = status("-j", *words)
-    require(ran.printed.count("\n") == 1 and not ran.said, f"--json printed {ran.printed}{ran.said}")
+    need(ran.printed.count("\n") == 1 and not ran.said, f"--json printed {ran.printed}{ran.said}")
     told = json.loads(ran.printed)
     require_same((told["version"], told["status"]), (1, ran.status), "version and status are ")
     return told
@@ -203,13 +195,13 @@ def metrics_of(text):
         if line.startswith("# HELP "):
             place = line.split(" ")[2]
         elif line.startswith("# TYPE "):
-            require(line.split(" ")[2] == place, f"the type of {line} has no help")
+            need(line.split(" ")[2] == place, f"the type of {line} has no help")
             known[place] = line.split(" ")[3]
         else:
             found = form.fullmatch(line)
-            require(found and found[1] == place and place in known, f"no sample of {place}: {line}")
+            need(found and found[1] == place and place in known, f"no sample of {place}: {line}")
             labels = frozenset(re.findall(r'([a-z_]+)="((?:[^"\\]|\\.)*)"', found[2] or ""))
-            require((place, labels) not in samples, f"twice: {line}")
+            need((place, labels) not in samples, f"twice: {line}")
             samples[place, labels] = float(found[3])
     return samples
 

@@ -9,6 +9,7 @@ import time
 
 import frames
 import record_file
+from checks import need
 from members import MANUAL, TICKET, Ran, now, wait_for
 
 # how late an event may be, in seconds: on an idle machine, and on a busy one
@@ -19,15 +20,6 @@ NAME = TICKET.decode()
 BY_HAND = MANUAL.decode()
 
 stories = []
-
-
-class Wrong(Exception):
-    """The cluster did not act as it must."""
-
-
-def require(holds, why):
-    if not holds:
-        raise Wrong(why)
 
 
 def story(function):
@@ -55,8 +47,8 @@ def grants(cluster, place, seconds=PATIENCE):
     """Has a client request a grant from this member, again if it is busy. Then the member must hold the ticket."""
     member = cluster.members[place]
     result = wait_for(lambda: (answer := member.about("CGnt")) != "Busy" and answer, seconds)
-    require(result in ("ok", "Asyn"), f"a grant is answered {result or 'Busy, or not at all'}")
-    require(wait_for(lambda: is_held_by(cluster, member), seconds), "the granted ticket is not held")
+    need(result in ("ok", "Asyn"), f"a grant is answered {result or 'Busy, or not at all'}")
+    need(wait_for(lambda: is_held_by(cluster, member), seconds), "the granted ticket is not held")
     return member.record()
 
 
@@ -73,14 +65,14 @@ def says(member, words, status, text):
     """Runs booth at this member, and checks its status and its text. Only one of the two streams may have text."""
     wanted = Ran(status, "", text) if status else Ran(status, text, "")
     ran = member.booth(*words)
-    require(left(ran, wanted), f"booth {' '.join(words)} at {member.address} left {ran}, and not {wanted}")
+    need(left(ran, wanted), f"booth {' '.join(words)} at {member.address} left {ran}, and not {wanted}")
 
 
 def keeps(member, words, status, text, ticket=TICKET):
     """Runs geostore at this member, and checks its status and its text."""
     wanted = Ran(status, "", text) if status else Ran(status, text, "")
     ran = member.geostore(*words, ticket=ticket)
-    require(left(ran, wanted), f"geostore {' '.join(words)} at {member.address} left {ran}, and not {wanted}")
+    need(left(ran, wanted), f"geostore {' '.join(words)} at {member.address} left {ran}, and not {wanted}")
 
 
 def date(moment):
@@ -99,7 +91,7 @@ def lists(cluster, owner):
             # (the lease may be renewed meanwhile, and a member that is not the holder counts whole seconds)
             moments = [end + more for end in (before, owner.record().until) for more in (-1, 0, 1)]
             wanted = {f"ticket: {NAME}, leader: {owner.address}, expires: {date(end)}\n" for end in moments}
-        require(ran.status == 0 and ran.printed in wanted and not ran.said, f"{member.address} lists {ran}")
+        need(ran.status == 0 and ran.printed in wanted and not ran.said, f"{member.address} lists {ran}")
 
 
 def lease_of(member):
@@ -119,7 +111,7 @@ def stands(cluster, owner):
         leases = [lease_of(owner)] if owner else []
         asked = now()
         answer = member.ask("CTkt", frames.ticket_body(TICKET, frames.NO_ONE, 0, 0))
-        require(answer and answer.result == "ok" and len(answer.body) == 76, f"{member.address} answers {answer}")
+        need(answer and answer.result == "ok" and len(answer.body) == 76, f"{member.address} answers {answer}")
         told = struct.unpack(">3I", answer.body[64:])
         # (the lease may be renewed meanwhile, and a member that is not the holder counts whole seconds)
         leases += [lease_of(owner)] if owner else []
@@ -130,7 +122,7 @@ def stands(cluster, owner):
             is_so = is_left and told[0] == frames.member_id(owner.address) and told[1] in terms
         else:
             is_so = told == (frames.NO_ONE, 0, 0)
-        require(is_so, f"{member.address} tells {told}, and the leases are {leases}")
+        need(is_so, f"{member.address} tells {told}, and the leases are {leases}")
     return leases[-1].term if leases else None
 
 
@@ -140,13 +132,13 @@ def counts_as(member):
     ran = member.booth("peers")
     first, *lines = ran.printed.splitlines()
     kinds = ("frame", "nomac", "badmac", "old", "stranger", "self", "ticket", "leader")
-    require(first == "dropped: " + ", ".join(f"{kind} {n}" for kind, n in zip(kinds, drops)), first)
+    need(first == "dropped: " + ", ".join(f"{kind} {n}" for kind, n in zip(kinds, drops)), first)
     for line, (address, (accepted, sent, errors)) in zip(lines, others.items()):
         role, other, *_ = line.split(" ")
-        require(other.rstrip(",") == address and role in ("site", "arbitrator"), line)
-        require(line.split(", last: ")[1].split(", received: ")[0] == "never" or accepted > 0, line)
-        require(line.endswith(f", errors: {errors}"), line)
-    require(len(lines) == len(others) and ran.status == 0 and not ran.said, f"booth peers left {ran}")
+        need(other.rstrip(",") == address and role in ("site", "arbitrator"), line)
+        need(line.split(", last: ")[1].split(", received: ")[0] == "never" or accepted > 0, line)
+        need(line.endswith(f", errors: {errors}"), line)
+    need(len(lines) == len(others) and ran.status == 0 and not ran.said, f"booth peers left {ran}")
 
 
 def abstains(cluster, started):

@@ -20,10 +20,10 @@ HERE = os.path.dirname(os.path.abspath(__file__))
 TOP = os.path.dirname(HERE)
 sys.path[:0] = [HERE, f"{TOP}/tools"]
 
+from checks import need
 from fake_members import FakeMember
 from scratch import scratch
 from serving import own_addresses
-from shells import need
 
 PORT = 20_000 + os.getpid() % 10_000
 ADDRESSES = own_addresses()

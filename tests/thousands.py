@@ -18,11 +18,12 @@ HERE = os.path.dirname(os.path.abspath(__file__))
 sys.path[:0] = [HERE, f"{HERE}/../tools"]
 
 import frames
+from checks import Wrong, need
 from following import Services
 from members import Cluster, Times, now, wait_for
 from scratch import scratch
 from serving import NotServing, built_program, end_by_signals, own_addresses
-from stories import PATIENCE, Wrong, passed, require
+from stories import PATIENCE, passed
 from tcp_links import Link
 
 TICKETS = 4_096
@@ -54,7 +55,7 @@ def parts_of_list(member):
         while not is_last:
             part = link.reply("CLst", number)
             head = frames.Head.read(part)
-            require(head.options == len(parts), f"part {len(parts)} has the number {head.options}")
+            need(head.options == len(parts), f"part {len(parts)} has the number {head.options}")
             parts.append([line.split(b" ")[0] for line in part[frames.HEAD_BYTES :].splitlines()])
             is_last = head.result == 0
     return parts
@@ -86,9 +87,9 @@ def lists_right(member, tickets, holder=None, held=()):
     if ran.said.startswith("booth: no reply\n"):
         # (members exchange thousands of datagrams just after a start, so one of the list's may be lost)
         return False
-    require((ran.status, ran.said) == (0, ""), f"booth list at {member.address}: {ran.status}, {ran.said!r}")
+    need((ran.status, ran.said) == (0, ""), f"booth list at {member.address}: {ran.status}, {ran.said!r}")
     lines = ran.printed.splitlines()
-    require(len(lines) == len(tickets), f"booth list at {member.address} prints {len(lines)} of {len(tickets)} lines")
+    need(len(lines) == len(tickets), f"booth list at {member.address} prints {len(lines)} of {len(tickets)} lines")
     # (a lease may be renewed meanwhile)
     pairs = ((line, ticket) for line, ticket in zip(lines, tickets) if line not in before[ticket])
     return all(line in line_of(ticket, holder if ticket in held else None) for line, ticket in pairs)
@@ -99,7 +100,7 @@ def all_list(cluster, tickets, holder=None, held=()):
     for member in cluster.members:
         if member.is_running():
             is_right = wait_for(lambda member=member: lists_right(member, tickets, holder, held), PATIENCE)
-            require(is_right, f"{member.address} does not list what is so")
+            need(is_right, f"{member.address} does not list what is so")
 
 
 def holds_all(member, tickets):
@@ -114,12 +115,12 @@ def grant_all(member, tickets):
     def is_done():
         for ticket in wanted:
             result = member.about("CGnt", ticket)
-            require(result in ("ok", "Asyn", "Busy"), f"the grant of {ticket.decode()} is answered {result}")
+            need(result in ("ok", "Asyn", "Busy"), f"the grant of {ticket.decode()} is answered {result}")
         wait_for(lambda: holds_all(member, wanted), 2)
         wanted[:] = [ticket for ticket in wanted if not holds_all(member, [ticket])]
         return not wanted
 
-    require(wait_for(is_done, 2 * PATIENCE), f"{len(wanted)} of {len(tickets)} tickets are not granted")
+    need(wait_for(is_done, 2 * PATIENCE), f"{len(wanted)} of {len(tickets)} tickets are not granted")
 
 
 def restarts(cluster, member):
@@ -133,7 +134,7 @@ def restarts(cluster, member):
 def check_memory(peaks):
     """Checks the greatest memory of each member. (A program that `rt try` builds needs more, for its own checks.)"""
     shown = ", ".join(f"{peak / 1e6:.1f}" for peak in peaks)
-    require(max(peaks) < MOST_MEMORY, f"{shown} MB of memory, and not below {MOST_MEMORY / 1e6:.0f}")
+    need(max(peaks) < MOST_MEMORY, f"{shown} MB of memory, and not below {MOST_MEMORY / 1e6:.0f}")
     passed(f"no member ever had more memory than {MOST_MEMORY / 1e6:.0f} MB ({shown} MB)")
 
 
@@ -144,8 +145,8 @@ def story(cluster, follower):
     passed(f"three members start with {len(tickets):,} tickets ({now() - begun:.1f} s)")
     all_list(cluster, tickets)
     parts = parts_of_list(one)
-    require([name for part in parts for name in part] == tickets, "the parts are not the list")
-    require(len(tickets) < 1_000 or len(parts) > 1, "the list has one part")
+    need([name for part in parts for name in part] == tickets, "the parts are not the list")
+    need(len(tickets) < 1_000 or len(parts) > 1, "the list has one part")
     passed(f"each member lists all of them, in the file's order, in {len(parts)} parts")
 
     held = some_of(parts)
@@ -157,24 +158,24 @@ def story(cluster, follower):
         all_list(cluster, tickets, one, held)
         passed(f"{len(held)} of them are granted, some of each part, and listed with their holder by all")
         is_up = services.await_up(one, PATIENCE)
-        require(is_up, f"the service of one in the last part does not start: {services.said()}")
+        need(is_up, f"the service of one in the last part does not start: {services.said()}")
         took = restarts(cluster, two)
         all_list(cluster, tickets, one, held)
-        require(holds_all(one, held), "a lease was lost")
+        need(holds_all(one, held), "a lease was lost")
         passed(f"a member that starts again lists them as before ({took:.1f} s to its first answer)")
 
         peaks = [peak_memory(one.server.process)]
         one.kill()
         ends = [one.record(ticket).until for ticket in held]
         is_taken = wait_for(lambda: holds_all(two, held), TIMES.expire + TIMES.guard() + 2 * PATIENCE)
-        require(is_taken, "not all are taken over")
+        need(is_taken, "not all are taken over")
         taken = [two.record(ticket).until - TIMES.expire for ticket in held]
         early = min(at - end for at, end in zip(taken, ends))
-        require(early > 0, f"a ticket was taken over {-early:.3f} s before its lease's end")
+        need(early > 0, f"a ticket was taken over {-early:.3f} s before its lease's end")
         all_list(cluster, tickets, two, held)
         passed(f"all are taken over after kill -9, the last one listed {now() - max(ends):.1f} s after its lease's end")
-        require(services.await_up(two, PATIENCE), "the service does not start at the other site")
-        require(not services.overlaps(), f"two services overlapped: {services.overlaps()}")
+        need(services.await_up(two, PATIENCE), "the service does not start at the other site")
+        need(not services.overlaps(), f"two services overlapped: {services.overlaps()}")
         passed("the service that follows a ticket of the last part runs at the other site, and never ran at both")
     check_memory(peaks + [peak_memory(member.server.process) for member in cluster.members[1:]])
 

@@ -16,21 +16,13 @@ TOP = os.path.dirname(os.path.dirname(os.path.abspath(__file__)))
 sys.path.insert(0, f"{TOP}/tools")
 
 import timeline
+from checks import Wrong, need
 
 PROGRAM = f"{TOP}/tools/timeline.py"
 SEED, DRAWN, MOMENTS = 9929, 300, 40
 # (a cluster of a month: this many renewals of this many tickets)
 TICKETS, RENEWALS, SECONDS = 64, 500, 20
 SVG = "{http://www.w3.org/2000/svg}"
-
-
-class Wrong(Exception):
-    """The tool did not act as it must."""
-
-
-def require(holds, why):
-    if not holds:
-        raise Wrong(why)
 
 
 def run(text, *words):
@@ -70,9 +62,9 @@ def red_is_where_two_sites_hold():
         for row in timeline.rows_of(holdings):
             for moment in range(MOMENTS):
                 sites = holders(holdings, row.ticket, moment)
-                require(covers(row.held, moment) == (row.site in sites), f"{row} at {moment}: {holdings}")
+                need(covers(row.held, moment) == (row.site in sites), f"{row} at {moment}: {holdings}")
                 both = row.site in sites and len(sites) > 1
-                require(covers(row.both, moment) == both, f"{row} at {moment}: {holdings}")
+                need(covers(row.both, moment) == both, f"{row} at {moment}: {holdings}")
                 red += both
     return f"{DRAWN} pictures, {red} moments in red"
 
@@ -84,10 +76,10 @@ def the_incident_is_the_picture_of_the_page():
     text = "".join(f"{found}\n" for found in re.findall(r"^ +(ticket .* until [0-9]+)$", incident, re.M))
     status, drawn, said = run(text)
     with open(f"{TOP}/docs/incident.svg", encoding="utf-8") as file:
-        require((status, drawn, said) == (0, file.read(), ""), f"status {status}, {said}: draw docs/incident.svg anew")
+        need((status, drawn, said) == (0, file.read(), ""), f"status {status}, {said}: draw docs/incident.svg anew")
     bars, texts = shapes(drawn)
-    require([kind for kind, *_ in bars] == ["held", "both", "held", "both"], f"the bars are {bars}")
-    require("16:35" in texts and "2026-11-25" in texts, f"the axis says {texts}")
+    need([kind for kind, *_ in bars] == ["held", "both", "held", "both"], f"the bars are {bars}")
+    need("16:35" in texts and "2026-11-25" in texts, f"the axis says {texts}")
     return texts[0]
 
 
@@ -108,13 +100,13 @@ def what_is_no_line_is_refused():
     for each in bad:
         status, drawn, said = run(good + each + "\n" + good)
         begins = f"timeline: standard input: line 2: not a holding: {each[:60]!r}"[:-1]
-        require((status, drawn) == (1, "") and said.startswith(begins), f"{each[:80]!r}: {status}, {said}")
-        require(said.count("\n") == 1 and len(said) < 200, f"it says {said[:300]}")
+        need((status, drawn) == (1, "") and said.startswith(begins), f"{each[:80]!r}: {status}, {said}")
+        need(said.count("\n") == 1 and len(said) < 200, f"it says {said[:300]}")
     status, drawn, said = run("", "/no/such/file")
     due = (1, "", "timeline: /no/such/file: No such file or directory\n")
-    require((status, drawn, said) == due, f"{status}, {said}")
+    need((status, drawn, said) == due, f"{status}, {said}")
     status, drawn, said = run("", "one", "two")
-    require(status == 1 and not drawn and "timeline.py [FILE]" in said, f"two files: {status}, {said}")
+    need(status == 1 and not drawn and "timeline.py [FILE]" in said, f"two files: {status}, {said}")
     return f"{len(bad)} lines"
 
 
@@ -123,8 +115,8 @@ def nothing_is_a_picture_too():
     for text, row in (("", None), (line("db8", "::1", 2000, 1000), "db8 at ::1")):
         status, drawn, said = run(text)
         bars, texts = shapes(drawn)
-        require((status, said, bars) == (0, "", []), f"status {status}, {said}, {bars}")
-        require(row is None or row in texts, f"the texts are {texts}")
+        need((status, said, bars) == (0, "", []), f"status {status}, {said}, {bars}")
+        need(row is None or row in texts, f"the texts are {texts}")
     return None
 
 
@@ -132,10 +124,10 @@ def silent_starts_are_left_out():
     """lines of silent starts change no picture, and a line that is nearly one is refused"""
     lease = line("db8", "::1", 1000, 2000)
     for place in ("c.journal: line 32: silent: db8, term 0", "/a: b: line 6: silent: a,b, term 4000000000"):
-        require(run(f"{lease}{place}\n") == run(lease), f"{place!r} changes the picture")
+        need(run(f"{lease}{place}\n") == run(lease), f"{place!r} changes the picture")
     for other in ("a: line 0x: silent: db8, term 0", "a: line 32: record", "line 2: silent: db8, term 0"):
         status, drawn, said = run(f"{lease}{other}\n")
-        require((status, drawn) == (1, "") and "line 2: " in said, f"{other!r}: status {status}, {said}")
+        need((status, drawn) == (1, "") and "line 2: " in said, f"{other!r}: status {status}, {said}")
     return None
 
 
@@ -155,16 +147,16 @@ def all_that_a_line_may_have_is_drawn():
     for kind, text in cases.items():
         status, drawn, said = run(text)
         bars, texts = shapes(drawn)
-        require((status, said) == (0, "") and bars, f"{kind}: {status}, {said}")
+        need((status, said) == (0, "") and bars, f"{kind}: {status}, {said}")
         within = all(0 <= left and 1 <= width and left + width <= timeline.WIDTH + 1 for _, left, width, _ in bars)
-        require(within and all(each for each in texts), f"{kind}: {bars}, {texts}")
+        need(within and all(each for each in texts), f"{kind}: {bars}, {texts}")
     _, drawn, _ = run(cases["a name"])
-    require(f"{name} at 10.0.0.1" in shapes(drawn)[1], "the name is another")
+    need(f"{name} at 10.0.0.1" in shapes(drawn)[1], "the name is another")
     _, drawn, _ = run(endless)
     bars, texts = shapes(drawn)
     red = [told for kind, _, _, told in bars if kind == "both"]
-    require(len(red) == 2 and all(told.endswith("without an end") for told in red), f"in red: {red}")
-    require(texts[0].endswith("without an end"), f"it says {texts[0]}")
+    need(len(red) == 2 and all(told.endswith("without an end") for told in red), f"in red: {red}")
+    need(texts[0].endswith("without an end"), f"it says {texts[0]}")
     return None
 
 
@@ -175,8 +167,8 @@ def axes_are_readable():
         axis = timeline.Axis(timeline.Span(first, first + length), 200)
         places = [axis.at(millis) for millis, _, _ in axis.marks()]
         apart = [after - before for before, after in zip(places, places[1:])]
-        require(1 <= len(places) <= 9 and all(each >= timeline.MARK_ROOM - 1 for each in apart), f"{length}: {places}")
-        require(len(places) > 1 or length < 2, f"{length} ms have the marks {places}")
+        need(1 <= len(places) <= 9 and all(each >= timeline.MARK_ROOM - 1 for each in apart), f"{length}: {places}")
+        need(len(places) > 1 or length < 2, f"{length} ms have the marks {places}")
     return None
 
 
@@ -189,7 +181,7 @@ def a_month_is_drawn_soon():
             text.append(line(f"t{ticket}", f"10.0.0.{1 + (number > RENEWALS // 2)}", start, start + 600_000))
     status, drawn, said = run("".join(text))
     bars, _ = shapes(drawn)
-    require((status, said, len(bars)) == (0, "", 4 * TICKETS), f"status {status}, {said}, {len(bars)} bars")
+    need((status, said, len(bars)) == (0, "", 4 * TICKETS), f"status {status}, {said}, {len(bars)} bars")
     return f"{len(text)} lines"
 
 

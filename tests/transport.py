@@ -23,6 +23,7 @@ HERE = os.path.dirname(os.path.abspath(__file__))
 sys.path[:0] = [HERE, f"{HERE}/../tools"]
 
 import frames
+from checks import Wrong, need
 from members import TICKET, Member, remember
 from scratch import scratch
 from serving import NotServing, built_program, end_by_signals, own_addresses
@@ -35,16 +36,6 @@ SLACK = 2.0
 LINE = "ticket-db8 192.0.2.10 4102444800\n"
 # the flood: its senders, its seconds, and the number of commands that are tried in it
 SENDERS, SECONDS_OF_FLOOD, TRIES = 3, 12, 20
-
-
-class Wrong(Exception):
-    """The client did not act as it must."""
-
-
-def require(holds: bool, why: str) -> None:
-    """Raises `Wrong` with this reason if a condition is false."""
-    if not holds:
-        raise Wrong(why)
 
 
 class Ran(NamedTuple):
@@ -173,10 +164,10 @@ def silent_member_is_asked_by_a_link(scene: Scene) -> str:
     """a request that no datagram answers is repeated over TCP a second later, once, with the same bytes"""
     with FakeMember(next(scene.addresses), datagrams=False, links=True) as member:
         ran = scene.run(member.address, "list")
-    require(ran.status == 0 and "ticket-db8" in ran.printed, f"{ran}")
-    require(len(member.datagrams) == 1 and member.frames == member.datagrams, "other requests came")
-    require(SECONDS_OF_SILENCE <= ran.seconds < SECONDS_OF_SILENCE + SLACK, f"it took {ran.seconds:.2f} s")
-    require(ran.said == "", f"it said {ran.said!r}")
+    need(ran.status == 0 and "ticket-db8" in ran.printed, f"{ran}")
+    need(len(member.datagrams) == 1 and member.frames == member.datagrams, "other requests came")
+    need(SECONDS_OF_SILENCE <= ran.seconds < SECONDS_OF_SILENCE + SLACK, f"it took {ran.seconds:.2f} s")
+    need(ran.said == "", f"it said {ran.said!r}")
     return f"{ran.seconds:.2f} s"
 
 
@@ -184,7 +175,7 @@ def answered_datagram_opens_no_link(scene: Scene) -> str:
     """a request that a datagram answers opens no link"""
     with FakeMember(next(scene.addresses), datagrams=True, links=True) as member:
         ran = scene.run(member.address, "list")
-    require(ran.status == 0 and not member.frames and len(member.datagrams) == 1, f"{ran}")
+    need(ran.status == 0 and not member.frames and len(member.datagrams) == 1, f"{ran}")
     return f"{ran.seconds * 1000:.0f} ms"
 
 
@@ -192,8 +183,8 @@ def udp_opens_no_link(scene: Scene) -> str:
     """BOOTH_TRANSPORT=udp opens no link, and a missing answer is reported"""
     with FakeMember(next(scene.addresses), datagrams=False, links=True) as member:
         ran = scene.run(member.address, "list", transport="udp")
-    require(ran.status != 0 and "no reply" in ran.said and not member.frames, f"{ran}")
-    require(SECONDS_OF_PATIENCE <= ran.seconds < SECONDS_OF_PATIENCE + SLACK, f"it took {ran.seconds:.2f} s")
+    need(ran.status != 0 and "no reply" in ran.said and not member.frames, f"{ran}")
+    need(SECONDS_OF_PATIENCE <= ran.seconds < SECONDS_OF_PATIENCE + SLACK, f"it took {ran.seconds:.2f} s")
     return f"{ran.seconds:.2f} s"
 
 
@@ -201,8 +192,8 @@ def tcp_sends_no_datagram(scene: Scene) -> str:
     """BOOTH_TRANSPORT=tcp sends no datagram"""
     with FakeMember(next(scene.addresses), datagrams=True, links=True) as member:
         ran = scene.run(member.address, "list", transport="tcp")
-    require(ran.status == 0 and len(member.frames) == 1 and not member.datagrams, f"{ran}")
-    require(ran.seconds < SECONDS_OF_SILENCE, f"it took {ran.seconds:.2f} s")
+    need(ran.status == 0 and len(member.frames) == 1 and not member.datagrams, f"{ran}")
+    need(ran.seconds < SECONDS_OF_SILENCE, f"it took {ran.seconds:.2f} s")
     return f"{ran.seconds * 1000:.0f} ms"
 
 
@@ -211,11 +202,11 @@ def options_win(scene: Scene) -> str:
     for words, named in ((("--tcp", "list"), "udp"), (("list", "--tcp"), None)):
         with FakeMember(next(scene.addresses), datagrams=True, links=True) as member:
             ran = scene.run(member.address, *words, transport=named)
-        require(ran.status == 0 and len(member.frames) == 1 and not member.datagrams, f"{words}: {ran}")
+        need(ran.status == 0 and len(member.frames) == 1 and not member.datagrams, f"{words}: {ran}")
     for words, named in ((("--udp", "list"), "tcp"), (("client", "list", "--udp"), None)):
         with FakeMember(next(scene.addresses), datagrams=True, links=True) as member:
             ran = scene.run(member.address, *words, transport=named)
-        require(ran.status == 0 and len(member.datagrams) == 1 and not member.frames, f"{words}: {ran}")
+        need(ran.status == 0 and len(member.datagrams) == 1 and not member.frames, f"{words}: {ran}")
     return "4 runs"
 
 
@@ -223,8 +214,8 @@ def refused_link_is_told(scene: Scene) -> str:
     """if a member refuses links, BOOTH_TRANSPORT=tcp asks it by a datagram, and prints the cause"""
     with FakeMember(next(scene.addresses), datagrams=True, links=False) as member:
         ran = scene.run(member.address, "list", transport="tcp")
-    require(ran.status == 0 and len(member.datagrams) == 1, f"{ran}")
-    require(member.address in ran.said and "Connection refused" in ran.said, f"it said {ran.said!r}")
+    need(ran.status == 0 and len(member.datagrams) == 1, f"{ran}")
+    need(member.address in ran.said and "Connection refused" in ran.said, f"it said {ran.said!r}")
     return ran.said.strip()
 
 
@@ -234,11 +225,11 @@ def silence_has_its_reason(scene: Scene) -> str:
     for links, reason in ((False, "refuses links over TCP too"), (True, "takes links over TCP, and does not answer")):
         with FakeMember(next(scene.addresses), datagrams=False, links=links, deaf=True) as member:
             ran = scene.run(member.address, "list")
-        require(ran.status != 0 and len(member.datagrams) == 1, f"{ran}")
-        require(SECONDS_OF_PATIENCE <= ran.seconds < SECONDS_OF_PATIENCE + SLACK, f"it took {ran.seconds:.2f} s")
+        need(ran.status != 0 and len(member.datagrams) == 1, f"{ran}")
+        need(SECONDS_OF_PATIENCE <= ran.seconds < SECONDS_OF_PATIENCE + SLACK, f"it took {ran.seconds:.2f} s")
         lines = ran.said.splitlines()
-        require(lines[0] == "booth: no reply" and len(lines) == 2, f"it said {ran.said!r}")
-        require(lines[1].startswith(f"booth: {member.address} {reason}"), f"it said {ran.said!r}")
+        need(lines[0] == "booth: no reply" and len(lines) == 2, f"it said {ran.said!r}")
+        need(lines[1].startswith(f"booth: {member.address} {reason}"), f"it said {ran.said!r}")
         told.append(lines[1])
     return "; ".join(told)
 
@@ -247,8 +238,8 @@ def unknown_transport_is_refused(scene: Scene) -> str:
     """an unknown transport is refused, and no member is asked"""
     with FakeMember(next(scene.addresses), datagrams=True, links=True) as member:
         ran = scene.run(member.address, "list", transport="sctp")
-    require(ran.status == 1 and not member.datagrams and not member.frames, f"{ran}")
-    require("BOOTH_TRANSPORT" in ran.said, f"it said {ran.said!r}")
+    need(ran.status == 1 and not member.datagrams and not member.frames, f"{ran}")
+    need("BOOTH_TRANSPORT" in ran.said, f"it said {ran.said!r}")
     return ran.said.strip()
 
 
@@ -273,7 +264,7 @@ def real_daemon_answers_alike(scene: Scene) -> str:
     finally:
         member.kill()
     for one, other in zip(told["udp"], told["tcp"]):
-        require(one.status == other.status == 0 and one.said == other.said, f"{one} and {other}")
+        need(one.status == other.status == 0 and one.said == other.said, f"{one} and {other}")
     return ", ".join(f"{ran.seconds * 1000:.0f} ms" for ran in told["tcp"])
 
 
@@ -311,9 +302,9 @@ def flooded_daemon_is_heard(scene: Scene) -> str:
             os.waitpid(child, 0)
         member.kill()
     answered = [ran for ran in runs if ran.status == 0 and "ticket-db8" in ran.printed]
-    require(len(answered) == TRIES, f"{len(answered)} of {TRIES} were answered: {[ran.said for ran in runs]}")
+    need(len(answered) == TRIES, f"{len(answered)} of {TRIES} were answered: {[ran.said for ran in runs]}")
     longest = max(ran.seconds for ran in runs)
-    require(longest < 3, f"one took {longest:.2f} s")
+    need(longest < 3, f"one took {longest:.2f} s")
     return f"{TRIES} of {TRIES}, the longest in {longest:.2f} s"
 
 

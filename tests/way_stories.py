@@ -11,6 +11,7 @@ import subprocess
 import sys
 import threading
 
+from checks import need
 from look_stories import KEY, Three, all_of, date, well
 from records import slot
 from status_runs import (
@@ -19,7 +20,6 @@ from status_runs import (
     first_text,
     notice,
     refuses,
-    require,
     require_problems,
     require_same,
     status,
@@ -53,7 +53,7 @@ def ways_that_carry_nothing(folder):
     require_problems(told, warning("one-way", one, third))
     text = first_text(told)
     deaf = f"{one}: receives nothing from {third} \\(for 9\\d s\\), which heard from it \\d s ago"
-    require(re.fullmatch(deaf, text), text)
+    need(re.fullmatch(deaf, text), text)
     told = looked((2, 7, 8, 0), (2, 7, 8, 0), of_one=(90, 5, 6, 0), heard=(80, 5, 6, 0))
     require_problems(told, warning("no-way", one, third))
     require_problems(looked((2, 7, 8, 0), (2, 7, 8, 0), of_one=(40, 5, 6, 0), heard=(40, 5, 6, 0)))
@@ -88,18 +88,18 @@ def counters_that_rose(folder):
     require_problems(looked(of_two, third_lines))
     told = looked(three.peers(two, dropped, third=(2, 10, 15, 5)), third_lines)
     require_problems(told, warning("one-way", third, two))
-    require("(3 messages since the last look)" in told["summary"], told["summary"])
+    need("(3 messages since the last look)" in told["summary"], told["summary"])
     # (counters fell, so the daemon was restarted: they count from 0)
     of_two = three.peers(two, "dropped 0 0 1 0 0 0 0 0", one=(2, 1, 1, 0), third=(2, 1, 1, 0))
     told = looked(of_two, three.peers(third, two=(2, 12, 11, 0)))
     require_problems(told, warning("dropped", two), notice("restarted", two))
-    require(f"{two}: dropped datagrams since the last look: badmac 1" in told["summary"], told["summary"])
+    need(f"{two}: dropped datagrams since the last look: badmac 1" in told["summary"], told["summary"])
     text = next(each["text"] for each in told["problems"] if each["kind"] == "restarted")
     form = f"{two}: restarted since the last look; without records of version 2 it votes in no election until"
     found = re.fullmatch(f"{form} (.*)", text)
     # (a promise lasts expire, acquire-after and a guard; db has no times of its own: 600 s and 1.203 s)
     ends = [date(told["time"] + 601.203 + more) for more in (-1, 0, 1)]
-    require(found and found[1] in ends, f"{text}, and not until {ends[1]}")
+    need(found and found[1] in ends, f"{text}, and not until {ends[1]}")
 
 
 @story
@@ -108,7 +108,7 @@ def a_state_is_its_own(folder):
     three, other = Three(folder), Three(folder)
     state = os.path.join(folder, "own-state")
     with well(three):
-        require(status("-b", "-c", three.path, "-s", state).status == 0, "a first look")
+        need(status("-b", "-c", three.path, "-s", state).status == 0, "a first look")
     words = ["-b", "-c", other.path, "-s", state]
     why = f"{state}: is the state of {three.path}: use another file for this configuration"
     refuses("booth-status", words, why, 3)
@@ -120,7 +120,7 @@ def a_state_is_its_own(folder):
         why = f"{state}: is not a state of booth-status: name another file, or remove it"
         refuses("booth-status", ["-c", three.path, "-s", state], why, 3)
         with open(state, encoding="ascii") as file:
-            require(file.read() == text, "it was written over")
+            need(file.read() == text, "it was written over")
     nowhere = os.path.join(folder, "none", "state")
     why = f"cannot write {nowhere}: No such file or directory"
     with well(three):
@@ -142,7 +142,7 @@ def clocks_with_a_key(folder):
         texts = [each["text"] for each in told["problems"] if each["kind"] == "clock"]
         require_same(len(texts), 1 if key else 0)
         form = f"{third}: its clock is (29|30|31) s behind the clock of {two}, more than maxtimeskew"
-        require(all(re.fullmatch(form, text) for text in texts), f"{texts}")
+        need(all(re.fullmatch(form, text) for text in texts), f"{texts}")
 
 
 @story
@@ -162,7 +162,7 @@ def what_is_so_for_a_moment(folder):
         with all_of([three.fake(one), moving, three.fake(third)]):
             told = document("-c", three.path)
         require_problems(told)
-        require(moving.asked == 4, f"it was asked {moving.asked} times")
+        need(moving.asked == 4, f"it was asked {moving.asked} times")
 
 
 @story
@@ -189,7 +189,7 @@ def a_watch_looks_again(folder):
             bound.cancel()
     require_problems(looks[0])
     require_problems(looks[1], warning("dropped", two))
-    require(process.returncode in (1, 3) and not said, f"status {process.returncode}, {said}")
+    need(process.returncode in (1, 3) and not said, f"status {process.returncode}, {said}")
 
 
 @story
