@@ -1,6 +1,6 @@
 //! The gate and the seal, and their MACs.
 use crate::told::{fault, spelled};
-use booth_auth::{gate, seal};
+use booth_auth::{ring_gate, ring_seal};
 use booth_base::MemberId;
 use booth_conf::Config;
 use booth_keys::{Hash, Key, Ring, hmac, hmac256};
@@ -62,7 +62,7 @@ fn put_sealed(
     };
     match Frame::new(words.alloc()) {
         Ok(mut into) => {
-            seal(&message, ring, now, &mut into);
+            ring_seal(&message, ring, now, &mut into);
             spelled(answer, "sealed", into.bytes());
         }
         Err(_) => answer.tear(),
@@ -118,7 +118,7 @@ impl Gate {
         let Some(config) = &self.config else {
             return answer.word("unconfigured");
         };
-        match gate(config, ring, me, now, frame) {
+        match ring_gate(config, ring, me, now, frame) {
             Ok(_) => {
                 answer.word("admitted");
                 answer.end();

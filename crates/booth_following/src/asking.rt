@@ -66,7 +66,7 @@ pub(crate) fn put_request(f: &Following, start: u64, frame: &mut Frame)
     ensures { frame.new ≡ request_bytes f.now start }
 {
     let message = ticket_request(&f.ticket, start);
-    booth_auth::seal(&message, f.ring.as_ref(), start, frame);
+    booth_auth::ring_seal(&message, f.ring.as_ref(), start, frame);
 }
 
 /// Writes the request for a list in the same way.
@@ -74,5 +74,5 @@ pub(crate) fn put_list_request(f: &Following, start: u64, frame: &mut Frame)
     ensures { frame.new ≡ list_bytes f.now start }
 {
     let message = list_request(start);
-    booth_auth::seal(&message, f.ring.as_ref(), start, frame);
+    booth_auth::ring_seal(&message, f.ring.as_ref(), start, frame);
 }

@@ -227,7 +227,7 @@ fn send_for<H: Host>(
     match sent_for(moving, deed) {
         Some(sending) => {
             let message = message_of(moving, sending.what, sending.number);
-            booth_auth::seal(&message, moving.ring.as_ref(), start, &mut room.frame);
+            booth_auth::ring_seal(&message, moving.ring.as_ref(), start, &mut room.frame);
             host.send(&sending.to, room.frame.bytes())
         }
         None => Ok(()),

@@ -3,6 +3,7 @@ use crate::hindered::{Hindered, Hindrances};
 use booth_daemon::{Outcome, boothd};
 use booth_followers::booth_follow;
 use booth_following::Setting;
+use booth_host::Host;
 use booth_host_rows::{Given, put_past};
 use booth_rows::{Answer, Player, Words};
 use booth_tools::{booth, geostore};
@@ -10,10 +11,12 @@ use std::alloc::{AllocError, Global};
 use std::mem;
 
 /// Plays `run PROGRAM COUNT WORD ..` over the host that the lines before it make. COUNT is the number of the words.
+/// After a line `quiet` no call of that host fails.
 #[derive(Drop)]
 pub(crate) struct Runs {
     given: Given,
     hindrances: Hindrances,
+    is_quiet: bool,
 }
 
 // Reads the words of a command line.
@@ -28,7 +31,7 @@ fn words_of(words: &mut Words<'_>) -> Vec<String> {
 }
 
 // Runs the program of this name. Returns how it ended, if there is such a program.
-fn run(alloc: Global, program: &str, words: &[String], host: &mut Hindered) -> Option<Outcome> {
+fn run<H: Host>(alloc: Global, program: &str, words: &[String], host: &mut H) -> Option<Outcome> {
     match program {
         "boothd" => Some(boothd(alloc, words, host)),
         "booth" => Some(booth(alloc, words, host)),
@@ -36,6 +39,17 @@ fn run(alloc: Global, program: &str, words: &[String], host: &mut Hindered) -> O
         "booth-follow" => Some(booth_follow(alloc, words, &mut Setting::bare(), host)),
         _ => None,
     }
+}
+
+// Runs the program of a line over this host. Returns how it ended, if there is such a program.
+fn run_line<H: Host>(words: &mut Words<'_>, host: &mut H) -> Option<Outcome> {
+    let program = words.word();
+    let given = words_of(words);
+    let ended = run(words.alloc(), program, &given, host);
+    if ended.is_none() {
+        words.refuse();
+    }
+    ended
 }
 
 // Appends the calls of a run. If the host does not record its calls, appends how many turns the run made and how many
@@ -65,6 +79,7 @@ impl Runs {
         Runs {
             given: Given::new(alloc),
             hindrances: Hindrances::none(),
+            is_quiet: false,
         }
     }
 
@@ -80,18 +95,34 @@ impl Runs {
     }
 
     // Runs a program over the host that was made.
-    fn run(&mut self, words: &mut Words<'_>, answer: &mut Answer) {
+    fn run_memory(&mut self, words: &mut Words<'_>, answer: &mut Answer) {
         let Ok(mut host) = self.host(words.alloc()) else {
             return words.tear();
         };
-        let program = words.word();
-        let given = words_of(words);
-        match run(words.alloc(), program, &given, &mut host) {
-            Some(outcome) => {
-                put_calls(answer, &host);
-                put_end(answer, outcome);
-            }
-            None => words.refuse(),
+        if let Some(outcome) = run_line(words, &mut host) {
+            put_calls(answer, &host);
+            put_end(answer, outcome);
+        }
+    }
+
+    // Does the same over the quiet host that was made.
+    fn run_quiet(&mut self, words: &mut Words<'_>, answer: &mut Answer) {
+        let given = mem::replace(&mut self.given, Given::new(words.alloc()));
+        let Ok(mut host) = given.into_quiet(words.alloc()) else {
+            return words.tear();
+        };
+        if let Some(outcome) = run_line(words, &mut host) {
+            put_past(answer, host.past());
+            put_end(answer, outcome);
+        }
+    }
+
+    // Runs a program.
+    fn run(&mut self, words: &mut Words<'_>, answer: &mut Answer) {
+        if mem::replace(&mut self.is_quiet, false) {
+            self.run_quiet(words, answer);
+        } else {
+            self.run_memory(words, answer);
         }
     }
 }
@@ -101,6 +132,7 @@ impl Player for Runs {
         match words.word() {
             "run" => self.run(words, answer),
             "hinder" => self.hindrances.take(words),
+            "quiet" => self.is_quiet = true,
             what => self.given.take(what, words),
         }
     }

@@ -84,5 +84,5 @@ pub(crate) fn put_request(asking: &Asking, start: u64, frame: &mut Frame)
     ensures { frame.new ≡ request_bytes asking.now start }
 {
     let message = message_of(&asking.order, start);
-    booth_auth::seal(&message, asking.ring.as_ref(), start, frame);
+    booth_auth::ring_seal(&message, asking.ring.as_ref(), start, frame);
 }
