@@ -181,7 +181,8 @@ def request_now(letters, request, body=b"", key=None, **fields):
 
 
 def reply_due(letters, request, address, body=b"", key=None, result=0, *, clock, options=0):
-    """Returns the answer of the member at this address to a request of this command, with the clock of another head.
+    """Returns the answer of the member at this address to a request. `letters` is the request's command; `clock` is a
+    head whose time the answer gets.
 
     `options` is the number of a list's part.
     """

@@ -22,7 +22,7 @@ from wording import date, several, span
 # in seconds: how far apart two members' ends of one lease may be, by the rounding and the time on the network
 SAME_END = 3
 
-# how many problems the one line has, the worst first
+# the greatest number of problems in the line of `-b`, which has the worst problems first
 MOST_IN_A_LINE = 8
 # the kinds of problems that may be brief: they are shown only if a second look finds them too
 FLEETING = {"two-owners", "differ", "ends-differ", "free", "unrenewed", "one-way", "no-way"}

@@ -21,8 +21,8 @@ JUST = 1.0
 class Told(NamedTuple):
     """The last end of a lease, and a lower bound of how far the wall clock that set it is ahead of this boot's time.
 
-    When an end is set, it is at most `Times.longest` ahead of that wall clock. The bound is best at the first reading
-    of an end. A lease that was closed afterwards keeps both values.
+    When an end is set, it is at most `Times.longest` ahead of that wall clock. The bound is tightest when the end is
+    read for the first time. A lease that was closed afterwards keeps both values.
     """
 
     end: str

@@ -2,8 +2,8 @@
 
 It is imported by booth-record and the tests, and not run by itself. A silent record is of version 1 and has no lease.
 So the daemon that reads it knows of no promise, and votes for nobody until any promise that it may have made is over.
-The record's term must be no smaller than each term that the member used before. Otherwise a late message of such a term
-would count again.
+The record's term must be at least as great as every term that the member has used. Otherwise a late message of a
+term that it used would count again.
 """
 
 import contextlib
@@ -157,7 +157,7 @@ def locked(directory: str) -> Iterator[int]:
 
 
 def free_name(folder: int, name: str) -> str:
-    """Returns the name with a number after it that no file has yet. The daemon reads no such file."""
+    """Returns the name followed by a number, for which no file exists. The daemon does not read such a file."""
     for number in range(1, KEPT_NAMES):
         kept = f"{name}.{number}"
         if not exists(folder, kept):
